@@ -109,9 +109,9 @@ AtControlSocket met input out out' result =
 
 -- rows at the control socket at a path: the input could not be read to its end, and nothing is sent; or the lines of its rows are sent there
 abbrev pub RowsAtControlSocket
-    : Type 0 → Option (List ℕ) → Option (List ℕ) → Option (List ℕ) → Option (List ℕ)
+    : Type 0 → Type 0 → Option (List ℕ) → Option (List ℕ) → Option (List ℕ) → Option (List ℕ)
     → Result (Unit {0}) Failure → Type 0
-RowsAtControlSocket met input input' out out' result =
-    ((why : Fault) × (result ≡ Err (failure.Fault why)) × ListingEnds input input' (Err why) × (out' ≡ out))
-    ⊎ ((lines : List ℕ) × ListingEnds input input' (Ok lines)
+RowsAtControlSocket met input_failed input input' out out' result =
+    ((why : Fault) × (result ≡ Err (failure.Fault why)) × ListingEnds input_failed input input' (Err why) × (out' ≡ out))
+    ⊎ ((lines : List ℕ) × ListingEnds input_failed input input' (Ok lines)
     × AtControlSocket met (Some lines) out out' result)

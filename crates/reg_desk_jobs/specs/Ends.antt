@@ -221,12 +221,12 @@ module _ {M O D S R W : Type 0} (machines : Machine M O D S R) (offices : Office
 
 -- a script without FILE: no register could be created in memory, or the script ran over it
 abbrev pub ScriptInMemory
-    : {E W : Type 0} → (E → Option (List ℕ)) → (W → Option (List ℕ)) → E → E → W → W
+    : {E W : Type 0} → (E → Option (List ℕ)) → (W → Option (List ℕ)) → Type 0 → Type 0 → E → E → W → W
     → Result (Unit {0}) Failure → Type 0
-ScriptInMemory remaining contents reader reader' writer writer' result =
+ScriptInMemory remaining contents input_failed output_failed reader reader' writer writer' result =
     ((why : Failure) × (result ≡ Err why) × IsCreateFailure why × (reader' ≡ reader) × (writer' ≡ writer))
     ⊎ ((ran : Result (Unit {0}) Fault) × (result ≡ exit_of ran) × ((after : Records)
-    × ScriptEnds (Lines digests digest_alone) remaining contents sample_records after
+    × ScriptEnds (Lines digests digest_alone) remaining contents input_failed output_failed sample_records after
     reader reader' writer writer' ran))
 
 -- lines run at the machine's clock, which is too far ahead, and the operator does not accept that
@@ -235,9 +235,10 @@ IsClockRefused options clock_reached records =
     IsTrue options.is_clocked × IsFalse options.accepts_clock
     × ((now : ℕ) × clock_reached now × IsTrue (is_ahead now records.last None))
 
--- A job that reads and writes: the machine, the reader and the writer, before the job and after it.
+-- A job that reads and writes: the machine, the reader and the writer, before the job and after it, and what states that a read or a write of
+-- those failed.
 module _ {M O D S R E W : Type 0} (machines : Machine M O D S R) (offices : Office O)
-    (remaining : E → Option (List ℕ)) (contents : W → Option (List ℕ))
+    (remaining : E → Option (List ℕ)) (contents : W → Option (List ℕ)) (input_failed output_failed : Type 0)
     (machine machine' : M) (reader reader' : E) (writer writer' : W) where
   -- a run over the register at a path, and how the job ends: it could not be opened, or the run led from its records to others
   abbrev pub RunsAt
@@ -253,7 +254,7 @@ module _ {M O D S R E W : Type 0} (machines : Machine M O D S R) (offices : Offi
   abbrev pub ScriptAt : List ℕ → Option SignerAddress → Result (Unit {0}) Failure → Type 0
   ScriptAt path signer =
       RunsAt exit_of path (signing_with signer issuer_responds) (λ ran identity before after.
-      ScriptEnds (Lines offices.signs identity) remaining contents before after
+      ScriptEnds (Lines offices.signs identity) remaining contents input_failed output_failed before after
       reader reader' writer writer' ran)
 
   -- no line of a script runs, because the clock is too far ahead
@@ -268,8 +269,9 @@ module _ {M O D S R E W : Type 0} (machines : Machine M O D S R) (offices : Offi
   abbrev pub LinesRunAt : LineScript → Result (Unit {0}) Failure → Type 0
   LinesRunAt it =
       RunsAt exit_of_run it.file (signing_with it.signer issuer_responds) (λ ran identity before after.
-      LinesEnd (Lines offices.signs identity) remaining contents before after
-      reader reader' writer writer' machines.clock_reached it.options.is_clocked it.options.is_strict ran)
+      LinesEnd (Lines offices.signs identity) remaining contents input_failed output_failed before after
+      reader reader' writer writer' machines.clock_reached machines.failed it.options.is_clocked
+      it.options.is_strict ran)
 
   -- a script over the register at a path, run line by line
   abbrev pub LinesAt : LineScript → Result (Unit {0}) Failure → Type 0
@@ -279,11 +281,11 @@ module _ {M O D S R E W : Type 0} (machines : Machine M O D S R) (offices : Offi
   abbrev pub ImportRan : Bool → List ℕ → ℕ → Result (Unit {0}) Failure → Type 0
   ImportRan false path now result = (ran : Result (Unit {0}) Fault) × (result ≡ exit_of ran)
       × UsesRegister machines offices machine machine' path unsigned (λ identity before after.
-      ImportEnds (Lines offices.signs identity) remaining contents now before after
+      ImportEnds (Lines offices.signs identity) remaining contents input_failed output_failed now before after
       reader reader' writer writer' ran)
   ImportRan true path now result = (ran : Result Ended Fault) × (result ≡ exit_of_run ran)
       × UsesRegister machines offices machine machine' path unsigned (λ identity before after.
-      StrictEnds (Lines offices.signs identity) remaining contents now before after
+      StrictEnds (Lines offices.signs identity) remaining contents input_failed output_failed now before after
       reader reader' writer writer' ran)
 
   -- an import into the register at a path: it could not be opened, or the rows ran
@@ -355,7 +357,8 @@ module _ {M O D S R E W : Type 0} (machines : Machine M O D S R) (offices : Offi
   Ends (job.Init it) = Writes (InitAt machines offices contents machine machine' writer writer' it)
   Ends (job.Script (Some file) signer) = ScriptAt file signer
   Ends (job.Script None None) =
-      λ result. (machine' ≡ machine) × ScriptInMemory remaining contents reader reader' writer writer' result
+      λ result. (machine' ≡ machine)
+      × ScriptInMemory remaining contents input_failed output_failed reader reader' writer writer' result
   Ends (job.Script None (Some address)) = λ result.
       (machine' ≡ machine) × (reader' ≡ reader) × (writer' ≡ writer) × (result ≡ Err failure.BadSigner)
   Ends (job.Lines it) = LinesAt it
@@ -376,7 +379,7 @@ module _ {M O D S R E W : Type 0} (machines : Machine M O D S R) (offices : Offi
       × AtControlSocket (machines.socket_connected control_path) (remaining reader) (contents writer)
       (contents writer') result
   Ends (job.At control_path (Some file)) = λ result. (machine' ≡ machine)
-      × RowsAtControlSocket (machines.socket_connected control_path) (remaining reader) (remaining reader')
+      × RowsAtControlSocket (machines.socket_connected control_path) input_failed (remaining reader) (remaining reader')
       (contents writer) (contents writer') result
   Ends (job.EachRow control_path rows task) = λ result.
       (machine' ≡ machine)

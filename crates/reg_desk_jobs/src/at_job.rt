@@ -10,6 +10,7 @@ use crate::machine::Machine;
 use crate::output_lines::print_text;
 use reg_core::Fault;
 use reg_desk_cli::Failure;
+use reg_io::Source;
 use reg_lines::{is_accepted, lines_of_rows};
 use std::alloc::Global;
 use std::io::{BufRead, BufReader, Read, Write};
@@ -56,14 +57,14 @@ pub fn at<M: Machine, R: Read, W: Write>(
 }
 
 /// Sends each row of a CSV file in the same way, as a `register` line. Nothing is sent if the file can't be read to its end.
-pub fn at_rows<M: Machine, R: Read, W: Write>(
+pub fn at_rows<M: Machine, R: Source, W: Write>(
     alloc: Global,
     machine: &M,
     control_path: &str,
     reader: &mut R,
     writer: &mut W,
 ) -> Result<(), Failure>
-    ensures { RowsAtControlSocket (M.socket_connected control_path.now)
+    ensures { RowsAtControlSocket (M.socket_connected control_path.now) R.failed
         (R.remaining reader.old) (R.remaining reader.new) (W.contents writer.old) (W.contents writer.new)
         result }
 {

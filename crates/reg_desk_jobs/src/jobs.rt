@@ -24,11 +24,12 @@ use reg_desk_cli::{
     Argument, Failure, ImportJob, NewRegister, ResponderChoice, SignerAddress, Steps,
     key_identifier_of, office_of, schedule_of,
 };
+use reg_io::{Sink, Source};
 use reg_lines::{Ended, import, import_strictly};
 use reg_office_api::Office;
 use std::alloc::Global;
 use std::cell::Cell;
-use std::io::{Read, Write};
+use std::io::Write;
 
 /// The end of a job, by the result of its run over a register.
 pub fn ended(ran: Result<(), Fault>) -> Result<(), Failure>
@@ -96,7 +97,7 @@ fn make_at<M: Machine, W: Write>(
 }
 
 /// Runs the script of standard input over the register at a path. If the register's CRL 1 gets a placeholder digest, it warns on standard error.
-pub fn script<M: Machine, R: Read, W: Write>(
+pub fn script<M: Machine, R: Source, W: Sink>(
     alloc: Global,
     machine: &mut M,
     path: &str,
@@ -104,8 +105,8 @@ pub fn script<M: Machine, R: Read, W: Write>(
     reader: &mut R,
     writer: &mut W,
 ) -> Result<(), Failure>
-    ensures { ScriptAt M.Machine M.Office.Office R.remaining W.contents machine.old machine.new
-        reader.old reader.new writer.old writer.new path.now signer.now result }
+    ensures { ScriptAt M.Machine M.Office.Office R.remaining W.contents R.failed W.failed
+        machine.old machine.new reader.old reader.new writer.old writer.new path.now signer.now result }
 {
     let responder = ResponderChoice::Issuer { certificate: None };
     let mut office = open_signed(machine, path, signer, &responder)?;
@@ -118,7 +119,7 @@ pub fn script<M: Machine, R: Read, W: Write>(
 /// Imports standard input into the register at a path, at one moment: the given one, or that of the clock at the start. The clock's moment is
 /// refused if it is too far ahead, unless the operator accepts that. A strict import ends at the first refusal or fault, and runs no last row
 /// without its line end. If it ends at E08, E09 or E12, the reason is kept.
-pub fn import_rows<M: Machine, R: Read, W: Write>(
+pub fn import_rows<M: Machine, R: Source, W: Sink>(
     alloc: Global,
     machine: &mut M,
     rows: &ImportJob<'_>,
@@ -126,8 +127,8 @@ pub fn import_rows<M: Machine, R: Read, W: Write>(
     reader: &mut R,
     writer: &mut W,
 ) -> Result<(), Failure>
-    ensures { ImportByClock M.Machine M.Office.Office R.remaining W.contents machine.old machine.new
-        reader.old reader.new writer.old writer.new rows.now result }
+    ensures { ImportByClock M.Machine M.Office.Office R.remaining W.contents R.failed W.failed
+        machine.old machine.new reader.old reader.new writer.old writer.new rows.now result }
 {
     match rows.moment {
         Some(now) => import_at(alloc, machine, rows, now, false, reason, reader, writer),
@@ -143,7 +144,7 @@ pub fn import_rows<M: Machine, R: Read, W: Write>(
     }
 }
 
-fn import_at<M: Machine, R: Read, W: Write>(
+fn import_at<M: Machine, R: Source, W: Sink>(
     alloc: Global,
     machine: &mut M,
     rows: &ImportJob<'_>,
@@ -153,8 +154,8 @@ fn import_at<M: Machine, R: Read, W: Write>(
     reader: &mut R,
     writer: &mut W,
 ) -> Result<(), Failure>
-    ensures { ImportChecked M.Machine M.Office.Office R.remaining W.contents machine.old machine.new
-        reader.old reader.new writer.old writer.new is_checked rows.now.is_strict rows.now.file now result }
+    ensures { ImportChecked M.Machine M.Office.Office R.remaining W.contents R.failed W.failed
+        machine.old machine.new reader.old reader.new writer.old writer.new is_checked rows.now.is_strict rows.now.file now result }
 {
     let path = rows.file.as_str();
     let mut office = open_unsigned(machine, path)?;
@@ -191,7 +192,7 @@ fn refuses_import<M: Machine>(office: &mut M::Office, now: Moment, is_checked: b
     is_ahead_of::<M>(office, now)
 }
 
-fn import_strict_rows<M: Machine, R: Read, W: Write>(
+fn import_strict_rows<M: Machine, R: Source, W: Sink>(
     alloc: Global,
     office: &mut M::Office,
     now: Moment,
@@ -201,7 +202,7 @@ fn import_strict_rows<M: Machine, R: Read, W: Write>(
 ) -> Result<Ended, Fault>
     ensures { LeadsIn M.Office.Office
         (λ identity before after.
-        StrictEnds (Lines M.Office.signs identity) R.remaining W.contents now before after
+        StrictEnds (Lines M.Office.signs identity) R.remaining W.contents R.failed W.failed now before after
         reader.old reader.new writer.old writer.new result) office.old office.new }
 {
     let imported = import_strictly(alloc, reader, writer, now, office);

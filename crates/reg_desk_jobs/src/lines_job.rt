@@ -15,11 +15,11 @@ use crate::registers::open_signed;
 use reg_core::{Fault, Moment, Reply};
 use reg_desk_cli::{Failure, LineScript, ResponderChoice, ScriptOptions};
 use reg_desk_metrics::is_ahead;
+use reg_io::{Sink, Source};
 use reg_lines::{Answered, Ended, Host, run_lines, run_script_for};
 use reg_office_api::Office;
 use std::alloc::Global;
 use std::cell::Cell;
-use std::io::{Read, Write};
 
 /// The host of a script: the machine's clock, and a warning on standard error when the register's first CRL gets a placeholder digest instead of
 /// a signature.
@@ -36,6 +36,8 @@ impl<'a, M: Machine> Host for ScriptHost<'a, M> {
     ghost clocked = { λ host. host.is_clocked };
 
     ghost clock_reached = { M.clock_reached };
+
+    ghost clock_failed = { M.failed };
 
     fn is_clocked(&self) -> bool {
         self.is_clocked
@@ -55,7 +57,7 @@ impl<'a, M: Machine> Host for ScriptHost<'a, M> {
 /// Runs the script of standard input over the register at a path, line by line. A strict one ends at the first refusal or fault, and runs no last
 /// line without its line end. If its last line was a refused registration, the reason is kept. If the register's first CRL gets a placeholder
 /// digest, it warns on standard error. With `--clock`, no line runs if the clock is too far ahead, unless the operator accepts that.
-pub fn script_by_lines<M: Machine, R: Read, W: Write>(
+pub fn script_by_lines<M: Machine, R: Source, W: Sink>(
     alloc: Global,
     machine: &mut M,
     script: &LineScript<'_>,
@@ -63,8 +65,8 @@ pub fn script_by_lines<M: Machine, R: Read, W: Write>(
     reader: &mut R,
     writer: &mut W,
 ) -> Result<(), Failure>
-    ensures { LinesAt M.Machine M.Office.Office R.remaining W.contents machine.old machine.new
-        reader.old reader.new writer.old writer.new script.now result }
+    ensures { LinesAt M.Machine M.Office.Office R.remaining W.contents R.failed W.failed
+        machine.old machine.new reader.old reader.new writer.old writer.new script.now result }
 {
     let path = script.file.as_str();
     let responder = ResponderChoice::Issuer { certificate: None };
@@ -116,7 +118,7 @@ pub(crate) fn is_ahead_of<M: Machine>(office: &mut M::Office, now: Moment) -> bo
 }
 
 /// Runs a script, whose lines have their own moments, over an open register.
-pub(crate) fn run_script_over<M: Machine, R: Read, W: Write>(
+pub(crate) fn run_script_over<M: Machine, R: Source, W: Sink>(
     alloc: Global,
     machine: &M,
     office: &mut M::Office,
@@ -126,7 +128,7 @@ pub(crate) fn run_script_over<M: Machine, R: Read, W: Write>(
 ) -> Result<(), Fault>
     ensures { LeadsIn M.Office.Office
         (λ identity before after.
-        ScriptEnds (Lines M.Office.signs identity) R.remaining W.contents before after
+        ScriptEnds (Lines M.Office.signs identity) R.remaining W.contents R.failed W.failed before after
         reader.old reader.new writer.old writer.new result)
         office.old office.new }
 {
@@ -138,7 +140,7 @@ pub(crate) fn run_script_over<M: Machine, R: Read, W: Write>(
     run_script_for(alloc, reader, writer, office, &host)
 }
 
-fn run_over<M: Machine, R: Read, W: Write>(
+fn run_over<M: Machine, R: Source, W: Sink>(
     alloc: Global,
     machine: &M,
     office: &mut M::Office,
@@ -148,9 +150,10 @@ fn run_over<M: Machine, R: Read, W: Write>(
     writer: &mut W,
 ) -> Result<Ended, Fault>
     ensures { LeadsIn M.Office.Office
-        (λ identity before after. LinesEnd (Lines M.Office.signs identity) R.remaining W.contents before after
-        reader.old reader.new writer.old writer.new M.clock_reached options.is_clocked options.is_strict
-        result)
+        (λ identity before after.
+        LinesEnd (Lines M.Office.signs identity) R.remaining W.contents R.failed W.failed before after
+        reader.old reader.new writer.old writer.new M.clock_reached M.failed options.is_clocked
+        options.is_strict result)
         office.old office.new }
 {
     let host: ScriptHost<'_, M> = ScriptHost {

@@ -6,19 +6,19 @@ use crate::machine::Machine;
 use crate::registers::open_signed;
 use crate::serve_job::serve_checked;
 use reg_desk_cli::{Failure, OpenJob};
-use std::io::{Read, Write};
+use reg_io::{Sink, Source};
 
 /// Keeps the register at a path open until the program ends. The register is opened first, then the port is bound, then the control
 /// socket is created. If a published CRL is given, `reader` has its bytes, and a register that lacks any of it is not served.
-pub fn serve_open<M: Machine, R: Read, W: Write>(
+pub fn serve_open<M: Machine, R: Source, W: Sink>(
     rt: &HostRuntime,
     machine: &mut M,
     job: &OpenJob<'_>,
     reader: &mut R,
     writer: &mut W,
 ) -> Result<(), Failure>
-    ensures { OpenAt M.Machine M.Office.Office R.remaining W.contents machine.old machine.new
-        reader.old reader.new
+    ensures { OpenAt M.Machine M.Office.Office R.remaining W.contents R.failed W.failed
+        machine.old machine.new reader.old reader.new
         writer.old writer.new job.now result }
 {
     let path = job.file.as_str();

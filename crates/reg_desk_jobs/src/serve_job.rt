@@ -26,6 +26,7 @@ use reg_crl_signer::Backoff;
 use reg_desk_cli::{Endpoint, Failure, Loopback, ResponderChoice, ServeJob, SignerAddress};
 use reg_desk_metrics::{ConnectionTotals, Tally};
 use reg_desk_server::{EventLoop, Handler, MOST_HTTP_CONNECTIONS};
+use reg_io::{Sink, Source};
 use std::cell::Cell;
 use std::io;
 use std::io::{ErrorKind, Read, Write};
@@ -36,15 +37,15 @@ const LOOPBACK_V6: [u8; 16] = [0, 0, 0, 0, 0, 0, 0, 0, 0, 0, 0, 0, 0, 0, 0, 1];
 
 /// Answers as many HTTP connections as the job says, over a register, which is opened before the port is bound. If a published CRL is given,
 /// `reader` has its bytes, and a register that lacks any of it is not served.
-pub fn serve<M: Machine, R: Read, W: Write>(
+pub fn serve<M: Machine, R: Source, W: Sink>(
     rt: &HostRuntime,
     machine: &mut M,
     job: &ServeJob<'_>,
     reader: &mut R,
     writer: &mut W,
 ) -> Result<(), Failure>
-    ensures { ServeAt M.Machine M.Office.Office R.remaining W.contents machine.old machine.new
-        reader.old reader.new
+    ensures { ServeAt M.Machine M.Office.Office R.remaining W.contents R.failed W.failed
+        machine.old machine.new reader.old reader.new
         writer.old writer.new job.now result }
 {
     let path = job.file.as_str();

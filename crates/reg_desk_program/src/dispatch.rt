@@ -9,14 +9,15 @@ use reg_desk_jobs::{
     Machine, Reason, at, at_rows, audit, copy, crl, each_row, import_rows, init, key_identifier,
     list, replay, report_exit, schedule, script, script_by_lines, serve, serve_open,
 };
+use reg_io::{Sink, Source};
 use std::cell::Cell;
-use std::io::{Read, Write};
+use std::io::Write;
 
 /// Does a job on a machine, over standard input and output, and returns its exit status: 0 if it is done; 3 if a reply at the control socket, or in a
 /// strict script or import, was a refusal or a fault, a replay stopped at a line of the log, or their last line has no line end; else 1. Reports a
 /// failure on standard error. If `is_explained` and it is known, one more line has the cause (status 1), or why the registration that ended a strict
 /// script or import was refused (status 3).
-pub fn perform<M: Machine, R: Read, W: Write, E: Write>(
+pub fn perform<M: Machine, R: Source, W: Sink, E: Write>(
     rt: &HostRuntime,
     machine: &mut M,
     job: &Job<'_>,
@@ -25,8 +26,8 @@ pub fn perform<M: Machine, R: Read, W: Write, E: Write>(
     writer: &mut W,
     errors: &mut E,
 ) -> u8
-    ensures { Performs M.Machine M.Office.Office R.remaining W.contents machine.old machine.new
-        reader.old reader.new
+    ensures { Performs M.Machine M.Office.Office R.remaining W.contents R.failed W.failed
+        machine.old machine.new reader.old reader.new
         writer.old writer.new job.now is_explained (E.contents errors.old) (E.contents errors.new) result }
 {
     let reason = Cell::new(None);
@@ -46,7 +47,7 @@ pub fn perform<M: Machine, R: Read, W: Write, E: Write>(
 
 /// Calls [`perform`], but has no contract. If `run_desk` called `perform` itself, the prover would write out the contract over the program's files
 /// and sockets, which takes minutes.
-pub(crate) fn perform_unreported<M: Machine, R: Read, W: Write, E: Write>(
+pub(crate) fn perform_unreported<M: Machine, R: Source, W: Sink, E: Write>(
     rt: &HostRuntime,
     machine: &mut M,
     job: &Job<'_>,
@@ -59,7 +60,7 @@ pub(crate) fn perform_unreported<M: Machine, R: Read, W: Write, E: Write>(
 }
 
 /// Does a job, and keeps the reason of the refused registration that ended it.
-fn run<M: Machine, R: Read, W: Write>(
+fn run<M: Machine, R: Source, W: Sink>(
     rt: &HostRuntime,
     machine: &mut M,
     job: &Job<'_>,
@@ -67,8 +68,8 @@ fn run<M: Machine, R: Read, W: Write>(
     reader: &mut R,
     writer: &mut W,
 ) -> Result<(), Failure>
-    ensures { Ends M.Machine M.Office.Office R.remaining W.contents machine.old machine.new
-        reader.old reader.new
+    ensures { Ends M.Machine M.Office.Office R.remaining W.contents R.failed W.failed
+        machine.old machine.new reader.old reader.new
         writer.old writer.new job.now result }
 {
     let alloc = rt.alloc();

@@ -17,11 +17,11 @@ use reg_crl::DigestSeal;
 use reg_der::Issuer;
 use reg_desk_cli::Failure;
 use reg_desk_jobs::ended;
+use reg_io::{Sink, Source};
 use reg_lines::run_script;
 use reg_office::Office;
 use sqlite::{Connection, MemStore};
 use std::alloc::Global;
-use std::io::{Read, Write};
 
 /// The Name of a sample issuer: the common name CA (RFC 5280 4.1.2.4).
 const NAME: [u8; 15] = *b"\x30\x0D\x31\x0B\x30\x09\x06\x03\x55\x04\x03\x0C\x02CA";
@@ -31,12 +31,13 @@ const KEY: [u8; 3] = *b"abc";
 type MemoryOffice = Office<MemStore, DigestSeal>;
 
 /// Runs the script of standard input over a new register in memory, with a sample issuer and the placeholder digest.
-pub(crate) fn script_in_memory<R: Read, W: Write>(
+pub(crate) fn script_in_memory<R: Source, W: Sink>(
     alloc: Global,
     reader: &mut R,
     writer: &mut W,
 ) -> Result<(), Failure>
-    ensures { ScriptInMemory R.remaining W.contents reader.old reader.new writer.old writer.new result }
+    ensures { ScriptInMemory R.remaining W.contents R.failed W.failed reader.old reader.new
+        writer.old writer.new result }
 {
     let mut fresh = office_in_memory(alloc)?;
     ended(run_script(alloc, reader, writer, &mut fresh))

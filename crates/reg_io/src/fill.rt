@@ -5,6 +5,7 @@ ghost use Rattle.std.specs.Io.KnownBytes.{Consumes, IsAtEnd};
 ghost use Rattle.reg_io.specs.Delimiter.{EndsWith, FirstDelimiter};
 ghost use Rattle.reg_io.specs.Fill.{Fills, FillsShort, FillsTo};
 
+use crate::streams::Source;
 use std::io::Read;
 
 /// The reader failed, it ended before the buffer was full ([`fill_exact`]), or the buffer was full before the reader ended ([`fill_to_end`]).
@@ -22,7 +23,7 @@ pub enum Reached {
 
 /// Reads into `buf` after its first `buffered` bytes, until the buffered bytes contain the delimiter or fill the buffer, or the reader is at its end.
 /// [`ReadFault`] at the first read that fails, even with `Interrupted`.
-pub fn fill_to_delimiter<R: Read>(
+pub fn fill_to_delimiter<R: Source>(
     reader: &mut R,
     buf: &mut [u8],
     buffered: usize,
@@ -34,6 +35,7 @@ pub fn fill_to_delimiter<R: Read>(
         (R.remaining reader.old) (R.remaining reader.new) buf.old buf.new buffered) }
     ensures err { OnErr result (FillsShort delimiter.now
         (R.remaining reader.old) (R.remaining reader.new) buf.old buf.new buffered) }
+    ensures fails { OnErr result R.failed }
 
     // If the buffer has a delimiter already, or is full, nothing is read.
     ensures has_delimiter { (end : ℕ) → end ≤ buffered → EndsWith (take end buf.old) delimiter.now
@@ -53,7 +55,7 @@ pub fn fill_to_delimiter<R: Read>(
             return Ok(Reached::Full);
         }
         searched = filled;
-        match reader.read(&mut buf[filled..]) {
+        match reader.read_once(&mut buf[filled..]) {
             Ok(0) => return Ok(Reached::End { buffered: filled }),
             Ok(count) => filled += count,
             Err(_) => return Err(ReadFault),

@@ -24,37 +24,45 @@ line_leads office s t now line came comes =
 module _ {O E W : Type 0} (office : Office O) (remaining : E → Option (List ℕ)) (contents : W → Option (List ℕ))
     (s t : O) (reader reader' : E) (writer writer' : W) where
   -- a run of lines leads from records to records
-  pub lines_lead : (told : ℕ → Type 0) (is_clocked is_strict : Bool) (result : Result Ended Fault)
-      → LinesEnd (LineCalls office) remaining contents s t reader reader' writer writer' told is_clocked is_strict result
+  pub lines_lead : (input_failed output_failed : Type 0) (told : ℕ → Type 0) (clock_failed : Type 0) (is_clocked is_strict : Bool) (result : Result Ended Fault)
+      → LinesEnd (LineCalls office) remaining contents input_failed output_failed s t reader reader' writer writer' told clock_failed is_clocked is_strict result
       → Leads office.is_clean office.stands
       (λ signatory before after.
-      LinesEnd (Lines office.signs signatory) remaining contents before after reader reader' writer writer' told is_clocked is_strict result) s t
-  lines_lead told is_clocked is_strict result ends =
+      LinesEnd (Lines office.signs signatory) remaining contents input_failed output_failed before after reader reader' writer writer'
+      told clock_failed is_clocked is_strict result) s t
+  lines_lead input_failed output_failed told clock_failed is_clocked is_strict result ends =
       input_moves office.is_clean office.stands (LineCalls office) (Lines office.signs) (λ v now call w called. called.0)
-      told is_clocked is_strict remaining contents s t reader reader' writer writer' result ends
+      told clock_failed is_clocked is_strict remaining contents input_failed output_failed s t reader reader' writer writer' result ends
 
   -- a script leads so too
-  pub script_leads : (told : ℕ → Type 0) (ran : Result Ended Fault) (result : Result (Unit {0}) Fault) → result ≡ done_of ran
+  pub script_leads : (input_failed output_failed : Type 0) (told : ℕ → Type 0) (clock_failed : Type 0) (ran : Result Ended Fault)
+      (result : Result (Unit {0}) Fault) → result ≡ done_of ran
       → Leads office.is_clean office.stands
-      (λ signatory before after. LinesEnd (Lines office.signs signatory) remaining contents before after reader reader' writer writer' told false false ran) s t
+      (λ signatory before after.
+      LinesEnd (Lines office.signs signatory) remaining contents input_failed output_failed before after reader reader' writer writer'
+      told clock_failed false false ran) s t
       → Leads office.is_clean office.stands
-      (λ signatory before after. ScriptEnds (Lines office.signs signatory) remaining contents before after reader reader' writer writer' result) s t
-  script_leads told ran result is = follows office.is_clean office.stands _ _ (λ signatory before after ends. (ran, ends, is)) s t
+      (λ signatory before after.
+      ScriptEnds (Lines office.signs signatory) remaining contents input_failed output_failed before after reader reader' writer writer' result) s t
+  script_leads input_failed output_failed told clock_failed ran result is =
+      follows office.is_clean office.stands _ _ (λ signatory before after ends. (ran, ends, is)) s t
 
   -- an import
-  pub import_leads : (now : ℕ) (result : Result (Unit {0}) Fault)
-      → ImportEnds (LineCalls office) remaining contents now s t reader reader' writer writer' result
+  pub import_leads : (input_failed output_failed : Type 0) (now : ℕ) (result : Result (Unit {0}) Fault)
+      → ImportEnds (LineCalls office) remaining contents input_failed output_failed now s t reader reader' writer writer' result
       → Leads office.is_clean office.stands
-      (λ signatory before after. ImportEnds (Lines office.signs signatory) remaining contents now before after reader reader' writer writer' result) s t
-  import_leads now result ended =
+      (λ signatory before after.
+      ImportEnds (Lines office.signs signatory) remaining contents input_failed output_failed now before after reader reader' writer writer' result) s t
+  import_leads input_failed output_failed now result ended =
       import_moves office.is_clean office.stands (LineCalls office) (Lines office.signs) (λ v moment call w called. called.0)
-      remaining contents now s t reader reader' writer writer' result ended
+      remaining contents input_failed output_failed now s t reader reader' writer writer' result ended
 
   -- a strict import
-  pub strict_leads : (now : ℕ) (result : Result Ended Fault)
-      → StrictEnds (LineCalls office) remaining contents now s t reader reader' writer writer' result
+  pub strict_leads : (input_failed output_failed : Type 0) (now : ℕ) (result : Result Ended Fault)
+      → StrictEnds (LineCalls office) remaining contents input_failed output_failed now s t reader reader' writer writer' result
       → Leads office.is_clean office.stands
-      (λ signatory before after. StrictEnds (Lines office.signs signatory) remaining contents now before after reader reader' writer writer' result) s t
-  strict_leads now result ended =
+      (λ signatory before after.
+      StrictEnds (Lines office.signs signatory) remaining contents input_failed output_failed now before after reader reader' writer writer' result) s t
+  strict_leads input_failed output_failed now result ended =
       strict_import_moves office.is_clean office.stands (LineCalls office) (Lines office.signs) (λ v moment call w called. called.0)
-      remaining contents now s t reader reader' writer writer' result ended
+      remaining contents input_failed output_failed now s t reader reader' writer writer' result ended

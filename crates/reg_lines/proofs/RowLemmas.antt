@@ -120,14 +120,14 @@ row_four fields o0 o1 o2 o3 o4 r e0 e1 e2 e3 e4 is =
     ∙ sym (four_by fields)
 
 -- no memory is left for a row
-pub first_ran : {S : Type 0} (answers : S → ℕ → Call → S → Type 0) (is_strict : Bool) (now : ℕ) (s t : S) (out out' : Option (List ℕ)) (text : List ℕ) (source : Option (List ℕ)) (state : State) (index : ℕ)
-    → Going answers is_strict now s t out out' text source state index → RowsEnd answers is_strict now s t out out' text (Err Memory)
-first_ran answers is_strict now s t out out' text source state index g = (
+pub first_ran : {S : Type 0} (answers : S → ℕ → Call → S → Type 0) (is_strict : Bool) (now : ℕ) (s t : S) (output_failed : Type 0) (out out' : Option (List ℕ)) (text : List ℕ) (source : Option (List ℕ)) (state : State) (index : ℕ)
+    → Going answers is_strict now s t out out' text source state index → RowsEnd answers is_strict now s t output_failed out out' text (Err Memory)
+first_ran answers is_strict now s t output_failed out out' text source state index g = (
   (record { rows = g.rows; replies = g.replies; are = (state, g.place.left, g.place.reached); wrote = g.wrote }, g.answered),
   g.passed,
 )
 
-module _ {S R : Type 0} (answers : S → ℕ → Call → S → Type 0) (is_strict : Bool) (now : ℕ) (s m t : S) (out middle out' : Option (List ℕ)) (text : List ℕ) (rem : R → Option (List ℕ)) (a b : Reader R) (row : Row) (index : ℕ) where
+module _ {S R : Type 0} (answers : S → ℕ → Call → S → Type 0) (is_strict : Bool) (now : ℕ) (s m t : S) (output_failed : Type 0) (out middle out' : Option (List ℕ)) (text : List ℕ) (rem : R → Option (List ℕ)) (a b : Reader R) (row : Row) (index : ℕ) where
   pub going_more : Going answers is_strict now s m out middle text (source_of rem a) a.state index → a.config ≡ default_config → ReadRecord rem a b true row
       → TookRow answers is_strict now m t (index == 0) row middle out' (Ok passed.On)
       → Going answers is_strict now s t out out' text (source_of rem b) b.state (index + 1)
@@ -154,7 +154,7 @@ module _ {S R : Type 0} (answers : S → ℕ → Call → S → Type 0) (is_stri
 
   -- a row is refused, and a strict run ends
   pub one_refused : (refused : _) → Going answers is_strict now s m out middle text (source_of rem a) a.state index → a.config ≡ default_config → ReadRecord rem a b true row
-      → TookRow answers is_strict now m t (index == 0) row middle out' (Ok (passed.Refused refused)) → RowsEnd answers is_strict now s t out out' text (Ok (passed.Refused refused))
+      → TookRow answers is_strict now m t (index == 0) row middle out' (Ok (passed.Refused refused)) → RowsEnd answers is_strict now s t output_failed out out' text (Ok (passed.Refused refused))
   one_refused refused g config read (inl (header, same, done, kept)) = cc done
   one_refused refused g config read (inr (data', ran)) =
       let more = place_next text rem a b row g.rows index g.place config read in
@@ -175,9 +175,9 @@ module _ {S R : Type 0} (answers : S → ℕ → Call → S → Type 0) (is_stri
       )
 
   pub one_cut : (fault : WriteFault) → Going answers is_strict now s m out middle text (source_of rem a) a.state index → a.config ≡ default_config → ReadRecord rem a b true row
-      → TookRow answers is_strict now m t (index == 0) row middle out' (Err fault) → RowsEnd answers is_strict now s t out out' text (Err Write)
-  one_cut fault g config read (inl (header, same, done, kept)) = cc done
-  one_cut fault g config read (inr (data', ran)) =
+      → TookRow answers is_strict now m t (index == 0) row middle out' (Err fault) → output_failed → RowsEnd answers is_strict now s t output_failed out out' text (Err Write)
+  one_cut fault g config read (inl (header, same, done, kept)) failed = cc done
+  one_cut fault g config read (inr (data', ran)) failed =
       let more = place_next text rem a b row g.rows index g.place config read in (
         (
           record {
@@ -196,10 +196,11 @@ module _ {S R : Type 0} (answers : S → ℕ → Call → S → Type 0) (is_stri
           ran.replied,
         ),
         g.passed,
+        failed,
       )
 
   pub all_ran : Going answers is_strict now s m out middle text (source_of rem a) a.state index → a.config ≡ default_config → ReadRecord rem a b false row
-      → RowsEnd answers is_strict now s m out middle text (Ok passed.On)
+      → RowsEnd answers is_strict now s m output_failed out middle text (Ok passed.On)
   all_ran g config read = (
     (
       record {
@@ -216,13 +217,13 @@ module _ {S R : Type 0} (answers : S → ℕ → Call → S → Type 0) (is_stri
 -- ---- the whole import
 
 -- nothing ran, since the text could not be read
-pub ends_unread : {S R W A : Type 0} (remaining : R → Option (List ℕ)) (s : S) (reader reader' : R) (writer : W) (Ran : List ℕ → Result A Fault → Type 0)
-    (fault : Fault) → TextRead (remaining reader) (remaining reader') (Err fault) → EndsBy remaining s s reader reader' writer writer Ran (Err fault)
-ends_unread remaining s reader reader' writer Ran Read ends = inr (inl refl, ends, refl, refl)
-ends_unread remaining s reader reader' writer Ran Memory ends = inr (inr refl, ends, refl, refl)
-ends_unread remaining s reader reader' writer Ran other ends = absurd ends
+pub ends_unread : {S R W A : Type 0} (remaining : R → Option (List ℕ)) (input_failed : Type 0) (s : S) (reader reader' : R) (writer : W) (Ran : List ℕ → Result A Fault → Type 0)
+    (fault : Fault) → TextRead input_failed (remaining reader) (remaining reader') (Err fault) → EndsBy remaining input_failed s s reader reader' writer writer Ran (Err fault)
+ends_unread remaining input_failed s reader reader' writer Ran Read ends = inr (inl (refl, ends), refl, refl)
+ends_unread remaining input_failed s reader reader' writer Ran Memory ends = inr (inr (refl, ends), refl, refl)
+ends_unread remaining input_failed s reader reader' writer Ran other ends = absurd ends
 
 -- a run of these rows came to a fault
-pub strict_failed : {S : Type 0} (answers : S → ℕ → Call → S → Type 0) (now : ℕ) (s t : S) (out out' : Option (List ℕ)) (text front : List ℕ) (fault : Fault)
-    → front ≡ ended_part text → RowsEnd answers true now s t out out' front (Err fault) → StrictRan answers now s t out out' text (Err fault)
-strict_failed answers now s t out out' text front fault is ran = subst (λ l. RowsEnd answers true now s t out out' l (Err fault)) is ran
+pub strict_failed : {S : Type 0} (answers : S → ℕ → Call → S → Type 0) (now : ℕ) (s t : S) (output_failed : Type 0) (out out' : Option (List ℕ)) (text front : List ℕ) (fault : Fault)
+    → front ≡ ended_part text → RowsEnd answers true now s t output_failed out out' front (Err fault) → StrictRan answers now s t output_failed out out' text (Err fault)
+strict_failed answers now s t output_failed out out' text front fault is ran = subst (λ l. RowsEnd answers true now s t output_failed out out' l (Err fault)) is ran

@@ -56,13 +56,13 @@ module _ {R : Type 0} (text : List ℕ) (rem : R → Option (List ℕ)) (a b : R
   telling_all t config read = (t.rows, rows_all text rem a b row t.rows index t.place config read, t.told)
 
 -- how the telling of an input ends whose text was read, or was not
-pub told_text : (input input' : Option (List ℕ)) (text : List ℕ) (result : Result (Vec ℕ Global) Fault) → TookAll input input' text
+pub told_text : (failed : Type 0) (input input' : Option (List ℕ)) (text : List ℕ) (result : Result (Vec ℕ Global) Fault) → TookAll input input' text
     → MatchResult result (λ lines. ListsRows text lines.items) (λ fault. fault ≡ Memory)
-    → ListingEnds input input' (result_map_both (λ lines. lines.items) (λ fault. fault) result)
-told_text input input' text (Ok lines) took told = (text, took, told)
-told_text input input' text (Err fault) took none = subst (λ f. ListingEnds input input' (Err f)) (sym none) (inr (text, took))
+    → ListingEnds failed input input' (result_map_both (λ lines. lines.items) (λ fault. fault) result)
+told_text failed input input' text (Ok lines) took told = (text, took, told)
+told_text failed input input' text (Err fault) took none = subst (λ f. ListingEnds failed input input' (Err f)) (sym none) (inr (text, took))
 
-pub told_read : (input input' : Option (List ℕ)) (fault : Fault) → TextRead input input' (Err fault) → ListingEnds input input' (Err fault)
-told_read input input' Read ends = ends
-told_read input input' Memory ends = inl ends
-told_read input input' other ends = absurd ends
+pub told_read : (failed : Type 0) (input input' : Option (List ℕ)) (fault : Fault) → TextRead failed input input' (Err fault) → ListingEnds failed input input' (Err fault)
+told_read failed input input' Read ends = ends
+told_read failed input input' Memory ends = inl ends
+told_read failed input input' other ends = absurd ends

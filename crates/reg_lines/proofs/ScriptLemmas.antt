@@ -6,14 +6,14 @@ use Rattle.reg_core.specs.declared.refusal.Fault.TheVariants.{Read, Write}
 use Rattle.std.specs.List.{AllByRecursion, concat}
 use Rattle.std.specs.Io.KnownBytes.{Appends, Consumes, IsAtEnd}
 use Rattle.std.proofs.KnownBytes.{Appends-nil, Appends-trans, Consumes-nil, Consumes-trans}
-use Rattle.std.proofs.lemmas.Bool.{cases_lt, false≢true, ne_eqb}
+use Rattle.std.proofs.lemmas.Bool.{false≢true, ne_eqb}
 use Rattle.std.proofs.lemmas.List.{map-append}
 use Rattle.std.proofs.lemmas.List.Elements.{All-head, All-nil, All-tail}
 use Rattle.reg_io.specs.RunsOfAnswers.{Answered}
 use Rattle.reg_io.proofs.PublicLaws.{answered_push}
 use Rattle.reg_lines.proofs.Pieces.{all_push, concat_push}
 use Rattle.reg_lines.specs.Accepted.{IsAccepted, GivesReason}
-use Rattle.reg_lines.specs.Script.{CutLine, EndOrMore, FirstLines, HasNoLf, InputFails, IsCut, IsShort, IsWholeLine, NextEnds, RanLast, RanNone, RanWhole, RunEnds, WritesPart, line_of, longest_of, pieces}
+use Rattle.reg_lines.specs.Script.{CutLine, EndOrMore, FirstLines, HasNoLf, IsCut, IsShort, IsWholeLine, NextEnds, RanLast, RanNone, RanWhole, RunEnds, TakesNoLine, WritesPart, line_of, longest_of, pieces}
 use Rattle.reg_lines.specs.declared.answered.Ended.{Ended}
 use Rattle.reg_lines.specs.declared.answered.Ended.TheVariants as ended
 use Rattle.reg_lines.specs.declared.lines.Next.TheVariants.{End}
@@ -57,13 +57,6 @@ lines_push done piece = map-append line_of done (piece ∷ [])
 taken_more : (took buffered more : List ℕ) (done : List (List ℕ)) → took ≡ concat done ++ buffered → took ++ more ≡ concat done ++ (buffered ++ more)
 taken_more took buffered more done parts = ap (λ l. l ++ more) parts ∙ append_assoc (concat done) buffered more
 
-fails_free : (longest : ℕ) (done : List (List ℕ)) (left : List ℕ) → HasNoLf left → InputFails longest done left
-fails_free longest done left free =
-    elim (cases_lt longest (length left)) [
-      | inl above ↦ inr (inl (above, free))
-      | inr within ↦ inr (inr (within, free))
-    ]
-
 -- these lines are the first ones, however the input goes on
 first_lines : (took buffered more : List ℕ) (done : List (List ℕ)) → took ≡ concat done ++ buffered → AllByRecursion IsWholeLine done
     → (after : List ℕ) → pieces ((took ++ more) ++ after) ≡ done ++ pieces ((buffered ++ more) ++ after)
@@ -81,6 +74,13 @@ one_or_none : (more : List ℕ) → length more ≤ 1 → HasNoLf more ⊎ (0 < 
 one_or_none [] little = inl (All-nil no_lf)
 one_or_none (byte ∷ rest) little = inr (omega arith)
 
+-- a byte was taken, or none and the input failed
+no_line_or_more : (failed : Type 0) (longest : ℕ) (more : List ℕ) → length more ≤ 1 → (0 < length more) ⊎ failed
+    → TakesNoLine failed longest more ⊎ (0 < length more)
+no_line_or_more failed longest more little (inl some) = inr some
+no_line_or_more failed longest more little (inr fails) =
+    elim (one_or_none more little) [ inl free ↦ inl (free, inr fails) | inr some ↦ inr some ]
+
 -- the next line of what is left
 next_of : (left piece rest : List ℕ) (input' : Option (List ℕ)) → left ≡ piece ++ rest
     → IsWholeLine piece ⊎ (IsCut piece × (rest ≡ []) × IsAtEnd input') → pieces left ≡ piece ∷ pieces rest
@@ -96,7 +96,7 @@ ends_of piece rest input' (inr (is_cut, none, at_end)) = inr (none, at_end)
 
 -- ---- a run so far
 
-module _ {S : Type 0} (runs : S → List ℕ → List ℕ → S → Type 0) (longest : ℕ) (is_clocked is_strict : Bool) where
+module _ {S : Type 0} (runs : S → List ℕ → List ℕ → S → Type 0) (longest : ℕ) (input_failed clock_failed output_failed : Type 0) (is_strict : Bool) where
   -- the lines that ran so far, and the bytes that are held behind them
   pub record Going (s t : S) (input input' out out' : Option (List ℕ)) (buffered : List ℕ) (count : ℕ) : Type 0 where
     pub took : List ℕ
@@ -170,7 +170,7 @@ module _ {S : Type 0} (runs : S → List ℕ → List ℕ → S → Type 0) (lon
 
       -- its reply ends the run
       refused_run : (refused : _) → IsTrue is_strict → ¬ IsAccepted ran.reply → GivesReason refused ran.reply
-          → RunEnds longest input left out out' runs s t is_clocked is_strict (Ok (ended.Refused refused))
+          → RunEnds longest input left out out' runs s t input_failed clock_failed output_failed is_strict (Ok (ended.Refused refused))
       refused_run refused strict other why =
           let counted = g.counted in
           let whole = all_push IsWholeLine g.done ran.piece g.whole ran.whole in (
@@ -246,7 +246,7 @@ module _ {S : Type 0} (runs : S → List ℕ → List ℕ → S → Type 0) (lon
     -- the rest was a line that ran
     finished_one : (more reply : List ℕ) → Consumes between left more → IsAtEnd left → HasNoLf (buffered ++ more) → length (buffered ++ more) ≤ longest
         → 0 < length (buffered ++ more) → runs m (buffered ++ more) reply t → Appends middle out' reply → IsFalse is_strict
-        → RunEnds longest input left out out' runs s t is_clocked is_strict (Ok ended.Whole)
+        → RunEnds longest input left out out' runs s t input_failed clock_failed output_failed is_strict (Ok ended.Whole)
     finished_one more reply consumed at_end free small some replied wrote lax =
         let lines : pieces (g.took ++ more) ≡ g.done ++ (buffered ++ more) ∷ [] =
         pieces_taken more ∙ ap (λ l. g.done ++ l) (pieces_free (buffered ++ more) free some) in
@@ -274,7 +274,7 @@ module _ {S : Type 0} (runs : S → List ℕ → List ℕ → S → Type 0) (lon
   -- nothing is left behind the lines that ran
   finished_none : (s t : S) (input between left out middle out' : Option (List ℕ)) (buffered more : List ℕ) (count : ℕ)
       → Going s t input between out middle buffered count → Appends middle out' [] → count ≤ 1000000 → Consumes between left more → IsAtEnd left
-      → buffered ++ more ≡ [] → RunEnds longest input left out out' runs s t is_clocked is_strict (Ok ended.Whole)
+      → buffered ++ more ≡ [] → RunEnds longest input left out out' runs s t input_failed clock_failed output_failed is_strict (Ok ended.Whole)
   finished_none s t input between left out middle out' buffered more count g kept most consumed at_end none =
       let lines : pieces (g.took ++ more) ≡ g.done =
       ap pieces (taken_more g.took buffered more g.done g.parts) ∙ pieces_done g.done (buffered ++ more) g.whole
@@ -298,11 +298,11 @@ module _ {S : Type 0} (runs : S → List ℕ → List ℕ → S → Type 0) (lon
   finished_last : (s m t : S) (input between left out middle out' : Option (List ℕ)) (buffered : List ℕ) (count : ℕ)
       → Going s m input between out middle buffered count → count < 1000000
       → (ran : RanLast runs m t middle out' longest between left buffered) → (0 < length (buffered ++ ran.took) → IsFalse is_strict)
-      → RunEnds longest input left out out' runs s t is_clocked is_strict (Ok ended.Whole)
+      → RunEnds longest input left out out' runs s t input_failed clock_failed output_failed is_strict (Ok ended.Whole)
   finished_last s m t input between left out middle out' buffered count g most ran lax =
       elim ran.ran [
         | inl (none, same, kept) ↦
-            subst (λ v. RunEnds longest input left out out' runs s v is_clocked is_strict (Ok ended.Whole)) (sym same)
+            subst (λ v. RunEnds longest input left out out' runs s v input_failed clock_failed output_failed is_strict (Ok ended.Whole)) (sym same)
             (finished_none s m input between left out middle out' buffered ran.took count g kept (omega arith) ran.consumed ran.at_end none)
         | inr (some, reply, replied, wrote) ↦
             finished_one s m t input between left out middle out' buffered count g most ran.took reply ran.consumed ran.at_end ran.free ran.short some
@@ -312,8 +312,8 @@ module _ {S : Type 0} (runs : S → List ℕ → List ℕ → S → Type 0) (lon
   -- a step ends the run
   pub run_ended : (s m t : S) (input between left out middle out' : Option (List ℕ)) (buffered buffer : List ℕ) (count : ℕ) (how : Ended)
       → Going s m input between out middle buffered count → count < 1000000
-      → NextEnds runs m t middle out' longest between left buffered is_clocked is_strict buffer (Ok (End how))
-      → RunEnds longest input left out out' runs s t is_clocked is_strict (Ok how)
+      → NextEnds runs m t middle out' longest between left buffered input_failed clock_failed output_failed is_strict buffer (Ok (End how))
+      → RunEnds longest input left out out' runs s t input_failed clock_failed output_failed is_strict (Ok how)
   run_ended s m t input between left out middle out' buffered buffer count ended.Whole g most (ran, lax) =
       finished_last s m t input between left out middle out' buffered count g most ran lax
   run_ended s m t input between left out middle out' buffered buffer count (ended.Refused refused) g most (rest, ran, strict, other, why) =
@@ -330,16 +330,16 @@ module _ {S : Type 0} (runs : S → List ℕ → List ℕ → S → Type 0) (lon
   -- a step failed
   pub run_failed : (s m t : S) (input between left out middle out' : Option (List ℕ)) (buffered buffer : List ℕ) (count : ℕ) (fault : Fault)
       → Going s m input between out middle buffered count → count < 1000000
-      → NextEnds runs m t middle out' longest between left buffered is_clocked is_strict buffer (Err fault)
-      → RunEnds longest input left out out' runs s t is_clocked is_strict (Err fault)
+      → NextEnds runs m t middle out' longest between left buffered input_failed clock_failed output_failed is_strict buffer (Err fault)
+      → RunEnds longest input left out out' runs s t input_failed clock_failed output_failed is_strict (Err fault)
   run_failed s m t input between left out middle out' buffered buffer count Read g most (ran, why) = (
     stopped s m t input between left out middle out' buffered count g most ran,
     still s m t input between left out middle out' buffered count g most t ran.office,
     g.passed,
-    elim why [ inl free ↦ inl (fails_free longest g.done (buffered ++ ran.took) free) | inr clocked ↦ inr clocked ],
+    elim why [ inl none ↦ inl (inr none) | inr clocked ↦ inr clocked ],
   )
   run_failed s m t input between left out middle out' buffered buffer count Write g most ends =
-      (stopped_write s m t input between left out middle out' buffered count g most ends, m, g.answered, ends.replied, g.passed)
+      (stopped_write s m t input between left out middle out' buffered count g most ends.0, m, g.answered, ends.0.replied, g.passed, ends.1)
   run_failed s m t input between left out middle out' buffered buffer count other g most ends = absurd ends
 
   -- ---- after the most lines
@@ -347,8 +347,8 @@ module _ {S : Type 0} (runs : S → List ℕ → List ℕ → S → Type 0) (lon
   -- some bytes are left behind them
   stopped_many : (s t : S) (input between left out middle : Option (List ℕ)) (buffered more : List ℕ) (count : ℕ)
       → Going s t input between out middle buffered count → count ≡ 1000000 → Consumes between left more → length (buffered ++ more) ≤ longest
-      → HasNoLf (buffered ++ more) ⊎ (0 < length (buffered ++ more))
-      → RunEnds longest input left out middle runs s t is_clocked is_strict (Err Read)
+      → TakesNoLine input_failed longest (buffered ++ more) ⊎ (0 < length (buffered ++ more))
+      → RunEnds longest input left out middle runs s t input_failed clock_failed output_failed is_strict (Err Read)
   stopped_many s t input between left out middle buffered more count g all consumed little either =
       let counted = g.counted in (
         record {
@@ -366,28 +366,28 @@ module _ {S : Type 0} (runs : S → List ℕ → List ℕ → S → Type 0) (lon
         },
         g.answered,
         g.passed,
-        inl (elim either [ inl free ↦ fails_free longest g.done (buffered ++ more) free | inr some ↦ inl (omega arith, some, little) ]),
+        inl (elim either [ inl none ↦ inr none | inr some ↦ inl (omega arith, some, little) ]),
       )
 
   -- bytes are held behind the most lines
   pub run_over : (s t : S) (input left out middle : Option (List ℕ)) (buffer : List ℕ) (buffered count : ℕ)
       → Going s t input left out middle (take buffered buffer) count → count ≡ 1000000 → 0 < buffered → buffered ≤ longest → length buffer ≡ longest + 1
-      → RunEnds longest input left out middle runs s t is_clocked is_strict (Err Read)
+      → RunEnds longest input left out middle runs s t input_failed clock_failed output_failed is_strict (Err Read)
   run_over s t input left out middle buffer buffered count g all some room size =
       let long : length (take buffered buffer ++ []) ≡ buffered = omega (arith, length-append (take buffered buffer) [], length-take buffered buffer) in
       stopped_many s t input left left out middle (take buffered buffer) [] count g all (Consumes-nil left) (omega arith) (inr (omega arith))
 
   -- nothing is held behind them, and a byte more was asked for
   pub run_checked : (s t : S) (input between left out middle : Option (List ℕ)) (buffer : List ℕ) (buffered count : ℕ) (result : Result Ended Fault)
-      → Going s t input between out middle (take buffered buffer) count → count ≡ 1000000 → buffered ≡ 0 → 1 ≤ longest → EndOrMore between left result
-      → RunEnds longest input left out middle runs s t is_clocked is_strict result
+      → Going s t input between out middle (take buffered buffer) count → count ≡ 1000000 → buffered ≡ 0 → 1 ≤ longest → EndOrMore input_failed between left result
+      → RunEnds longest input left out middle runs s t input_failed clock_failed output_failed is_strict result
   run_checked s t input between left out middle buffer buffered count (Ok how) g all none some (is, consumed, at_end) =
-      subst (λ h. RunEnds longest input left out middle runs s t is_clocked is_strict (Ok h)) (sym is)
+      subst (λ h. RunEnds longest input left out middle runs s t input_failed clock_failed output_failed is_strict (Ok h)) (sym is)
       (finished_none s t input between left out middle middle (take buffered buffer) [] count g (Appends-nil middle) (omega arith) consumed at_end
       (ap (λ n. take n buffer ++ []) none))
-  run_checked s t input between left out middle buffer buffered count (Err fault) g all none some (is, took, consumed, little) =
+  run_checked s t input between left out middle buffer buffered count (Err fault) g all none some (is, took, consumed, little, why) =
       let nothing : take buffered buffer ≡ [] = ap (λ n. take n buffer) none in
       let same : take buffered buffer ++ took ≡ took = ap (λ l. l ++ took) nothing in
-      let either = one_or_none took little in
-      subst (λ f. RunEnds longest input left out middle runs s t is_clocked is_strict (Err f)) (sym is)
+      let either = no_line_or_more input_failed longest took little why in
+      subst (λ f. RunEnds longest input left out middle runs s t input_failed clock_failed output_failed is_strict (Err f)) (sym is)
       (stopped_many s t input between left out middle (take buffered buffer) took count g all consumed (rw same (omega arith)) (rw same either))

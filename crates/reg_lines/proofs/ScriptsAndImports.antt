@@ -9,7 +9,7 @@ use Rattle.reg_lines.specs.Answer.{ComesTo, OfficeAnswers, LineComesTo, LineRepl
 use Rattle.reg_lines.specs.ByCalls.{Call, ran, asked, responded}
 use Rattle.reg_lines.specs.Import.{EndsBy, ImportEnds, ImportRan, Row, RowReplies, RowsEnd, data_rows}
 use Rattle.reg_lines.specs.Meaning.{Meaning, means_command, means_query, is_ocsp_line}
-use Rattle.reg_lines.specs.Script.{LinesEnd, RunEnds, line_of, longest_of, pieces}
+use Rattle.reg_lines.specs.Script.{ClockFails, LinesEnd, RunEnds, line_of, longest_of, pieces}
 use Rattle.reg_lines.specs.Strict.{StrictEnds, StrictRan, ended_part}
 use Rattle.reg_lines.specs.declared.answered.Answered.{Answered as LineOutcome}
 use Rattle.reg_lines.specs.declared.answered.Ended.{Ended}
@@ -27,36 +27,37 @@ module _ {S I R : Type 0} (is_clean : S → Type 0) (stands : I → S → R → 
     → Leads is_clean stands (λ i before after. kept i before line reply after) s t)
     (longest : ℕ) (s t : S) (input input' out out' : Option (List ℕ)) where
   -- a run
-  pub run_moves : (is_clocked is_strict : Bool) (result : Result Ended Fault)
-      → RunEnds longest input input' out out' answers s t is_clocked is_strict result
-      → Leads is_clean stands (λ i before after. RunEnds longest input input' out out' (kept i) before after is_clocked is_strict result) s t
-  run_moves is_clocked is_strict (Ok ended.Whole) (lines, run, all) =
+  pub run_moves : (input_failed clock_failed output_failed : Type 0) (is_strict : Bool) (result : Result Ended Fault)
+      → RunEnds longest input input' out out' answers s t input_failed clock_failed output_failed is_strict result
+      → Leads is_clean stands (λ i before after. RunEnds longest input input' out out' (kept i) before after input_failed clock_failed output_failed is_strict result) s t
+  run_moves input_failed clock_failed output_failed is_strict (Ok ended.Whole) (lines, run, all) =
       follows is_clean stands _ _ (λ i before after moved. (lines, moved, all)) s t
       (runs is_clean stands answers kept lifts s t (map line_of (pieces lines.took)) lines.replies run)
-  run_moves is_clocked is_strict (Ok (ended.Refused refused)) (lines, run, strict, ends, why) =
+  run_moves input_failed clock_failed output_failed is_strict (Ok (ended.Refused refused)) (lines, run, strict, ends, why) =
       follows is_clean stands _ _ (λ i before after moved. (lines, moved, strict, ends, why)) s t
       (runs is_clean stands answers kept lifts s t (map line_of lines.done) lines.replies run)
-  run_moves is_clocked is_strict (Ok ended.NoLineEnd) (lines, run, strict, each, cut, at_end) =
+  run_moves input_failed clock_failed output_failed is_strict (Ok ended.NoLineEnd) (lines, run, strict, each, cut, at_end) =
       follows is_clean stands _ _ (λ i before after moved. (lines, moved, strict, each, cut, at_end)) s t
       (runs is_clean stands answers kept lifts s t (map line_of lines.done) lines.replies run)
-  run_moves is_clocked is_strict (Err Read) (lines, run, each, fails) =
+  run_moves input_failed clock_failed output_failed is_strict (Err Read) (lines, run, each, fails) =
       follows is_clean stands _ _ (λ i before after moved. (lines, moved, each, fails)) s t
       (runs is_clean stands answers kept lifts s t (map line_of lines.done) lines.replies run)
-  run_moves is_clocked is_strict (Err Write) (lines, middle, run, last, each) =
-      follows is_clean stands _ _ (λ i before after both. (lines, both.0, both.1, both.2, each)) s t
+  run_moves input_failed clock_failed output_failed is_strict (Err Write) (lines, middle, run, last, each, failed) =
+      follows is_clean stands _ _ (λ i before after both. (lines, both.0, both.1, both.2, each, failed)) s t
       (chains is_clean stands _ _ s middle t
       (runs is_clean stands answers kept lifts s middle (map line_of lines.done) lines.replies run)
       (lifts middle (line_of lines.piece) lines.reply t last))
-  run_moves is_clocked is_strict (Err other) ends = absurd ends
+  run_moves input_failed clock_failed output_failed is_strict (Err other) ends = absurd ends
 
 -- a run for which there was memory
 pub lines_end : {S E W : Type 0} (answers : S → ℕ → Call → S → Type 0) (told : ℕ → Type 0) (remaining : E → Option (List ℕ)) (contents : W → Option (List ℕ))
-    (s t : S) (reader reader' : E) (writer writer' : W) (is_clocked is_strict : Bool) (result : Result Ended Fault)
+    (input_failed output_failed : Type 0) (s t : S) (reader reader' : E) (writer writer' : W) (clock_failed : Type 0) (is_clocked is_strict : Bool)
+    (result : Result Ended Fault)
     → RunEnds (longest_of is_clocked) (remaining reader) (remaining reader') (contents writer) (contents writer') (LineReplies answers told is_clocked)
-    s t is_clocked is_strict result
-    → LinesEnd answers remaining contents s t reader reader' writer writer' told is_clocked is_strict result
-lines_end answers told remaining contents s t reader reader' writer writer' is_clocked is_strict (Err Memory) ends = absurd ends
-lines_end answers told remaining contents s t reader reader' writer writer' is_clocked is_strict result ends = ends
+    s t input_failed (ClockFails clock_failed is_clocked) output_failed is_strict result
+    → LinesEnd answers remaining contents input_failed output_failed s t reader reader' writer writer' told clock_failed is_clocked is_strict result
+lines_end answers told remaining contents input_failed output_failed s t reader reader' writer writer' clock_failed is_clocked is_strict (Err Memory) ends = absurd ends
+lines_end answers told remaining contents input_failed output_failed s t reader reader' writer writer' clock_failed is_clocked is_strict result ends = ends
 
 -- ---- by what the office is asked
 
@@ -97,16 +98,19 @@ module _ {S I R : Type 0} (is_clean : S → Type 0) (stands : I → S → R → 
       follows is_clean stands _ _ (λ i before after made. (came, made, is)) s t (line_moves told is_clocked s line came t comes)
 
   -- a run of lines
-  pub input_moves : {E W : Type 0} (told : ℕ → Type 0) (is_clocked is_strict : Bool) (remaining : E → Option (List ℕ)) (contents : W → Option (List ℕ))
+  pub input_moves : {E W : Type 0} (told : ℕ → Type 0) (clock_failed : Type 0) (is_clocked is_strict : Bool)
+      (remaining : E → Option (List ℕ)) (contents : W → Option (List ℕ)) (input_failed output_failed : Type 0)
       (s t : S) (reader reader' : E) (writer writer' : W) (result : Result Ended Fault)
-      → LinesEnd answers remaining contents s t reader reader' writer writer' told is_clocked is_strict result
+      → LinesEnd answers remaining contents input_failed output_failed s t reader reader' writer writer' told clock_failed is_clocked is_strict result
       → Leads is_clean stands
-      (λ i before after. LinesEnd (kept i) remaining contents before after reader reader' writer writer' told is_clocked is_strict result) s t
-  input_moves told is_clocked is_strict remaining contents s t reader reader' writer writer' (Err Memory) ends =
+      (λ i before after.
+      LinesEnd (kept i) remaining contents input_failed output_failed before after reader reader' writer writer' told clock_failed is_clocked is_strict result) s t
+  input_moves told clock_failed is_clocked is_strict remaining contents input_failed output_failed s t reader reader' writer writer' (Err Memory) ends =
       follows is_clean stands _ _ (λ i before after stayed. (stayed, ends.1, ends.2)) s t (stays is_clean stands s t ends.0)
-  input_moves told is_clocked is_strict remaining contents s t reader reader' writer writer' result ends =
+  input_moves told clock_failed is_clocked is_strict remaining contents input_failed output_failed s t reader reader' writer writer' result ends =
       run_moves is_clean stands (LineReplies answers told is_clocked) (λ i. LineReplies (kept i) told is_clocked) (reply_moves told is_clocked)
-      (longest_of is_clocked) s t (remaining reader) (remaining reader') (contents writer) (contents writer') is_clocked is_strict result ends
+      (longest_of is_clocked) s t (remaining reader) (remaining reader') (contents writer) (contents writer')
+      input_failed (ClockFails clock_failed is_clocked) output_failed is_strict result ends
 
   -- one row of an import
   row_moves : (now : ℕ) (s : S) (row : Row) (reply : List ℕ) (t : S) → RowReplies answers now s row reply t
@@ -130,58 +134,58 @@ module _ {S I R : Type 0} (is_clean : S → Type 0) (stands : I → S → R → 
       chains is_clean stands _ _ s middle t (rows_move now s middle rows replies run) (row_moves now middle row reply t last)
 
   -- a run of rows that ends at the first refusal, if it is strict
-  row_run_moves : (is_strict : Bool) (now : ℕ) (s t : S) (out out' : Option (List ℕ)) (text : List ℕ) (result : Result Continuation Fault)
-      → RowsEnd answers is_strict now s t out out' text result
-      → Leads is_clean stands (λ i before after. RowsEnd (kept i) is_strict now before after out out' text result) s t
-  row_run_moves is_strict now s t out out' text (Ok passed.On) ((all, run), each) =
+  row_run_moves : (is_strict : Bool) (now : ℕ) (s t : S) (output_failed : Type 0) (out out' : Option (List ℕ)) (text : List ℕ) (result : Result Continuation Fault)
+      → RowsEnd answers is_strict now s t output_failed out out' text result
+      → Leads is_clean stands (λ i before after. RowsEnd (kept i) is_strict now before after output_failed out out' text result) s t
+  row_run_moves is_strict now s t output_failed out out' text (Ok passed.On) ((all, run), each) =
       follows is_clean stands _ _ (λ i before after moved. ((all, moved), each)) s t (rows_move now s t (data_rows all.rows) all.replies run)
-  row_run_moves is_strict now s t out out' text (Ok (passed.Refused refused)) ((first, run), strict, ends, why) =
+  row_run_moves is_strict now s t output_failed out out' text (Ok (passed.Refused refused)) ((first, run), strict, ends, why) =
       follows is_clean stands _ _ (λ i before after moved. ((first, moved), strict, ends, why)) s t
       (rows_move now s t (data_rows first.rows) first.replies run)
-  row_run_moves is_strict now s t out out' text (Err Write) ((cut, middle, run, last), each) =
-      follows is_clean stands _ _ (λ i before after moved. ((cut, moved.0, moved.1, moved.2), each)) s t
+  row_run_moves is_strict now s t output_failed out out' text (Err Write) ((cut, middle, run, last), each, failed) =
+      follows is_clean stands _ _ (λ i before after moved. ((cut, moved.0, moved.1, moved.2), each, failed)) s t
       (cut_move now s middle t (data_rows cut.rows) cut.replies cut.row cut.reply run last)
-  row_run_moves is_strict now s t out out' text (Err Memory) ((first, run), each) =
+  row_run_moves is_strict now s t output_failed out out' text (Err Memory) ((first, run), each) =
       follows is_clean stands _ _ (λ i before after moved. ((first, moved), each)) s t (rows_move now s t (data_rows first.rows) first.replies run)
-  row_run_moves is_strict now s t out out' text (Err other) ended = absurd ended
+  row_run_moves is_strict now s t output_failed out out' text (Err other) ended = absurd ended
 
   -- the run of a text up to its last line end
-  strict_run_moves : (now : ℕ) (s t : S) (out out' : Option (List ℕ)) (text : List ℕ) (result : Result Ended Fault)
-      → StrictRan answers now s t out out' text result
-      → Leads is_clean stands (λ i before after. StrictRan (kept i) now before after out out' text result) s t
-  strict_run_moves now s t out out' text (Ok (ended.Refused refused)) run =
-      row_run_moves true now s t out out' (ended_part text) (Ok (passed.Refused refused)) run
-  strict_run_moves now s t out out' text (Ok ended.Whole) (run, all) =
-      follows is_clean stands _ _ (λ i before after moved. (moved, all)) s t (row_run_moves true now s t out out' (ended_part text) (Ok passed.On) run)
-  strict_run_moves now s t out out' text (Ok ended.NoLineEnd) (run, more) =
-      follows is_clean stands _ _ (λ i before after moved. (moved, more)) s t (row_run_moves true now s t out out' (ended_part text) (Ok passed.On) run)
-  strict_run_moves now s t out out' text (Err fault) run = row_run_moves true now s t out out' (ended_part text) (Err fault) run
+  strict_run_moves : (now : ℕ) (s t : S) (output_failed : Type 0) (out out' : Option (List ℕ)) (text : List ℕ) (result : Result Ended Fault)
+      → StrictRan answers now s t output_failed out out' text result
+      → Leads is_clean stands (λ i before after. StrictRan (kept i) now before after output_failed out out' text result) s t
+  strict_run_moves now s t output_failed out out' text (Ok (ended.Refused refused)) run =
+      row_run_moves true now s t output_failed out out' (ended_part text) (Ok (passed.Refused refused)) run
+  strict_run_moves now s t output_failed out out' text (Ok ended.Whole) (run, all) =
+      follows is_clean stands _ _ (λ i before after moved. (moved, all)) s t (row_run_moves true now s t output_failed out out' (ended_part text) (Ok passed.On) run)
+  strict_run_moves now s t output_failed out out' text (Ok ended.NoLineEnd) (run, more) =
+      follows is_clean stands _ _ (λ i before after moved. (moved, more)) s t (row_run_moves true now s t output_failed out out' (ended_part text) (Ok passed.On) run)
+  strict_run_moves now s t output_failed out out' text (Err fault) run = row_run_moves true now s t output_failed out out' (ended_part text) (Err fault) run
 
   -- an import, by what holds of its rows
-  ends_moves : {E W A : Type 0} (remaining : E → Option (List ℕ)) (s t : S) (reader reader' : E) (writer writer' : W)
+  ends_moves : {E W A : Type 0} (remaining : E → Option (List ℕ)) (input_failed : Type 0) (s t : S) (reader reader' : E) (writer writer' : W)
       (Ran : List ℕ → Result A Fault → Type 0) (Kept : I → R → R → List ℕ → Result A Fault → Type 0) (result : Result A Fault)
       → ((text : List ℕ) → Ran text result → Leads is_clean stands (λ i before after. Kept i before after text result) s t)
-      → EndsBy remaining s t reader reader' writer writer' Ran result
-      → Leads is_clean stands (λ i before after. EndsBy remaining before after reader reader' writer writer' (Kept i before after) result) s t
-  ends_moves remaining s t reader reader' writer writer' Ran Kept result moves (inl (text, took, run)) =
+      → EndsBy remaining input_failed s t reader reader' writer writer' Ran result
+      → Leads is_clean stands (λ i before after. EndsBy remaining input_failed before after reader reader' writer writer' (Kept i before after) result) s t
+  ends_moves remaining input_failed s t reader reader' writer writer' Ran Kept result moves (inl (text, took, run)) =
       follows is_clean stands _ _ (λ i before after moved. inl (text, took, moved)) s t (moves text run)
-  ends_moves remaining s t reader reader' writer writer' Ran Kept result moves (inr (why, some, same, unwritten)) =
-      follows is_clean stands _ _ (λ i before after stayed. inr (why, some, stayed, unwritten)) s t (stays is_clean stands s t same)
+  ends_moves remaining input_failed s t reader reader' writer writer' Ran Kept result moves (inr (why, same, unwritten)) =
+      follows is_clean stands _ _ (λ i before after stayed. inr (why, stayed, unwritten)) s t (stays is_clean stands s t same)
 
-  pub import_moves : {E W : Type 0} (remaining : E → Option (List ℕ)) (contents : W → Option (List ℕ)) (now : ℕ) (s t : S) (reader reader' : E)
-      (writer writer' : W) (result : Result (Unit {0}) Fault) → ImportEnds answers remaining contents now s t reader reader' writer writer' result
-      → Leads is_clean stands (λ i before after. ImportEnds (kept i) remaining contents now before after reader reader' writer writer' result) s t
-  import_moves remaining contents now s t reader reader' writer writer' result =
-      ends_moves remaining s t reader reader' writer writer' (ImportRan answers now s t (contents writer) (contents writer'))
-      (λ i before after. ImportRan (kept i) now before after (contents writer) (contents writer')) result (λ text run.
+  pub import_moves : {E W : Type 0} (remaining : E → Option (List ℕ)) (contents : W → Option (List ℕ)) (input_failed output_failed : Type 0) (now : ℕ) (s t : S)
+      (reader reader' : E) (writer writer' : W) (result : Result (Unit {0}) Fault) → ImportEnds answers remaining contents input_failed output_failed now s t reader reader' writer writer' result
+      → Leads is_clean stands (λ i before after. ImportEnds (kept i) remaining contents input_failed output_failed now before after reader reader' writer writer' result) s t
+  import_moves remaining contents input_failed output_failed now s t reader reader' writer writer' result =
+      ends_moves remaining input_failed s t reader reader' writer writer' (ImportRan answers now s t output_failed (contents writer) (contents writer'))
+      (λ i before after. ImportRan (kept i) now before after output_failed (contents writer) (contents writer')) result (λ text run.
       follows is_clean stands _ _ (λ i before after moved. (run.0, moved, run.2)) s t
-      (row_run_moves false now s t (contents writer) (contents writer') text run.0 run.1))
+      (row_run_moves false now s t output_failed (contents writer) (contents writer') text run.0 run.1))
 
   -- a strict one
-  pub strict_import_moves : {E W : Type 0} (remaining : E → Option (List ℕ)) (contents : W → Option (List ℕ)) (now : ℕ) (s t : S) (reader reader' : E)
-      (writer writer' : W) (result : Result Ended Fault) → StrictEnds answers remaining contents now s t reader reader' writer writer' result
-      → Leads is_clean stands (λ i before after. StrictEnds (kept i) remaining contents now before after reader reader' writer writer' result) s t
-  strict_import_moves remaining contents now s t reader reader' writer writer' result =
-      ends_moves remaining s t reader reader' writer writer' (StrictRan answers now s t (contents writer) (contents writer'))
-      (λ i before after. StrictRan (kept i) now before after (contents writer) (contents writer')) result
-      (λ text run. strict_run_moves now s t (contents writer) (contents writer') text result run)
+  pub strict_import_moves : {E W : Type 0} (remaining : E → Option (List ℕ)) (contents : W → Option (List ℕ)) (input_failed output_failed : Type 0) (now : ℕ) (s t : S)
+      (reader reader' : E) (writer writer' : W) (result : Result Ended Fault) → StrictEnds answers remaining contents input_failed output_failed now s t reader reader' writer writer' result
+      → Leads is_clean stands (λ i before after. StrictEnds (kept i) remaining contents input_failed output_failed now before after reader reader' writer writer' result) s t
+  strict_import_moves remaining contents input_failed output_failed now s t reader reader' writer writer' result =
+      ends_moves remaining input_failed s t reader reader' writer writer' (StrictRan answers now s t output_failed (contents writer) (contents writer'))
+      (λ i before after. StrictRan (kept i) now before after output_failed (contents writer) (contents writer')) result
+      (λ text run. strict_run_moves now s t output_failed (contents writer) (contents writer') text result run)

@@ -57,7 +57,7 @@ whole_some piece (front, is, free) =
     omega arith
 
 -- Lines that run, in a buffer, which is `before` and then `after` the next bytes were taken.
-module _ {S : Type 0} (runs : S → List ℕ → List ℕ → S → Type 0) (longest : ℕ) (is_clocked is_strict : Bool) (s t : S) (out out' input left : Option (List ℕ))
+module _ {S : Type 0} (runs : S → List ℕ → List ℕ → S → Type 0) (longest : ℕ) (input_failed clock_failed output_failed : Type 0) (is_strict : Bool) (s t : S) (out out' input left : Option (List ℕ))
     (before after : List ℕ) (buffered : ℕ) (size : length after ≡ longest + 1) where
   -- ---- at a mark
 
@@ -93,8 +93,8 @@ module _ {S : Type 0} (runs : S → List ℕ → List ℕ → S → Type 0) (lon
 
     -- the buffer is turned, so that what is left stands at its front
     pub ran_on : (line rotated : List ℕ) → line ≡ line_of (take end after) → rotated ≡ drop end after ++ take end after
-        → LineEnds runs s t out out' is_clocked is_strict line (Ok passed.On)
-        → NextEnds runs s t out out' longest input left (take buffered before) is_clocked is_strict rotated (Ok (Held (now - end)))
+        → LineEnds runs s t out out' clock_failed output_failed is_strict line (Ok passed.On)
+        → NextEnds runs s t out out' longest input left (take buffered before) input_failed clock_failed output_failed is_strict rotated (Ok (Held (now - end)))
     ran_on line rotated lines is (reply, replied, wrote, goes) =
         let ran = ran_at line reply (take (now - end) rotated) lines (ap (take (now - end)) is ∙ turned after end now ordered within) replied wrote in
         let some : 0 < length (take end after) = whole_some (take end after) whole_at in
@@ -106,28 +106,31 @@ module _ {S : Type 0} (runs : S → List ℕ → List ℕ → S → Type 0) (lon
 
     -- a strict run ends
     pub ran_refused : (line buffer : List ℕ) (refused : _) → line ≡ line_of (take end after)
-        → LineEnds runs s t out out' is_clocked is_strict line (Ok (passed.Refused refused))
-        → NextEnds runs s t out out' longest input left (take buffered before) is_clocked is_strict buffer (Ok (Ends (ended.Refused refused)))
+        → LineEnds runs s t out out' clock_failed output_failed is_strict line (Ok (passed.Refused refused))
+        → NextEnds runs s t out out' longest input left (take buffered before) input_failed clock_failed output_failed is_strict buffer (Ok (Ends (ended.Refused refused)))
     ran_refused line buffer refused lines (reply, replied, wrote, goes) =
         let ran = ran_at line reply (drop end (take now after)) lines refl replied wrote in
         (drop end (take now after), ran.0, goes.0, rw ran.1 goes.1, rw ran.1 goes.2)
 
     -- a fault
     pub failed_at : (line buffer : List ℕ) (fault : Fault) → line ≡ line_of (take end after)
-        → LineEnds runs s t out out' is_clocked is_strict line (Err fault)
-        → NextEnds runs s t out out' longest input left (take buffered before) is_clocked is_strict buffer (Err fault)
-    failed_at line buffer Write lines (reply, replied, wrote) = record {
-      took = to.took;
-      piece = take end after;
-      rest = drop end (take now after);
-      reply = reply;
-      consumed = to.fills.consumed;
-      cut = splits_at_delimiter (10 ∷ []) input left before after buffered end now to;
-      ends = inl whole_at;
-      short = whole_short longest (take end after) whole_at (omega (arith, size, length-take end after));
-      replied = subst (λ l. runs s l reply t) lines replied;
-      wrote = wrote;
-    }
+        → LineEnds runs s t out out' clock_failed output_failed is_strict line (Err fault)
+        → NextEnds runs s t out out' longest input left (take buffered before) input_failed clock_failed output_failed is_strict buffer (Err fault)
+    failed_at line buffer Write lines (reply, replied, wrote, failed) = (
+      record {
+        took = to.took;
+        piece = take end after;
+        rest = drop end (take now after);
+        reply = reply;
+        consumed = to.fills.consumed;
+        cut = splits_at_delimiter (10 ∷ []) input left before after buffered end now to;
+        ends = inl whole_at;
+        short = whole_short longest (take end after) whole_at (omega (arith, size, length-take end after));
+        replied = subst (λ l. runs s l reply t) lines replied;
+        wrote = wrote;
+      },
+      failed,
+    )
     failed_at line buffer Read lines (clocked, same, kept) = (
       record {
         took = to.took;
@@ -172,7 +175,7 @@ module _ {S : Type 0} (runs : S → List ℕ → List ℕ → S → Type 0) (lon
 
     -- nothing is left
     pub ended_none : (buffer : List ℕ) → now ≡ 0 → t ≡ s → Appends out out' []
-        → NextEnds runs s t out out' longest input left (take buffered before) is_clocked is_strict buffer (Ok (Ends ended.Whole))
+        → NextEnds runs s t out out' longest input left (take buffered before) input_failed clock_failed output_failed is_strict buffer (Ok (Ends ended.Whole))
     ended_none buffer none stays kept =
         let empty : take now after ≡ [] = ap (λ n. take n after) none in
         let ran = ran_last (inl (empty, stays, kept)) in
@@ -180,13 +183,13 @@ module _ {S : Type 0} (runs : S → List ℕ → List ℕ → S → Type 0) (lon
 
     -- a last line without its LF ran
     pub ended_last : (buffer : List ℕ) (passed : _) → now ≢ 0 → IsFalse is_strict
-        → LineEnds runs s t out out' is_clocked is_strict (take now after) (Ok passed)
-        → NextEnds runs s t out out' longest input left (take buffered before) is_clocked is_strict buffer (Ok (Ends ended.Whole))
+        → LineEnds runs s t out out' clock_failed output_failed is_strict (take now after) (Ok passed)
+        → NextEnds runs s t out out' longest input left (take buffered before) input_failed clock_failed output_failed is_strict buffer (Ok (Ends ended.Whole))
     ended_last buffer passed more lax (reply, replied, wrote, goes) = ((ran_last (inr (some more, reply, replied, wrote))).0, λ _. lax)
 
     -- a strict run does not run it
     pub ended_cut : (buffer : List ℕ) → now ≢ 0 → IsTrue is_strict → t ≡ s → Appends out out' []
-        → NextEnds runs s t out out' longest input left (take buffered before) is_clocked is_strict buffer (Ok (Ends ended.NoLineEnd))
+        → NextEnds runs s t out out' longest input left (take buffered before) input_failed clock_failed output_failed is_strict buffer (Ok (Ends ended.NoLineEnd))
     ended_cut buffer more strict stays kept = (
       record {
         took = to.took;
@@ -202,20 +205,23 @@ module _ {S : Type 0} (runs : S → List ℕ → List ℕ → S → Type 0) (lon
 
     -- its run came to a fault
     pub failed_last : (buffer : List ℕ) (fault : Fault) → now ≢ 0
-        → LineEnds runs s t out out' is_clocked is_strict (take now after) (Err fault)
-        → NextEnds runs s t out out' longest input left (take buffered before) is_clocked is_strict buffer (Err fault)
-    failed_last buffer Write more (reply, replied, wrote) = record {
-      took = to.took;
-      piece = take now after;
-      rest = [];
-      reply = reply;
-      consumed = to.fills.consumed;
-      cut = sym same ∙ sym (append-nil (take now after));
-      ends = inr ((free, some more), refl, to.rests.2);
-      short = omega (arith, short, ap length (strip_free (take now after) free));
-      replied = subst (λ l. runs s l reply t) (sym (line_free (take now after) free)) replied;
-      wrote = wrote;
-    }
+        → LineEnds runs s t out out' clock_failed output_failed is_strict (take now after) (Err fault)
+        → NextEnds runs s t out out' longest input left (take buffered before) input_failed clock_failed output_failed is_strict buffer (Err fault)
+    failed_last buffer Write more (reply, replied, wrote, failed) = (
+      record {
+        took = to.took;
+        piece = take now after;
+        rest = [];
+        reply = reply;
+        consumed = to.fills.consumed;
+        cut = sym same ∙ sym (append-nil (take now after));
+        ends = inr ((free, some more), refl, to.rests.2);
+        short = omega (arith, short, ap length (strip_free (take now after) free));
+        replied = subst (λ l. runs s l reply t) (sym (line_free (take now after) free)) replied;
+        wrote = wrote;
+      },
+      failed,
+    )
     failed_last buffer Read more (clocked, stays, kept) = (
       record {
         took = to.took;
@@ -224,14 +230,14 @@ module _ {S : Type 0} (runs : S → List ℕ → List ℕ → S → Type 0) (lon
         office = stays;
         wrote = kept;
       },
-      inl (subst HasNoLf same free),
+      inr clocked,
     )
     failed_last buffer other more ends = absurd ends
 
   -- ---- where the input fails
 
   pub reads_full : (buffer : List ℕ) → FillsTo (10 ∷ []) input left before after buffered Full → t ≡ s → Appends out out' []
-      → NextEnds runs s t out out' longest input left (take buffered before) is_clocked is_strict buffer (Err Read)
+      → NextEnds runs s t out out' longest input left (take buffered before) input_failed clock_failed output_failed is_strict buffer (Err Read)
   reads_full buffer to stays kept =
       let all : after ≡ take buffered before ++ to.took =
       sym (take_all (length after) after (omega arith)) ∙ keeps_what_was_taken (10 ∷ []) input left before after buffered Full to in (
@@ -242,12 +248,12 @@ module _ {S : Type 0} (runs : S → List ℕ → List ℕ → S → Type 0) (lon
           office = stays;
           wrote = kept;
         },
-        inl (subst HasNoLf all (no_delimiter_of_byte 10 after to.rests)),
+        inl (subst HasNoLf all (no_delimiter_of_byte 10 after to.rests), inl (omega (arith, size, ap length all))),
       )
 
-  pub reads_short : (buffer : List ℕ) → FillsShort (10 ∷ []) input left before after buffered → t ≡ s → Appends out out' []
-      → NextEnds runs s t out out' longest input left (take buffered before) is_clocked is_strict buffer (Err Read)
-  reads_short buffer to stays kept =
+  pub reads_short : (buffer : List ℕ) → FillsShort (10 ∷ []) input left before after buffered → input_failed → t ≡ s → Appends out out' []
+      → NextEnds runs s t out out' longest input left (take buffered before) input_failed clock_failed output_failed is_strict buffer (Err Read)
+  reads_short buffer to failed stays kept =
       let room = to.room in (
         record {
           took = to.took;
@@ -256,5 +262,5 @@ module _ {S : Type 0} (runs : S → List ℕ → List ℕ → S → Type 0) (lon
           office = stays;
           wrote = kept;
         },
-        inl (subst HasNoLf to.fills.stands (no_delimiter_of_byte 10 _ to.no_delimiter)),
+        inl (subst HasNoLf to.fills.stands (no_delimiter_of_byte 10 _ to.no_delimiter), inr failed),
       )

@@ -121,12 +121,18 @@ pub record TookAll (input input' : Option (List ℕ)) (text : List ℕ) : Type 0
   pub at_end : IsAtEnd input'
   pub fits : length text ≤ most_bytes
 
--- bytes were read, at most one more than an import may have, and then a read failed or there was one byte too many
+-- bytes were read, at most one more than an import may have
 abbrev pub TookSome : Option (List ℕ) → Option (List ℕ) → Type 0
 TookSome input input' = (took : List ℕ) × Consumes input input' took × (length took ≤ most_bytes + 1)
 
--- Rows that run at a moment, strictly or not: the office, and the output, before and after.
-module _ {S : Type 0} (answers : S → ℕ → Call → S → Type 0) (is_strict : Bool) (now : ℕ) (s t : S) where
+-- the text can't be read: there is one byte too many, or the input failed (`failed`) after fewer
+abbrev pub IsTextUnread : Type 0 → Option (List ℕ) → Option (List ℕ) → Type 0
+IsTextUnread failed input input' =
+    (some : TookSome input input') × ((length some.0 ≡ most_bytes + 1) ⊎ failed)
+
+-- Rows that run at a moment, strictly or not: the office, and the output, before and after, and what states that a write of it failed.
+module _ {S : Type 0} (answers : S → ℕ → Call → S → Type 0) (is_strict : Bool) (now : ℕ) (s t : S)
+    (output_failed : Type 0) where
   -- How the run of a text's rows ends: each ran, or there was a fault. In a strict run all replies are accepted; or only the last one is not, and
   -- no row after it ran.
   abbrev pub RowsEnd : Option (List ℕ) → Option (List ℕ) → List ℕ → Result Continuation Fault → Type 0
@@ -138,7 +144,7 @@ module _ {S : Type 0} (answers : S → ℕ → Call → S → Type 0) (is_strict
       × (ends : EndsRefused run.0.replies) × GivesReason refused ends.refused
   RowsEnd out out' text (Err Write) =
       (run : OneCut answers now s t out out' text)
-      × (IsTrue is_strict → AllByRecursion IsAccepted run.0.replies)
+      × (IsTrue is_strict → AllByRecursion IsAccepted run.0.replies) × output_failed
   RowsEnd out out' text (Err Memory) =
       (run : FirstRan answers now s t out out' text)
       × (IsTrue is_strict → AllByRecursion IsAccepted run.0.replies)
@@ -147,38 +153,41 @@ module _ {S : Type 0} (answers : S → ℕ → Call → S → Type 0) (is_strict
 -- How an import ends: the whole text was read, and its rows ran with this result; or the input failed, or there was no memory before the first
 -- row, and nothing ran.
 abbrev pub EndsBy
-    : {S R W A : Type 0} → (R → Option (List ℕ)) → S → S → R → R → W → W → (List ℕ → Result A Fault → Type 0)
+    : {S R W A : Type 0} → (R → Option (List ℕ)) → Type 0 → S → S → R → R → W → W
+    → (List ℕ → Result A Fault → Type 0)
     → Result A Fault → Type 0
-EndsBy remaining s t reader reader' writer writer' Ran result =
+EndsBy remaining input_failed s t reader reader' writer writer' Ran result =
     ((text : List ℕ) × TookAll (remaining reader) (remaining reader') text × Ran text result)
-    ⊎ (((result ≡ Err Read) ⊎ (result ≡ Err Memory)) × TookSome (remaining reader) (remaining reader')
+    ⊎ ((((result ≡ Err Read) × IsTextUnread input_failed (remaining reader) (remaining reader'))
+    ⊎ ((result ≡ Err Memory) × TookSome (remaining reader) (remaining reader')))
     × (t ≡ s) × (writer' ≡ writer))
 
 -- the run of a text's rows at a moment, which goes on after a refusal
 abbrev pub ImportRan
-    : {S : Type 0} → (S → ℕ → Call → S → Type 0) → ℕ → S → S → Option (List ℕ) → Option (List ℕ) → List ℕ
+    : {S : Type 0} → (S → ℕ → Call → S → Type 0) → ℕ → S → S → Type 0 → Option (List ℕ) → Option (List ℕ)
+    → List ℕ
     → Result (Unit {0}) Fault → Type 0
-ImportRan answers now s t out out' text result =
-    (ran : Result Continuation Fault) × RowsEnd answers false now s t out out' text ran
+ImportRan answers now s t output_failed out out' text result =
+    (ran : Result Continuation Fault) × RowsEnd answers false now s t output_failed out out' text ran
     × (result ≡ done_of ran)
 
 -- an import at a moment: the office, the reader and the writer before and after
 abbrev pub ImportEnds
-    : {S R W : Type 0} → (S → ℕ → Call → S → Type 0) → (R → Option (List ℕ)) → (W → Option (List ℕ)) → ℕ → S
-    → S → R → R → W → W
+    : {S R W : Type 0} → (S → ℕ → Call → S → Type 0) → (R → Option (List ℕ)) → (W → Option (List ℕ)) → Type 0
+    → Type 0 → ℕ → S → S → R → R → W → W
     → Result (Unit {0}) Fault → Type 0
-ImportEnds answers remaining contents now s t reader reader' writer writer' =
-    EndsBy remaining s t reader reader' writer writer'
-    (ImportRan answers now s t (contents writer) (contents writer'))
+ImportEnds answers remaining contents input_failed output_failed now s t reader reader' writer writer' =
+    EndsBy remaining input_failed s t reader reader' writer writer'
+    (ImportRan answers now s t output_failed (contents writer) (contents writer'))
 
 -- ---- the steps of an import
 
 -- how reading the text ends
-abbrev pub TextRead : Option (List ℕ) → Option (List ℕ) → Result (List ℕ) Fault → Type 0
-TextRead input input' (Ok text) = TookAll input input' text
-TextRead input input' (Err Read) = TookSome input input'
-TextRead input input' (Err Memory) = TookSome input input'
-TextRead input input' (Err other) = ⊥
+abbrev pub TextRead : Type 0 → Option (List ℕ) → Option (List ℕ) → Result (List ℕ) Fault → Type 0
+TextRead failed input input' (Ok text) = TookAll input input' text
+TextRead failed input input' (Err Read) = IsTextUnread failed input input'
+TextRead failed input input' (Err Memory) = TookSome input input'
+TextRead failed input input' (Err other) = ⊥
 
 -- a CSV reader that has read no row yet, does not take the first one for a header, and does not trim fields
 pub record IsAtStart (rows : Reader (Bor (List ℕ))) : Type 0 where

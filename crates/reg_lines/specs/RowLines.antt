@@ -3,7 +3,7 @@ use Rattle.std.specs.Prelude.{◌≡◌, ◌⊎◌, ℕ, Bool, ◌&&◌, List, [
 use Rattle.std.specs.List.{concat}
 use Rattle.reg_core.specs.declared.refusal.Fault.{Fault}
 use Rattle.reg_core.specs.declared.refusal.Fault.TheVariants.{Memory, Read}
-use Rattle.reg_lines.specs.Import.{AreCsvRows, Row, TookAll, TookSome, data_rows, is_header}
+use Rattle.reg_lines.specs.Import.{AreCsvRows, IsTextUnread, Row, TookAll, TookSome, data_rows, is_header}
 use Rattle.reg_lines.specs.LineReading.{four, register_by}
 
 -- the fields of a row, each after a space (the byte 32), if they spell a registration; else nothing
@@ -29,8 +29,10 @@ abbrev pub line_added : Bool → Row → List ℕ
 line_added first row = cond (first && is_header row) [] (row_line (four row))
 
 -- how `lines_of_rows` ends: the input was read to its end, and these are the lines of its rows; or a fault of the input, or out of memory
-abbrev pub ListingEnds : Option (List ℕ) → Option (List ℕ) → Result (List ℕ) Fault → Type 0
-ListingEnds input input' (Ok lines) = (text : List ℕ) × TookAll input input' text × ListsRows text lines
-ListingEnds input input' (Err Read) = TookSome input input'
-ListingEnds input input' (Err Memory) = TookSome input input' ⊎ ((text : List ℕ) × TookAll input input' text)
-ListingEnds input input' (Err other) = ⊥
+abbrev pub ListingEnds : Type 0 → Option (List ℕ) → Option (List ℕ) → Result (List ℕ) Fault → Type 0
+ListingEnds failed input input' (Ok lines) =
+    (text : List ℕ) × TookAll input input' text × ListsRows text lines
+ListingEnds failed input input' (Err Read) = IsTextUnread failed input input'
+ListingEnds failed input input' (Err Memory) =
+    TookSome input input' ⊎ ((text : List ℕ) × TookAll input input' text)
+ListingEnds failed input input' (Err other) = ⊥

@@ -60,12 +60,19 @@ IsWholeLine piece = (prefix : List ℕ) × (piece ≡ prefix ++ 10 ∷ []) × Ha
 abbrev pub IsCut : List ℕ → Type 0
 IsCut line = HasNoLf line × (0 < length line)
 
--- The input failed before the next line ran: there is a line after the 1,000,000th; or more bytes than a line may have, without an LF; or a
--- read failed after fewer bytes.
-abbrev pub InputFails : ℕ → List (List ℕ) → List ℕ → Type 0
-InputFails longest done left =
-    ((length done ≡ most_lines) × (0 < length left) × (length left ≤ longest))
-    ⊎ (((longest < length left) × HasNoLf left) ⊎ ((length left ≤ longest) × HasNoLf left))
+-- no line can be taken from these bytes: they have no LF, and are more than a line may have, or the input failed (`failed`) after them
+abbrev pub TakesNoLine : Type 0 → ℕ → List ℕ → Type 0
+TakesNoLine failed longest left = HasNoLf left × ((longest < length left) ⊎ failed)
+
+-- The input failed before the next line ran: there is a line after the 1,000,000th, or no line can be taken.
+abbrev pub InputFails : Type 0 → ℕ → List (List ℕ) → List ℕ → Type 0
+InputFails failed longest done left =
+    ((length done ≡ most_lines) × (0 < length left) × (length left ≤ longest)) ⊎ TakesNoLine failed longest left
+
+-- the lines run at the moments of a clock, which failed
+abbrev pub ClockFails : Type 0 → Bool → Type 0
+ClockFails failed true = failed
+ClockFails failed false = ⊥
 
 -- The effects of a run of lines, each of at most `longest` bytes: the input and the output before and after.
 module _ (longest : ℕ) (input input' out out' : Option (List ℕ)) where
@@ -118,9 +125,9 @@ module _ (longest : ℕ) (input input' out out' : Option (List ℕ)) where
 
   -- How a run of lines ends, at the moments of a clock or at their own. `runs s line reply t` is a line, without its line end, with its
   -- reply, where the office is `s` before and `t` after. A strict run ends after the first reply that is a refusal or a fault, and does not run a
-  -- last line without its LF. `Read` means that the input failed, or the clock.
+  -- last line without its LF. `Read` means that the input failed, or the clock, and `Write` that the output did.
   module _ {S : Type 0} (runs : S → List ℕ → List ℕ → S → Type 0) (s t : S)
-      (is_clocked is_strict : Bool) where
+      (input_failed clock_failed output_failed : Type 0) (is_strict : Bool) where
     -- these lines ran, in order, and these are their replies
     abbrev pub RanAll : List (List ℕ) → List (List ℕ) → Type 0
     RanAll done replies = Answered runs s (map line_of done) replies t
@@ -139,45 +146,49 @@ module _ (longest : ℕ) (input input' out out' : Option (List ℕ)) where
     RunEnds (Err Read) =
         (lines : FirstLines) × RanAll lines.done lines.replies
         × (IsTrue is_strict → AllByRecursion IsAccepted lines.replies)
-        × (InputFails longest lines.done lines.left ⊎ IsTrue is_clocked)
+        × (InputFails input_failed longest lines.done lines.left ⊎ clock_failed)
     RunEnds (Err Write) =
         (lines : CutLine) × (middle : S) × Answered runs s (map line_of lines.done) lines.replies middle
         × runs middle (line_of lines.piece) lines.reply t
-        × (IsTrue is_strict → AllByRecursion IsAccepted lines.replies)
+        × (IsTrue is_strict → AllByRecursion IsAccepted lines.replies) × output_failed
     RunEnds (Err other) = ⊥
 
--- A run of lines, with the office, the reader and the writer before and after.
+-- A run of lines, with the office, the reader and the writer before and after, and what states that a read or a write failed.
 module _ {S R W : Type 0} (answers : S → ℕ → Call → S → Type 0) (remaining : R → Option (List ℕ))
-    (contents : W → Option (List ℕ))
+    (contents : W → Option (List ℕ)) (input_failed output_failed : Type 0)
     (s t : S) (reader reader' : R) (writer writer' : W) where
   -- a run as above; if it is out of memory, nothing ran, nothing was read and nothing was written
-  abbrev pub InputEnds : (S → List ℕ → List ℕ → S → Type 0) → Bool → Bool → Result Ended Fault → Type 0
-  InputEnds runs is_clocked is_strict (Err Memory) = (t ≡ s) × (reader' ≡ reader) × (writer' ≡ writer)
-  InputEnds runs is_clocked is_strict result =
+  abbrev pub InputEnds
+      : (S → List ℕ → List ℕ → S → Type 0) → Type 0 → Bool → Bool → Result Ended Fault → Type 0
+  InputEnds runs clock_failed is_clocked is_strict (Err Memory) =
+      (t ≡ s) × (reader' ≡ reader) × (writer' ≡ writer)
+  InputEnds runs clock_failed is_clocked is_strict result =
       RunEnds (longest_of is_clocked) (remaining reader) (remaining reader') (contents writer)
-      (contents writer') runs s t is_clocked is_strict result
+      (contents writer') runs s t input_failed (ClockFails clock_failed is_clocked) output_failed is_strict result
 
   -- lines that run at the moments of a clock, or at their own; a strict run ends at the first refusal or fault
-  abbrev pub LinesEnd : (ℕ → Type 0) → Bool → Bool → Result Ended Fault → Type 0
-  LinesEnd reached is_clocked = InputEnds (LineReplies answers reached is_clocked) is_clocked
+  abbrev pub LinesEnd : (ℕ → Type 0) → Type 0 → Bool → Bool → Result Ended Fault → Type 0
+  LinesEnd reached clock_failed is_clocked =
+      InputEnds (LineReplies answers reached is_clocked) clock_failed is_clocked
 
   -- a script: lines that begin with their own moments; the run goes on after a refusal
   abbrev pub ScriptEnds : Result (Unit {0}) Fault → Type 0
   ScriptEnds result =
-      (ran : Result Ended Fault) × LinesEnd (λ now. ⊥) false false ran × (result ≡ done_of ran)
+      (ran : Result Ended Fault) × LinesEnd (λ now. ⊥) ⊥ false false ran × (result ≡ done_of ran)
 
 -- ---- the steps of a run
 
 -- Lines that run; the office, and the output, before and after.
 module _ {S : Type 0} (runs : S → List ℕ → List ℕ → S → Type 0) (s t : S) (out out' : Option (List ℕ)) where
   -- a line ran, and its reply, or a prefix of that, was written; or the clock could not be read, and it did not run
-  abbrev pub LineEnds : Bool → Bool → List ℕ → Result Continuation Fault → Type 0
-  LineEnds is_clocked is_strict line (Ok passed) =
+  abbrev pub LineEnds : Type 0 → Type 0 → Bool → List ℕ → Result Continuation Fault → Type 0
+  LineEnds clock_failed output_failed is_strict line (Ok passed) =
       (reply : List ℕ) × runs s line reply t × Appends out out' reply × RunContinues is_strict reply passed
-  LineEnds is_clocked is_strict line (Err Write) =
-      (reply : List ℕ) × runs s line reply t × AppendsPrefix out out' reply
-  LineEnds is_clocked is_strict line (Err Read) = IsTrue is_clocked × (t ≡ s) × Appends out out' []
-  LineEnds is_clocked is_strict line (Err other) = ⊥
+  LineEnds clock_failed output_failed is_strict line (Err Write) =
+      (reply : List ℕ) × runs s line reply t × AppendsPrefix out out' reply × output_failed
+  LineEnds clock_failed output_failed is_strict line (Err Read) =
+      clock_failed × (t ≡ s) × Appends out out' []
+  LineEnds clock_failed output_failed is_strict line (Err other) = ⊥
 
   -- The longest line; what is left of the input, before and after; and the bytes that were buffered.
   module _ (longest : ℕ) (input input' : Option (List ℕ)) (buffered : List ℕ) where
@@ -227,24 +238,26 @@ module _ {S : Type 0} (runs : S → List ℕ → List ℕ → S → Type 0) (s t
       pub wrote : AppendsPrefix out out' reply
 
     -- how a step ends: with a number of bytes at the start of the buffer, or with the run, or with a fault
-    abbrev pub NextEnds : Bool → Bool → List ℕ → Result Next Fault → Type 0
-    NextEnds is_clocked is_strict buffer (Ok (Held left)) =
+    abbrev pub NextEnds : Type 0 → Type 0 → Type 0 → Bool → List ℕ → Result Next Fault → Type 0
+    NextEnds input_failed clock_failed output_failed is_strict buffer (Ok (Held left)) =
         (left < length buffer) × (ran : RanWhole (take left buffer))
         × (IsTrue is_strict → IsAccepted ran.reply)
-    NextEnds is_clocked is_strict buffer (Ok (End Whole)) =
+    NextEnds input_failed clock_failed output_failed is_strict buffer (Ok (End Whole)) =
         (ran : RanLast) × ((0 < length (buffered ++ ran.took)) → IsFalse is_strict)
-    NextEnds is_clocked is_strict buffer (Ok (End (Refused refused))) =
+    NextEnds input_failed clock_failed output_failed is_strict buffer (Ok (End (Refused refused))) =
         (left : List ℕ) × (ran : RanWhole left) × IsTrue is_strict × (¬ IsAccepted ran.reply)
         × GivesReason refused ran.reply
-    NextEnds is_clocked is_strict buffer (Ok (End NoLineEnd)) =
+    NextEnds input_failed clock_failed output_failed is_strict buffer (Ok (End NoLineEnd)) =
         (ran : RanNone) × IsTrue is_strict × IsCut (buffered ++ ran.took) × IsAtEnd input'
-    NextEnds is_clocked is_strict buffer (Err Read) =
-        (ran : RanNone) × (HasNoLf (buffered ++ ran.took) ⊎ IsTrue is_clocked)
-    NextEnds is_clocked is_strict buffer (Err Write) = WritesPart
-    NextEnds is_clocked is_strict buffer (Err other) = ⊥
+    NextEnds input_failed clock_failed output_failed is_strict buffer (Err Read) =
+        (ran : RanNone) × (TakesNoLine input_failed longest (buffered ++ ran.took) ⊎ clock_failed)
+    NextEnds input_failed clock_failed output_failed is_strict buffer (Err Write) =
+        WritesPart × output_failed
+    NextEnds input_failed clock_failed output_failed is_strict buffer (Err other) = ⊥
 
--- the input is at its end and nothing was read; or a byte was read; or a read failed
-abbrev pub EndOrMore : Option (List ℕ) → Option (List ℕ) → Result Ended Fault → Type 0
-EndOrMore input input' (Ok ended) = (ended ≡ Whole) × Consumes input input' [] × IsAtEnd input'
-EndOrMore input input' (Err fault) =
+-- the input is at its end and nothing was read; or a byte was read; or a read failed (`failed`)
+abbrev pub EndOrMore : Type 0 → Option (List ℕ) → Option (List ℕ) → Result Ended Fault → Type 0
+EndOrMore failed input input' (Ok ended) = (ended ≡ Whole) × Consumes input input' [] × IsAtEnd input'
+EndOrMore failed input input' (Err fault) =
     (fault ≡ Read) × (took : List ℕ) × Consumes input input' took × (length took ≤ 1)
+    × ((0 < length took) ⊎ failed)

@@ -23,24 +23,25 @@ ended_part text = reverse (skip_within (reverse text))
 
 -- how the run of a text ends: only the part up to its last line end runs, and the text ends there, or has more bytes (`NoLineEnd`)
 abbrev pub StrictRan
-    : {S : Type 0} → (S → ℕ → Call → S → Type 0) → ℕ → S → S → Option (List ℕ) → Option (List ℕ) → List ℕ
+    : {S : Type 0} → (S → ℕ → Call → S → Type 0) → ℕ → S → S → Type 0 → Option (List ℕ) → Option (List ℕ)
+    → List ℕ
     → Result Ended Fault → Type 0
-StrictRan answers now s t out out' text (Ok Whole) =
-    RowsEnd answers true now s t out out' (ended_part text) (Ok passed.On)
+StrictRan answers now s t output_failed out out' text (Ok Whole) =
+    RowsEnd answers true now s t output_failed out out' (ended_part text) (Ok passed.On)
     × (length (ended_part text) ≡ length text)
-StrictRan answers now s t out out' text (Ok NoLineEnd) =
-    RowsEnd answers true now s t out out' (ended_part text) (Ok passed.On)
+StrictRan answers now s t output_failed out out' text (Ok NoLineEnd) =
+    RowsEnd answers true now s t output_failed out out' (ended_part text) (Ok passed.On)
     × ¬ (length (ended_part text) ≡ length text)
-StrictRan answers now s t out out' text (Ok (Refused refused)) =
-    RowsEnd answers true now s t out out' (ended_part text) (Ok (passed.Refused refused))
-StrictRan answers now s t out out' text (Err fault) =
-    RowsEnd answers true now s t out out' (ended_part text) (Err fault)
+StrictRan answers now s t output_failed out out' text (Ok (Refused refused)) =
+    RowsEnd answers true now s t output_failed out out' (ended_part text) (Ok (passed.Refused refused))
+StrictRan answers now s t output_failed out out' text (Err fault) =
+    RowsEnd answers true now s t output_failed out out' (ended_part text) (Err fault)
 
 -- a strict import at a moment: the office, the reader and the writer before and after
 abbrev pub StrictEnds
-    : {S R W : Type 0} → (S → ℕ → Call → S → Type 0) → (R → Option (List ℕ)) → (W → Option (List ℕ)) → ℕ → S
-    → S → R → R → W → W
+    : {S R W : Type 0} → (S → ℕ → Call → S → Type 0) → (R → Option (List ℕ)) → (W → Option (List ℕ)) → Type 0
+    → Type 0 → ℕ → S → S → R → R → W → W
     → Result Ended Fault → Type 0
-StrictEnds answers remaining contents now s t reader reader' writer writer' =
-    EndsBy remaining s t reader reader' writer writer'
-    (StrictRan answers now s t (contents writer) (contents writer'))
+StrictEnds answers remaining contents input_failed output_failed now s t reader reader' writer writer' =
+    EndsBy remaining input_failed s t reader reader' writer writer'
+    (StrictRan answers now s t output_failed (contents writer) (contents writer'))

@@ -1,13 +1,12 @@
 //! The outcome of a line, its reply, and whether a run goes on after it.
 
-ghost use Rattle.std.specs.Prelude.{◌≡◌, ◌↔◌, ◌≤◌, [], IsTrue, vec_capacity};
+ghost use Rattle.std.specs.Prelude.{◌≡◌, ◌↔◌, ◌≤◌, [], IsTrue, OnErr, vec_capacity};
 ghost use Rattle.reg_lines.specs.Accepted.{IsAccepted, WritesReply, Wrote, done_of};
 ghost use Rattle.reg_lines.specs.Answer.{accepts, refused_of, reply_of};
 
 use crate::reply::ReplyText;
 use reg_core::{Command, Fault, Outcome, Query, Refusal};
-use reg_io::{WriteFault, write_whole};
-use std::io::Write;
+use reg_io::{Sink, WriteFault, write_whole};
 
 /// What a line asks of the office.
 #[derive(Clone, Copy)]
@@ -103,8 +102,9 @@ impl Answered {
         }
     }
 
-    fn write<W: Write>(&self, writer: &mut W) -> Result<(), WriteFault>
-        ensures { Wrote (W.contents writer.old) (W.contents writer.new) (reply_of self.now) result }
+    fn write<W: Sink>(&self, writer: &mut W) -> Result<(), WriteFault>
+        ensures wrote { Wrote (W.contents writer.old) (W.contents writer.new) (reply_of self.now) result }
+        ensures fails { OnErr result W.failed }
     {
         match self {
             Answered::Completed(_, outcome) => write_whole(
@@ -116,14 +116,15 @@ impl Answered {
     }
 
     /// Writes the reply, and returns whether the run goes on.
-    pub(crate) fn write_reply<W: Write>(
+    pub(crate) fn write_reply<W: Sink>(
         &self,
         writer: &mut W,
         is_strict: bool,
     ) -> Result<Continuation, WriteFault>
         requires { IsTrue (accepts self.now) ↔ IsAccepted (reply_of self.now) }
-        ensures { WritesReply is_strict (W.contents writer.old) (W.contents writer.new) (reply_of self.now)
-            result }
+        ensures said { WritesReply is_strict (W.contents writer.old) (W.contents writer.new)
+            (reply_of self.now) result }
+        ensures fails { OnErr result W.failed }
     {
         self.write(writer)?;
         if is_strict && !self.is_accepted() {

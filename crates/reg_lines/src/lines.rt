@@ -1,20 +1,19 @@
 //! A run of lines: lines in, reply lines out.
 
-ghost use Rattle.std.specs.Prelude.{◌≡◌, ◌+◌, ◌≤◌, length, take, IfErr, IfOk, IsTrue, OnErr};
+ghost use Rattle.std.specs.Prelude.{◌≡◌, ◌+◌, ◌≤◌, length, take, IfErr, IfOk, OnErr};
 ghost use Rattle.reg_office_api.specs.Calls.{LeadsIn};
 ghost use Rattle.reg_lines.specs.Answer.{HostLines, LineComesTo, TimedComesTo};
 ghost use Rattle.reg_lines.specs.ByCalls.{LineCalls, Lines};
-ghost use Rattle.reg_lines.specs.Script.{EndOrMore, LineEnds, LinesEnd, NextEnds, RunEnds, longest_of};
+ghost use Rattle.reg_lines.specs.Script.{ClockFails, EndOrMore, LineEnds, LinesEnd, NextEnds, RunEnds, longest_of};
 
 use crate::answered::{Answered, Continuation, Ended};
 use crate::host::Host;
 use crate::moments::{MOMENT, take_moment, without_end};
 use crate::run::{run_line, unreadable};
 use reg_core::Fault;
-use reg_io::{Reached, fill_to_delimiter};
+use reg_io::{Reached, Sink, Source, fill_to_delimiter};
 use reg_office_api::Office;
 use std::alloc::Global;
-use std::io::{Read, Write};
 
 /// The most bytes of a line before its LF; a CR counts.
 pub const LONGEST_LINE: usize = 8192;
@@ -41,7 +40,7 @@ enum Next {
 ///
 /// The errors of [`crate::run_script`]. A line that runs at the moment of the clock has at most 8,171 bytes. [`Fault::Read`] if the clock
 /// can't be read: then the line did not run.
-pub fn run_lines<R: Read, W: Write, O: Office, H: Host>(
+pub fn run_lines<R: Source, W: Sink, O: Office, H: Host>(
     alloc: Global,
     reader: &mut R,
     writer: &mut W,
@@ -50,11 +49,14 @@ pub fn run_lines<R: Read, W: Write, O: Office, H: Host>(
     is_strict: bool,
 ) -> Result<Ended, Fault>
     ensures ends { LeadsIn O.Office
-        (λ signatory before after. LinesEnd (Lines O.signs signatory) R.remaining W.contents before after
-        reader.old reader.new writer.old writer.new H.clock_reached (H.clocked host.now) is_strict result)
+        (λ signatory before after.
+        LinesEnd (Lines O.signs signatory) R.remaining W.contents R.failed W.failed before after
+        reader.old reader.new writer.old writer.new
+        H.clock_reached H.clock_failed (H.clocked host.now) is_strict result)
         office.old office.new }
-    ensures by_calls { LinesEnd (LineCalls O.Office) R.remaining W.contents office.old office.new
-        reader.old reader.new writer.old writer.new H.clock_reached (H.clocked host.now) is_strict result }
+    ensures by_calls { LinesEnd (LineCalls O.Office) R.remaining W.contents R.failed W.failed
+        office.old office.new reader.old reader.new writer.old writer.new
+        H.clock_reached H.clock_failed (H.clocked host.now) is_strict result }
 {
     let room = buffer_size(host.is_clocked());
     match vec![in alloc; 0; room] {
@@ -74,7 +76,7 @@ fn buffer_size(is_clocked: bool) -> usize
 }
 
 /// Runs each line of an input. `buffer` has room for the longest line and one byte more.
-fn run_all<R: Read, W: Write, O: Office, H: Host>(
+fn run_all<R: Source, W: Sink, O: Office, H: Host>(
     alloc: Global,
     reader: &mut R,
     writer: &mut W,
@@ -87,7 +89,7 @@ fn run_all<R: Read, W: Write, O: Office, H: Host>(
     ensures { RunEnds (longest_of (H.clocked host.now)) (R.remaining reader.old) (R.remaining reader.new)
         (W.contents writer.old) (W.contents writer.new) (HostLines O.Office H.Host host.now)
         office.old office.new
-        (H.clocked host.now) is_strict result }
+        R.failed (ClockFails H.clock_failed (H.clocked host.now)) W.failed is_strict result }
 {
     let mut buffered = 0;
     for _ in 0..MOST_LINES {
@@ -106,7 +108,7 @@ fn run_all<R: Read, W: Write, O: Office, H: Host>(
 }
 
 /// Runs the next line, and returns whether more lines may follow.
-fn run_next<R: Read, W: Write, O: Office, H: Host>(
+fn run_next<R: Source, W: Sink, O: Office, H: Host>(
     alloc: Global,
     reader: &mut R,
     writer: &mut W,
@@ -121,7 +123,7 @@ fn run_next<R: Read, W: Write, O: Office, H: Host>(
     ensures { NextEnds (HostLines O.Office H.Host host.now) office.old office.new
         (W.contents writer.old) (W.contents writer.new) (longest_of (H.clocked host.now))
         (R.remaining reader.old) (R.remaining reader.new) (take buffered buffer.old)
-        (H.clocked host.now) is_strict buffer.new result }
+        R.failed (ClockFails H.clock_failed (H.clocked host.now)) W.failed is_strict buffer.new result }
 {
     match fill_to_delimiter(reader, buffer, buffered, b"\n") {
         Ok(Reached::Delimiter { end, buffered }) => {
@@ -151,7 +153,7 @@ fn run_next<R: Read, W: Write, O: Office, H: Host>(
 }
 
 /// Runs a line, writes its reply, and returns whether the run goes on.
-fn answer_line<W: Write, O: Office, H: Host>(
+fn answer_line<W: Sink, O: Office, H: Host>(
     alloc: Global,
     writer: &mut W,
     office: &mut O,
@@ -160,7 +162,8 @@ fn answer_line<W: Write, O: Office, H: Host>(
     line: &[u8],
 ) -> Result<Continuation, Fault>
     ensures { LineEnds (HostLines O.Office H.Host host.now) office.old office.new
-        (W.contents writer.old) (W.contents writer.new) (H.clocked host.now) is_strict line.now result }
+        (W.contents writer.old) (W.contents writer.new)
+        (ClockFails H.clock_failed (H.clocked host.now)) W.failed is_strict line.now result }
 {
     let answered = match run_by(alloc, office, host, line) {
         Ok(answered) => answered,
@@ -183,7 +186,8 @@ fn run_by<O: Office, H: Host>(
     ensures comes { IfOk result (λ answered.
         LineComesTo (LineCalls O.Office) H.clock_reached (H.clocked host.now)
         office.old line.now answered office.new) }
-    ensures clock { IfErr result (λ fault. (fault ≡ Fault.Read) × IsTrue (H.clocked host.now)) }
+    ensures clock { IfErr result (λ fault.
+        (fault ≡ Fault.Read) × ClockFails H.clock_failed (H.clocked host.now)) }
     ensures err { OnErr result (office.new ≡ office.old) }
 {
     if !host.is_clocked() {
@@ -205,12 +209,12 @@ fn run_at_own_moment<O: Office>(alloc: Global, office: &mut O, line: &[u8]) -> A
 }
 
 /// Checks that the input is at its end: reads one byte, and fails if there is one.
-fn end_of_input<R: Read>(reader: &mut R, room: &mut [u8]) -> Result<Ended, Fault>
+fn end_of_input<R: Source>(reader: &mut R, room: &mut [u8]) -> Result<Ended, Fault>
     requires { length room.old ≡ 1 }
-    ensures { EndOrMore (R.remaining reader.old) (R.remaining reader.new) result }
+    ensures { EndOrMore R.failed (R.remaining reader.old) (R.remaining reader.new) result }
 {
-    match fill_to_delimiter(reader, room, 0, b"\n") {
-        Ok(Reached::End { .. }) => Ok(Ended::Whole),
-        Ok(Reached::Delimiter { .. }) | Ok(Reached::Full) | Err(_) => Err(Fault::Read),
+    match reader.read_once(room) {
+        Ok(0) => Ok(Ended::Whole),
+        Ok(_) | Err(_) => Err(Fault::Read),
     }
 }

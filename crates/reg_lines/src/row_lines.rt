@@ -10,8 +10,8 @@ use crate::line::read_registration;
 use crate::rows::{four_fields, is_header, read_text, rows_of};
 use csv::{ByteRecord, Reader};
 use reg_core::Fault;
+use reg_io::Source;
 use std::alloc::{AllocError, Global};
-use std::io::Read;
 
 /// The line for each row of a text, in order: `register` and its four fields, without a moment. A first row
 /// `order,serial,notBefore,notAfter` is skipped. A row that is no registration gives `register` alone, which is refused
@@ -20,8 +20,8 @@ use std::io::Read;
 /// # Errors
 ///
 /// [`Fault::Read`] if a read fails or there are more than 16,777,216 bytes; [`Fault::Memory`].
-pub fn lines_of_rows<R: Read>(alloc: Global, reader: &mut R) -> Result<Vec<u8>, Fault>
-    ensures { ListingEnds (R.remaining reader.old) (R.remaining reader.new)
+pub fn lines_of_rows<R: Source>(alloc: Global, reader: &mut R) -> Result<Vec<u8>, Fault>
+    ensures { ListingEnds R.failed (R.remaining reader.old) (R.remaining reader.new)
         (result_map_both (λ lines. lines.items) (λ fault. fault) result) }
 {
     match read_text(alloc, reader) {

@@ -1,6 +1,6 @@
 //! Imports rows, and writes a reply line for each.
 
-ghost use Rattle.std.specs.Prelude.{◌≡◌, ◌==◌, ◌&&◌, ℕ, List, option_map, is_some};
+ghost use Rattle.std.specs.Prelude.{◌≡◌, ◌==◌, ◌&&◌, ℕ, List, OnErr, option_map, is_some};
 ghost use Rattle.std.specs.Result.{result_map_both};
 ghost use Rattle.csv.specs.Records.{fields_of};
 ghost use Rattle.reg_office_api.specs.Calls.{LeadsIn};
@@ -13,10 +13,9 @@ use crate::line::read_registration;
 use crate::run::unreadable;
 use csv::{ByteRecord, Reader, ReaderBuilder};
 use reg_core::{Command, Fault, Moment};
-use reg_io::WriteFault;
+use reg_io::{Sink, Source, WriteFault};
 use reg_office_api::Office;
 use std::alloc::Global;
-use std::io::{Read, Write};
 
 /// The most bytes of an import.
 pub const MOST_BYTES: usize = 16_777_216;
@@ -31,7 +30,7 @@ const PIECE: usize = 4096;
 /// [`Fault::Read`] if a read fails or there are more than 16,777,216 bytes: nothing ran. [`Fault::Write`] if the output
 /// fails in a reply, whose row ran. [`Fault::Memory`] if out of memory for the text or for a row: the rows before it
 /// ran, and their replies were written.
-pub fn import<R: Read, W: Write, O: Office>(
+pub fn import<R: Source, W: Sink, O: Office>(
     alloc: Global,
     reader: &mut R,
     writer: &mut W,
@@ -40,11 +39,11 @@ pub fn import<R: Read, W: Write, O: Office>(
 ) -> Result<(), Fault>
     ensures ends { LeadsIn O.Office
         (λ signatory before after.
-        ImportEnds (Lines O.signs signatory) R.remaining W.contents now before after
+        ImportEnds (Lines O.signs signatory) R.remaining W.contents R.failed W.failed now before after
         reader.old reader.new writer.old writer.new result)
         office.old office.new }
-    ensures calls { ImportEnds (LineCalls O.Office) R.remaining W.contents now office.old office.new
-        reader.old reader.new writer.old writer.new result }
+    ensures calls { ImportEnds (LineCalls O.Office) R.remaining W.contents R.failed W.failed
+        now office.old office.new reader.old reader.new writer.old writer.new result }
 {
     match read_text(alloc, reader) {
         Ok(text) => done(run_rows(alloc, writer, now, office, false, &text)),
@@ -52,15 +51,15 @@ pub fn import<R: Read, W: Write, O: Office>(
     }
 }
 
-pub(crate) fn read_text<R: Read>(alloc: Global, reader: &mut R) -> Result<Vec<u8>, Fault>
-    ensures { TextRead (R.remaining reader.old) (R.remaining reader.new)
+pub(crate) fn read_text<R: Source>(alloc: Global, reader: &mut R) -> Result<Vec<u8>, Fault>
+    ensures { TextRead R.failed (R.remaining reader.old) (R.remaining reader.new)
         (result_map_both (λ text. text.items) (λ fault. fault) result) }
 {
     let mut text = Vec::new(alloc);
     let mut piece = [0; PIECE];
     while text.len() <= MOST_BYTES {
         let room = (MOST_BYTES + 1 - text.len()).min(PIECE);
-        match reader.read(&mut piece[..room]) {
+        match reader.read_once(&mut piece[..room]) {
             Ok(0) => return Ok(text),
             Ok(count) => match text.extend_from_slice(&piece[..count]) {
                 Ok(()) => {}
@@ -84,7 +83,7 @@ pub(crate) fn rows_of(alloc: Global, text: &[u8]) -> Reader<&[u8]>
 }
 
 /// Runs each row of a text; a strict run ends at the first reply that is a refusal or a fault.
-pub(crate) fn run_rows<W: Write, O: Office>(
+pub(crate) fn run_rows<W: Sink, O: Office>(
     alloc: Global,
     writer: &mut W,
     now: Moment,
@@ -92,7 +91,7 @@ pub(crate) fn run_rows<W: Write, O: Office>(
     is_strict: bool,
     text: &[u8],
 ) -> Result<Continuation, Fault>
-    ensures { RowsEnd (LineCalls O.Office) is_strict now office.old office.new
+    ensures { RowsEnd (LineCalls O.Office) is_strict now office.old office.new W.failed
         (W.contents writer.old) (W.contents writer.new) text.now result }
 {
     let mut rows = rows_of(alloc, text);
@@ -101,7 +100,7 @@ pub(crate) fn run_rows<W: Write, O: Office>(
 }
 
 /// Runs each row of a reader that has read none yet, each in the same `ByteRecord`.
-fn run_each<W: Write, O: Office>(
+fn run_each<W: Sink, O: Office>(
     alloc: Global,
     writer: &mut W,
     now: Moment,
@@ -112,7 +111,7 @@ fn run_each<W: Write, O: Office>(
 ) -> Result<Continuation, Fault>
     requires { IsAtStart rows.old }
     ensures { (text : List ℕ) → ReadsText rows.old text
-        → RowsEnd (LineCalls O.Office) is_strict now office.old office.new
+        → RowsEnd (LineCalls O.Office) is_strict now office.old office.new W.failed
         (W.contents writer.old) (W.contents writer.new) text result }
 {
     for index in 0..u64::MAX {
@@ -132,7 +131,7 @@ fn run_each<W: Write, O: Office>(
 }
 
 /// Runs a row, if it is not the header, which only the first row can be. Returns whether the run goes on.
-fn take_row<W: Write, O: Office>(
+fn take_row<W: Sink, O: Office>(
     alloc: Global,
     writer: &mut W,
     now: Moment,
@@ -141,8 +140,9 @@ fn take_row<W: Write, O: Office>(
     row: &ByteRecord,
     first: bool,
 ) -> Result<Continuation, WriteFault>
-    ensures { TookRow (LineCalls O.Office) is_strict now office.old office.new first (fields_of row.now)
+    ensures took { TookRow (LineCalls O.Office) is_strict now office.old office.new first (fields_of row.now)
         (W.contents writer.old) (W.contents writer.new) result }
+    ensures fails { OnErr result W.failed }
 {
     if first && is_header(row) {
         return Ok(Continuation::On);
@@ -150,7 +150,7 @@ fn take_row<W: Write, O: Office>(
     run_row(alloc, writer, now, office, is_strict, row)
 }
 
-fn run_row<W: Write, O: Office>(
+fn run_row<W: Sink, O: Office>(
     alloc: Global,
     writer: &mut W,
     now: Moment,
@@ -158,8 +158,9 @@ fn run_row<W: Write, O: Office>(
     is_strict: bool,
     row: &ByteRecord,
 ) -> Result<Continuation, WriteFault>
-    ensures { RanRow (LineCalls O.Office) is_strict now office.old office.new (fields_of row.now)
+    ensures ran { RanRow (LineCalls O.Office) is_strict now office.old office.new (fields_of row.now)
         (W.contents writer.old) (W.contents writer.new) result }
+    ensures fails { OnErr result W.failed }
 {
     match read_row(row) {
         Some(command) => {

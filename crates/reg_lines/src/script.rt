@@ -9,9 +9,9 @@ use crate::answered::{Answered, done};
 use crate::host::Host;
 use crate::lines::run_lines;
 use reg_core::{Fault, Moment};
+use reg_io::{Sink, Source};
 use reg_office_api::Office;
 use std::alloc::Global;
-use std::io::{Read, Write};
 
 /// The host of a script whose lines have moments of their own. It observes nothing.
 struct NoHost;
@@ -22,6 +22,8 @@ impl Host for NoHost {
     ghost clocked = { λ host. false };
 
     ghost clock_reached = { λ now. Unit {0} };
+
+    ghost clock_failed = { Unit {0} };
 
     fn is_clocked(&self) -> bool {
         false
@@ -44,25 +46,26 @@ impl Host for NoHost {
 /// [`Fault::Read`] if a read fails, a line has more than 8,192 bytes, or there is a line after the 1,000,000th: the lines
 /// before it ran, and their replies were written. [`Fault::Write`] if the output fails in a reply, whose line ran.
 /// [`Fault::Memory`] if there is no memory for one line: nothing ran, nothing was read and nothing was written.
-pub fn run_script<R: Read, W: Write, O: Office>(
+pub fn run_script<R: Source, W: Sink, O: Office>(
     alloc: Global,
     reader: &mut R,
     writer: &mut W,
     office: &mut O,
 ) -> Result<(), Fault>
     ensures ends { LeadsIn O.Office
-        (λ signatory before after. ScriptEnds (Lines O.signs signatory) R.remaining W.contents before after
+        (λ signatory before after.
+        ScriptEnds (Lines O.signs signatory) R.remaining W.contents R.failed W.failed before after
         reader.old reader.new writer.old writer.new result)
         office.old office.new }
-    ensures by_calls { ScriptEnds (LineCalls O.Office) R.remaining W.contents office.old office.new
-        reader.old reader.new writer.old writer.new result }
+    ensures by_calls { ScriptEnds (LineCalls O.Office) R.remaining W.contents R.failed W.failed
+        office.old office.new reader.old reader.new writer.old writer.new result }
 {
     run_script_for(alloc, reader, writer, office, &NoHost)
 }
 
 /// As [`run_script`], for a host without a clock, which observes the result of each line.
 /// Errors are those of [`run_script`].
-pub fn run_script_for<R: Read, W: Write, O: Office, H: Host>(
+pub fn run_script_for<R: Source, W: Sink, O: Office, H: Host>(
     alloc: Global,
     reader: &mut R,
     writer: &mut W,
@@ -71,11 +74,12 @@ pub fn run_script_for<R: Read, W: Write, O: Office, H: Host>(
 ) -> Result<(), Fault>
     requires { IsFalse (H.clocked host.now) }
     ensures ends { LeadsIn O.Office
-        (λ signatory before after. ScriptEnds (Lines O.signs signatory) R.remaining W.contents before after
+        (λ signatory before after.
+        ScriptEnds (Lines O.signs signatory) R.remaining W.contents R.failed W.failed before after
         reader.old reader.new writer.old writer.new result)
         office.old office.new }
-    ensures by_calls { ScriptEnds (LineCalls O.Office) R.remaining W.contents office.old office.new
-        reader.old reader.new writer.old writer.new result }
+    ensures by_calls { ScriptEnds (LineCalls O.Office) R.remaining W.contents R.failed W.failed
+        office.old office.new reader.old reader.new writer.old writer.new result }
 {
     done(run_lines(alloc, reader, writer, office, host, false))
 }

@@ -8,14 +8,14 @@ ghost use Rattle.reg_lines.specs.Strict.{StrictEnds, StrictRan, ended_part, is_w
 use crate::answered::{Continuation, Ended};
 use crate::rows::{read_text, run_rows};
 use reg_core::{Fault, Moment};
+use reg_io::{Sink, Source};
 use reg_office_api::Office;
 use std::alloc::Global;
-use std::io::{Read, Write};
 
 /// Registers each row of a text as [`crate::import`] does, up to the first reply that is a refusal or a fault. A last row
 /// without its line end, a CR or an LF, does not run.
 /// Errors are those of [`crate::import`].
-pub fn import_strictly<R: Read, W: Write, O: Office>(
+pub fn import_strictly<R: Source, W: Sink, O: Office>(
     alloc: Global,
     reader: &mut R,
     writer: &mut W,
@@ -24,11 +24,11 @@ pub fn import_strictly<R: Read, W: Write, O: Office>(
 ) -> Result<Ended, Fault>
     ensures ends { LeadsIn O.Office
         (λ signatory before after.
-        StrictEnds (Lines O.signs signatory) R.remaining W.contents now before after
+        StrictEnds (Lines O.signs signatory) R.remaining W.contents R.failed W.failed now before after
         reader.old reader.new writer.old writer.new result)
         office.old office.new }
-    ensures calls { StrictEnds (LineCalls O.Office) R.remaining W.contents now office.old office.new
-        reader.old reader.new writer.old writer.new result }
+    ensures calls { StrictEnds (LineCalls O.Office) R.remaining W.contents R.failed W.failed
+        now office.old office.new reader.old reader.new writer.old writer.new result }
 {
     match read_text(alloc, reader) {
         Ok(text) => run_ended(alloc, writer, now, office, &text),
@@ -37,14 +37,14 @@ pub fn import_strictly<R: Read, W: Write, O: Office>(
 }
 
 /// Runs each row of a text up to its last line end.
-fn run_ended<W: Write, O: Office>(
+fn run_ended<W: Sink, O: Office>(
     alloc: Global,
     writer: &mut W,
     now: Moment,
     office: &mut O,
     text: &[u8],
 ) -> Result<Ended, Fault>
-    ensures { StrictRan (LineCalls O.Office) now office.old office.new
+    ensures { StrictRan (LineCalls O.Office) now office.old office.new W.failed
         (W.contents writer.old) (W.contents writer.new) text.now result }
 {
     let ended = ended_part(text);

@@ -15,30 +15,30 @@ pub returns-in-Err-take_row : goal.returns-in-Err-take_row
 returns-in-Err-take_row g c = λ text reads.
     let so_far = c.loop-index.invariant in
     let read = rw c.in-Ok-true.field-0-test at (c.in-Ok-true.ensures.reads so_far.untrimmed so_far.ready) in
-    one_cut (LineCalls g.O.Office) c.args.is_strict c.args.now _ _ _ _ _ _ text (λ (s : Bor (List ℕ)). Some s.now) c.loop-index.rows c.read_byte_record.new.self _ c.loop-index.index
-    c.in-Err-take_row.field-0 (so_far.going text reads) so_far.config read c.in-Err-take_row.ensures
+    one_cut (LineCalls g.O.Office) c.args.is_strict c.args.now _ _ _ g.W.Sink.failed _ _ _ text (λ (s : Bor (List ℕ)). Some s.now) c.loop-index.rows c.read_byte_record.new.self _ c.loop-index.index
+    c.in-Err-take_row.field-0 (so_far.going text reads) so_far.config read c.in-Err-take_row.ensures.took c.in-Err-take_row.ensures.fails
 
 pub returns-in-Ok-Refused : goal.returns-in-Ok-Refused
 returns-in-Ok-Refused g c = λ text reads.
     let so_far = c.loop-index.invariant in
     let read = rw c.in-Ok-true.field-0-test at (c.in-Ok-true.ensures.reads so_far.untrimmed so_far.ready) in
-    one_refused (LineCalls g.O.Office) c.args.is_strict c.args.now _ _ c.take_row.new.office _ _ _ text (λ (s : Bor (List ℕ)). Some s.now) c.loop-index.rows c.read_byte_record.new.self _ c.loop-index.index
-    c.in-Ok-Refused.refused (so_far.going text reads) so_far.config read (rw c.in-Ok-Refused.field-0-is at c.in-Ok-Refused.ensures)
+    one_refused (LineCalls g.O.Office) c.args.is_strict c.args.now _ _ c.take_row.new.office g.W.Sink.failed _ _ _ text (λ (s : Bor (List ℕ)). Some s.now) c.loop-index.rows c.read_byte_record.new.self _ c.loop-index.index
+    c.in-Ok-Refused.refused (so_far.going text reads) so_far.config read (rw c.in-Ok-Refused.field-0-is at c.in-Ok-Refused.ensures.took)
 
 pub returns-in-Ok-false : goal.returns-in-Ok-false
 returns-in-Ok-false g c = λ text reads.
     let so_far = c.loop-index.invariant in
     let read = rw c.in-Ok-false.field-0-test at (c.in-Ok-false.ensures.reads so_far.untrimmed so_far.ready) in
-    all_ran (LineCalls g.O.Office) c.args.is_strict c.args.now _ _ c.loop-index.office _ _ (g.W.Write.contents c.loop-index.writer) text (λ (s : Bor (List ℕ)). Some s.now) c.loop-index.rows c.read_byte_record.new.self _ c.loop-index.index
+    all_ran (LineCalls g.O.Office) c.args.is_strict c.args.now _ _ c.loop-index.office g.W.Sink.failed _ _ (g.W.Write.contents c.loop-index.writer) text (λ (s : Bor (List ℕ)). Some s.now) c.loop-index.rows c.read_byte_record.new.self _ c.loop-index.index
     (so_far.going text reads) so_far.config read
 
 pub returns-in-Err : goal.returns-in-Err
 returns-in-Err g c = λ text reads.
-    first_ran (LineCalls g.O.Office) c.args.is_strict c.args.now _ _ _ _ text _ _ _ (c.loop-index.invariant.going text reads)
+    first_ran (LineCalls g.O.Office) c.args.is_strict c.args.now _ _ g.W.Sink.failed _ _ text _ _ _ (c.loop-index.invariant.going text reads)
 
 pub returns : goal.returns
 returns g c = λ text reads.
-    first_ran (LineCalls g.O.Office) c.args.is_strict c.args.now _ _ _ _ text _ _ _ (c.loop-index.invariant.going text reads)
+    first_ran (LineCalls g.O.Office) c.args.is_strict c.args.now _ _ g.W.Sink.failed _ _ text _ _ _ (c.loop-index.invariant.going text reads)
 
 pub loop-index-preserved : goal.loop-index-preserved
 loop-index-preserved g c =
@@ -49,6 +49,6 @@ loop-index-preserved g c =
       ready = inl (c.in-Ok-true.ensures.ready so_far.untrimmed);
       config = read.2 ∙ so_far.config;
       going = λ text reads.
-          going_more (LineCalls g.O.Office) c.args.is_strict c.args.now _ _ _ _ _ _ text (λ (s : Bor (List ℕ)). Some s.now) c.loop-index.rows c.read_byte_record.new.self _ c.loop-index.index
-          (so_far.going text reads) so_far.config read (rw c.in-Ok-On.field-0-is at c.in-Ok-On.ensures);
+          going_more (LineCalls g.O.Office) c.args.is_strict c.args.now _ _ _ g.W.Sink.failed _ _ _ text (λ (s : Bor (List ℕ)). Some s.now) c.loop-index.rows c.read_byte_record.new.self _ c.loop-index.index
+          (so_far.going text reads) so_far.config read (rw c.in-Ok-On.field-0-is at c.in-Ok-On.ensures.took);
     }

@@ -13,16 +13,16 @@ write_reply-requires g c = outcome_agrees (Command c.in-Some.command) c.run_one-
 pub write_reply-requires-in-None : goal.write_reply-requires-in-None
 write_reply-requires-in-None g c = rw c.unreadable.ensures (outcome_agrees Nothing (Err (Refused Syntax)))
 
-pub returns-in-Some : goal.returns-in-Some
-returns-in-Some g c = record {
+pub returns-in-Some-clause-ran : goal.returns-in-Some-clause-ran
+returns-in-Some-clause-ran g c = record {
   reply = _;
   replied = inl (c.in-Some.command, c.run_one-outcome.result, row_spelled _ _ (sym c.in-Some.ensures), (c.run_one-outcome.ensures.runs, c.run_one-outcome.ensures.counts), refl);
-  said = c.write_reply.ensures;
+  said = c.write_reply.ensures.said;
 }
 
-pub returns-in-None : goal.returns-in-None
-returns-in-None g c = record {
+pub returns-in-None-clause-ran : goal.returns-in-None-clause-ran
+returns-in-None-clause-ran g c = record {
   reply = reply_of c.unreadable.result;
   replied = inr (row_unread _ (sym c.in-None.ensures), ap reply_of c.unreadable.ensures, refl);
-  said = c.write_reply-in-None.ensures;
+  said = c.write_reply-in-None.ensures.said;
 }

@@ -3,7 +3,7 @@ use Rattle.reg_lines.proofs.script.run_script_for.Goals as goal
 
 pub returns-clause-ends : goal.returns-clause-ends
 returns-clause-ends g c =
-    script_leads g.O.Office g.R.Read.remaining g.W.Write.contents _ _ _ _ _ _ g.H.Host.clock_reached c.run_lines.result _ c.done.ensures
+    script_leads g.O.Office g.R.Read.remaining g.W.Write.contents _ _ _ _ _ _ g.R.Source.failed g.W.Sink.failed g.H.Host.clock_reached g.H.Host.clock_failed c.run_lines.result _ c.done.ensures
     (rw c.requires at c.run_lines.ensures.ends)
 
 pub returns-clause-by_calls : goal.returns-clause-by_calls

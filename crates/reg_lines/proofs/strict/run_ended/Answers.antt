@@ -15,4 +15,4 @@ returns-in-Ok-Refused g c = rw (c.in-Ok-Refused.field-0-is, c.ended_part-ended.e
 
 pub returns-in-Err : goal.returns-in-Err
 returns-in-Err g c =
-    strict_failed (LineCalls g.O.Office) c.args.now _ _ _ _ c.args.text.now _ c.in-Err.fault c.ended_part-ended.ensures c.in-Err.ensures
+    strict_failed (LineCalls g.O.Office) c.args.now _ _ g.W.Sink.failed _ _ c.args.text.now _ c.in-Err.fault c.ended_part-ended.ensures c.in-Err.ensures

@@ -3,9 +3,9 @@ use Rattle.std.proofs.lemmas.Bool.{false≢true}
 use Rattle.reg_lines.proofs.Accepting.{told_why}
 use Rattle.reg_lines.proofs.answered.Answered.write_reply.Goals as goal
 
-pub returns-then-not-is_accepted : goal.returns-then-not-is_accepted
-returns-then-not-is_accepted g c = (
-  c.in_ok-write.ensures,
+pub returns-then-not-is_accepted-clause-said : goal.returns-then-not-is_accepted-clause-said
+returns-then-not-is_accepted-clause-said g c = (
+  c.in_ok-write.ensures.wrote,
   (
     c.if-is_strict.true,
     (λ accepted. false≢true (c.if-not-is_accepted.ensures ∙ c.requires.1 accepted)),

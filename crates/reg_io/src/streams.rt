@@ -1,0 +1,62 @@
+//! Readers and writers whose failures a contract can name.
+
+use crate::fill::ReadFault;
+use crate::put::WriteFault;
+use std::io::{Read, Write};
+
+/// A reader, which may fail. No clause of [`Read`] tells a function that gave up from one whose read failed. A function that is generic in its
+/// `Source` has `failed` only from a read that failed.
+pub trait Source: Read {
+    ghost use Rattle.std.specs.Prelude.{OnErr};
+    ghost use Rattle.std.specs.Io.{ReadsAtMost};
+    ghost use Rattle.std.specs.Io.KnownBytes.{ReadConsumes};
+
+    /// A read failed.
+    ghost failed: { Type 0 };
+
+    /// Reads once, as [`Read::read`]. [`ReadFault`] if the read fails, even with `Interrupted`.
+    fn read_once(&mut self, buf: &mut [u8]) -> Result<usize, ReadFault>
+        ensures bound { ReadsAtMost result buf.new }
+        ensures bytes { ReadConsumes (Self.remaining self.old) (Self.remaining self.new) result buf.new }
+        ensures fails { OnErr result failed };
+}
+
+impl<R: Read> Source for R {
+    // True of any reader, since no clause can state what a call did outside the program.
+    ghost failed = { Unit {0} };
+
+    fn read_once(&mut self, buf: &mut [u8]) -> Result<usize, ReadFault> {
+        match self.read(buf) {
+            Ok(count) => Ok(count),
+            Err(_) => Err(ReadFault),
+        }
+    }
+}
+
+/// A writer, which may fail. A function that is generic in its `Sink` has `failed` only from a write that failed or took 0 bytes.
+pub trait Sink: Write {
+    ghost use Rattle.std.specs.Prelude.{◌≡◌, ◌<◌, length, IfOk, OnErr};
+    ghost use Rattle.std.specs.Io.{WritesAtMost};
+    ghost use Rattle.std.specs.Io.KnownBytes.{WriteAppends};
+
+    /// A write failed, or took 0 bytes of more.
+    ghost failed: { Type 0 };
+
+    /// Writes once, as [`Write::write`]. [`WriteFault`] if the write fails, even with `Interrupted`.
+    fn write_once(&mut self, bytes: &[u8]) -> Result<usize, WriteFault>
+        ensures bound { WritesAtMost result bytes.now }
+        ensures bytes { WriteAppends (Self.contents self.old) (Self.contents self.new) result bytes.now }
+        ensures none { IfOk result (λ count. count ≡ 0 → 0 < length bytes.now → failed) }
+        ensures fails { OnErr result failed };
+}
+
+impl<W: Write> Sink for W {
+    ghost failed = { Unit {0} };
+
+    fn write_once(&mut self, bytes: &[u8]) -> Result<usize, WriteFault> {
+        match self.write(bytes) {
+            Ok(count) => Ok(count),
+            Err(_) => Err(WriteFault),
+        }
+    }
+}
