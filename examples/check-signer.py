@@ -16,6 +16,7 @@ Usage: examples/check-signer.py [--allow-absent] CA.pem [OPTION ..]
 import argparse
 import socket
 import sys
+import time
 
 # Python writes no compiled module beside the imported one.
 sys.dont_write_bytecode = True
@@ -42,14 +43,19 @@ def test_message(key_hash):
 
 
 def signature_of(message, path):
-    """The signature that the signer at a socket returns for a message; empty if it closes without one."""
+    """The signature that the signer at a socket returns for a message within PATIENCE; empty if it closes without one."""
+    deadline = time.monotonic() + PATIENCE
     with socket.socket(socket.AF_UNIX) as peer:
         peer.settimeout(PATIENCE)
         peer.connect(path)
         peer.sendall(message)
         peer.shutdown(socket.SHUT_WR)
         signature = b""
-        while len(signature) <= LONGEST_SIGNATURE and (part := peer.recv(LONGEST_SIGNATURE)):
+        while len(signature) <= LONGEST_SIGNATURE:
+            # A read may not wait for 0 seconds: that would mean not to block.
+            peer.settimeout(max(deadline - time.monotonic(), 0.001))
+            if not (part := peer.recv(LONGEST_SIGNATURE)):
+                break
             signature += part
         return signature
 

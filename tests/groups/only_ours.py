@@ -423,13 +423,24 @@ def a_signer_is_tried_before_the_desk_starts(t, algorithm):
     t.has(checked(t, "nowhere.pem", *it.signing("guarded.sign"), status=1), "no certificate of a CA")
 
 
-@test(seconds=3)
-def a_signer_that_hangs_is_tried_for_ten_seconds(t):
+def trickled(it, peer):
+    """Sends an octet of the signature each 0.3 seconds."""
+    for octet in it.sign(program.read_all(peer)):
+        time.sleep(0.3)
+        peer.sendall(bytes([octet]))
+
+
+@each({"no octet comes": None, "an octet comes now and then": trickled}, seconds=3)
+def a_signer_is_tried_for_ten_seconds(t, signs):
     """By check-signer.py. Here a second has a tenth of one."""
     it = Authority(t)
-    t.signer("hangs.sign", lambda message, call: "hang")
+    if signs:
+        t.enter_context(authority.Peer(t.room / "hangs.sign", lambda peer, _: signs(it, peer)))
+    else:
+        t.signer("hangs.sign", lambda message, call: "hang")
     (t.room / "sitecustomize.py").write_text(
-        "import socket\nsocket.socket.settimeout = lambda self, seconds, real=socket.socket.settimeout: real(self, seconds / 10)\n")
+        "import socket, time\nsocket.socket.settimeout = lambda self, seconds, real=socket.socket.settimeout: real(self, seconds / 10)\n"
+        "time.monotonic = lambda real=time.monotonic: real() * 10\n")
     ran = t.tried("env", f"PYTHONPATH={t.room}", sys.executable, EXAMPLES / "check-signer.py", it.pem, *it.signing("hangs.sign"))
     t.same((ran.returncode, ran.stdout, ran.stderr), (1, b"", b"hangs.sign: no signature: timed out\n"))
 
