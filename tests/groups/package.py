@@ -104,8 +104,9 @@ def built(t):
 
 @test
 def the_unit_waits_until_the_desk_answers(t):
-    """And fails if the desk ends before."""
-    t.register()
+    """Even by a refusal, since its clock is behind the last command. And fails if the desk ends before."""
+    t.register(lines="2026-01-02T00:00:00Z subscriber acme\n")
+    t.clock("2026-01-01T00:00:00Z")
     desk = t.open()
     waits = lambda *words: t.tried("env", f"DESK={program.program()}", "sh", TOP / "packaging/wait-for-desk.sh", *words)
     t.same(waits("counter", desk.process.pid).returncode, 0, "an open desk")
