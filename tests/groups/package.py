@@ -115,6 +115,34 @@ def the_unit_waits_until_the_desk_answers(t):
     t.same((ran.returncode, ran.stderr), (1, b"the desk ended before it answered at counter\n"), "a desk that has ended, whose socket is left")
     t.same(waits("counter").returncode, 2, "no process")
 
+# What each service of the package is forbidden, and what it may do beside that.
+FORBIDDEN = """ProtectSystem=strict NoNewPrivileges=yes CapabilityBoundingSet= ProtectHome=yes PrivateTmp=yes PrivateDevices=yes ProtectClock=yes ProtectHostname=yes
+ProtectKernelTunables=yes ProtectKernelModules=yes ProtectKernelLogs=yes ProtectControlGroups=yes ProtectProc=invisible ProcSubset=pid RestrictNamespaces=yes RestrictRealtime=yes
+RestrictSUIDSGID=yes LockPersonality=yes MemoryDenyWriteExecute=yes SystemCallArchitectures=native SystemCallFilter=@system-service""".split()
+ASKS_THE_DESK = ["PrivateNetwork=no", "IPAddressDeny=any", "IPAddressAllow=localhost"]
+HAS_A_KEY = ["PrivateNetwork=yes", "RestrictAddressFamilies=AF_UNIX", "InaccessiblePaths=-/var/lib/durshavon", "LimitCORE=0", "UMask=0077", "User=durshavon-signer"]
+SERVICES = {
+    "desk@": [*ASKS_THE_DESK, "RestrictAddressFamilies=AF_INET AF_INET6 AF_UNIX", "UMask=0077", "User=durshavon", "StateDirectoryMode=0700", "RuntimeDirectoryMode=0700"],
+    "desk-crl@": [*ASKS_THE_DESK, "RestrictAddressFamilies=AF_INET AF_UNIX", "UMask=0077", "User=durshavon"],
+    "desk-publish@": [*ASKS_THE_DESK, "RestrictAddressFamilies=AF_INET AF_UNIX", "UMask=0022", "User=durshavon"],
+    "desk-signer@": HAS_A_KEY,
+    "desk-responder@": HAS_A_KEY,
+}
+
+def units(*kinds):
+    """The names of the package's units of these kinds, and their texts."""
+    return {it.name: it.read_text() for kind in kinds for it in sorted((TOP / "packaging").glob(f"*@.{kind}"))}
+
+@test
+def what_each_service_is_forbidden(t):
+    found = {name.removesuffix(".service"): text.splitlines() for name, text in units("service").items()}
+    t.same(sorted(found), sorted(SERVICES), "services")
+    for name, own in SERVICES.items():
+        t.same([it for it in [*FORBIDDEN, "SystemCallFilter=~@privileged @resources", *own] if it not in found[name]], [], f"what {name}.service lacks")
+
+
+
+
 
 @test(seconds=200)
 def the_package(t):
