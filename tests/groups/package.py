@@ -140,6 +140,14 @@ def what_each_service_is_forbidden(t):
     for name, own in SERVICES.items():
         t.same([it for it in [*FORBIDDEN, "SystemCallFilter=~@privileged @resources", *own] if it not in found[name]], [], f"what {name}.service lacks")
 
+@test
+def the_timer_runs_every_five_minutes(t):
+    need("systemd-analyze")
+    [calendar] = re.findall(r"^OnCalendar=(.*)$", (TOP / "packaging/desk-crl@.timer").read_text(), re.MULTILINE)
+    told = t.tool("env", "TZ=UTC", "LC_ALL=C", "systemd-analyze", "calendar", "--base-time=2026-01-01 00:00:30", "--iterations=3", calendar).decode()
+    t.same(re.findall(r"(?:Next elapse|Iteration #\d|Iter\. #\d): \S+ (.*)", told), [f"2026-01-01 00:{minute}:00 UTC" for minute in ("05", "10", "15")], told)
+
+
 
 
 
