@@ -147,6 +147,25 @@ def the_timer_runs_every_five_minutes(t):
     told = t.tool("env", "TZ=UTC", "LC_ALL=C", "systemd-analyze", "calendar", "--base-time=2026-01-01 00:00:30", "--iterations=3", calendar).decode()
     t.same(re.findall(r"(?:Next elapse|Iteration #\d|Iter\. #\d): \S+ (.*)", told), [f"2026-01-01 00:{minute}:00 UTC" for minute in ("05", "10", "15")], told)
 
+def maintained(t, script, *words):
+    """What a script of the package has systemctl do, where systemd runs; nothing else of the machine is changed."""
+    (t.room / "bin").mkdir(exist_ok=True)
+    for name in ("systemctl", "getent", "install"):
+        (t.room / "bin" / name).write_text(f'#!/bin/sh\n[ {name} != systemctl ] || echo "$@" >>"{t.room}/told"\n')
+        (t.room / "bin" / name).chmod(0o755)
+    (t.room / script).write_text((TOP / "packaging" / script).read_text().replace("/run/systemd/system", str(t.room)))
+    (t.room / "told").write_text("")
+    t.same(t.tool("env", f"PATH={t.room}/bin:{os.environ['PATH']}", "sh", script, *words), b"", f"what {script} prints")
+    return [line.split() for line in (t.room / "told").read_text().splitlines()]
+
+@test
+def an_upgrade_restarts_each_service_that_runs(t):
+    services = [name.replace("@", "@*") for name, text in units("service").items() if "Type=oneshot" not in text]
+    t.same([(first, sorted(rest)) for first, *rest in maintained(t, "postinst", "configure", "1")], [("daemon-reload", []), ("try-restart", sorted(services))])
+    t.same(maintained(t, "postinst", "configure", ""), [["daemon-reload"]], "the first installation")
+
+
+
 
 
 
