@@ -164,6 +164,13 @@ def an_upgrade_restarts_each_service_that_runs(t):
     t.same([(first, sorted(rest)) for first, *rest in maintained(t, "postinst", "configure", "1")], [("daemon-reload", []), ("try-restart", sorted(services))])
     t.same(maintained(t, "postinst", "configure", ""), [["daemon-reload"]], "the first installation")
 
+@test
+def a_removal_stops_and_disables_each_unit(t):
+    all_units = units("service", "socket", "timer")
+    stops, disables = maintained(t, "prerm", "remove")
+    t.same((stops[0], sorted(stops[1:])), ("stop", sorted(name.replace("@", "@*") for name in all_units)))
+    t.same((disables[:2], sorted(disables[2:])), (["--quiet", "disable"], sorted(name for name, text in all_units.items() if "[Install]" in text)))
+    t.same(maintained(t, "prerm", "upgrade"), [], "an upgrade")
 
 
 
