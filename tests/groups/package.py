@@ -172,6 +172,15 @@ def a_removal_stops_and_disables_each_unit(t):
     t.same((disables[:2], sorted(disables[2:])), (["--quiet", "disable"], sorted(name for name, text in all_units.items() if "[Install]" in text)))
     t.same(maintained(t, "prerm", "upgrade"), [], "an upgrade")
 
+@test
+def the_command_passes_its_words_on(t):
+    """Also those with blanks, and empty ones."""
+    (t.room / "lib").mkdir()
+    (t.room / "lib/desk").write_text("#!/bin/sh\nprintf '<%s>' \"$@\"\n")
+    (t.room / "lib/desk").chmod(0o755)
+    shutil.copy(TOP / "tools/large-pages.sh", t.room / "lib")
+    (t.room / "desk-command").write_text((TOP / "packaging/desk").read_text().replace("/usr/lib/durshavon", str(t.room / "lib")))
+    t.same(t.tool("sh", "desk-command", "audit", "the ca.db", "", "*"), b"<audit><the ca.db><><*>")
 
 
 
