@@ -115,6 +115,7 @@ def the_unit_waits_until_the_desk_answers(t):
     t.same((ran.returncode, ran.stderr), (1, b"the desk ended before it answered at counter\n"), "a desk that has ended, whose socket is left")
     t.same(waits("counter").returncode, 2, "no process")
 
+
 # What each service of the package is forbidden, and what it may do beside that.
 FORBIDDEN = """ProtectSystem=strict NoNewPrivileges=yes CapabilityBoundingSet= ProtectHome=yes PrivateTmp=yes PrivateDevices=yes ProtectClock=yes ProtectHostname=yes
 ProtectKernelTunables=yes ProtectKernelModules=yes ProtectKernelLogs=yes ProtectControlGroups=yes ProtectProc=invisible ProcSubset=pid RestrictNamespaces=yes RestrictRealtime=yes
@@ -129,9 +130,11 @@ SERVICES = {
     "desk-responder@": HAS_A_KEY,
 }
 
+
 def units(*kinds):
     """The names of the package's units of these kinds, and their texts."""
     return {it.name: it.read_text() for kind in kinds for it in sorted((TOP / "packaging").glob(f"*@.{kind}"))}
+
 
 @test
 def what_each_service_is_forbidden(t):
@@ -140,12 +143,14 @@ def what_each_service_is_forbidden(t):
     for name, own in SERVICES.items():
         t.same([it for it in [*FORBIDDEN, "SystemCallFilter=~@privileged @resources", *own] if it not in found[name]], [], f"what {name}.service lacks")
 
+
 @test
 def the_timer_runs_every_five_minutes(t):
     need("systemd-analyze")
     [calendar] = re.findall(r"^OnCalendar=(.*)$", (TOP / "packaging/desk-crl@.timer").read_text(), re.MULTILINE)
     told = t.tool("env", "TZ=UTC", "LC_ALL=C", "systemd-analyze", "calendar", "--base-time=2026-01-01 00:00:30", "--iterations=3", calendar).decode()
     t.same(re.findall(r"(?:Next elapse|Iteration #\d|Iter\. #\d): \S+ (.*)", told), [f"2026-01-01 00:{minute}:00 UTC" for minute in ("05", "10", "15")], told)
+
 
 def maintained(t, script, *words):
     """What a script of the package has systemctl do, where systemd runs; nothing else of the machine is changed."""
@@ -158,11 +163,13 @@ def maintained(t, script, *words):
     t.same(t.tool("env", f"PATH={t.room}/bin:{os.environ['PATH']}", "sh", script, *words), b"", f"what {script} prints")
     return [line.split() for line in (t.room / "told").read_text().splitlines()]
 
+
 @test
 def an_upgrade_restarts_each_service_that_runs(t):
     services = [name.replace("@", "@*") for name, text in units("service").items() if "Type=oneshot" not in text]
     t.same([(first, sorted(rest)) for first, *rest in maintained(t, "postinst", "configure", "1")], [("daemon-reload", []), ("try-restart", sorted(services))])
     t.same(maintained(t, "postinst", "configure", ""), [["daemon-reload"]], "the first installation")
+
 
 @test
 def a_removal_stops_and_disables_each_unit(t):
@@ -171,6 +178,7 @@ def a_removal_stops_and_disables_each_unit(t):
     t.same((stops[0], sorted(stops[1:])), ("stop", sorted(name.replace("@", "@*") for name in all_units)))
     t.same((disables[:2], sorted(disables[2:])), (["--quiet", "disable"], sorted(name for name, text in all_units.items() if "[Install]" in text)))
     t.same(maintained(t, "prerm", "upgrade"), [], "an upgrade")
+
 
 @test
 def the_command_passes_its_words_on(t):
@@ -183,8 +191,22 @@ def the_command_passes_its_words_on(t):
     t.same(t.tool("sh", "desk-command", "audit", "the ca.db", "", "*"), b"<audit><the ca.db><><*>")
 
 
+@test
+def completion_in_bash(t):
+    """Of the program's own commands and options, also after --why."""
+    (t.room / "bin").mkdir()
+    (t.room / "bin/desk").symlink_to(program.program())
+    (t.room / "a register.db").touch()
 
+    def completed(*words):
+        script = 'PATH=$0/bin:$PATH; . "$1"; shift; COMP_WORDS=("$@"); COMP_CWORD=$(($# - 1)); _desk; printf "%s\\n" "${COMPREPLY[@]}"'
+        return t.tool("bash", "-c", script, t.room, TOP / "packaging/desk.bash", *words).decode().splitlines()
 
+    for before in ((), ("--why",)):
+        t.same(sorted(completed("desk", *before, "s")), ["schedule", "script", "serve"])
+        t.same(sorted(completed("desk", *before, "script", "ca.db", "--s")), ["--signer", "--strict"])
+        t.same(completed("desk", *before, "audit", "a r"), ["a register.db"])
+    t.same(sorted(completed("desk", "list", "ca.db", "o")), ["open-requests", "orders", "overdue"])
 
 
 @test(seconds=200)
