@@ -30,12 +30,14 @@ It needs the package `cryptography` (Debian: python3-cryptography).
 import argparse
 import ctypes
 import ctypes.util
+import errno
 import fcntl
 import hashlib
 import os
 import select
 import signal
 import socket
+import stat
 import sys
 
 from cryptography.exceptions import InvalidSignature
@@ -213,16 +215,24 @@ def answer(connection, sign):
         os.close(connection)
 
 
+def remove_stale(path):
+    """Removes a socket at which no process listens. Anything else at the path stays, and the program ends."""
+    if not stat.S_ISSOCK(os.lstat(path).st_mode):
+        sys.exit(f"{path} is no socket")
+    with socket.socket(socket.AF_UNIX) as probe:
+        fault = probe.connect_ex(path)
+    if fault != errno.ECONNREFUSED:
+        sys.exit(f"{path}: {os.strerror(fault)}" if fault else f"something listens at {path} already")
+    os.remove(path)
+
+
 def listen(path):
     """Listens at a path where no process listens, for its owner only. It locks the folder meanwhile, so that of several signers only one starts."""
     listener = socket.socket(socket.AF_UNIX)
     folder = os.open(os.path.dirname(path) or ".", os.O_RDONLY | os.O_DIRECTORY)
     fcntl.flock(folder, fcntl.LOCK_EX)
-    if os.path.exists(path):
-        probe = socket.socket(socket.AF_UNIX)
-        if probe.connect_ex(path) == 0:
-            sys.exit(f"something listens at {path} already")
-        os.remove(path)
+    if os.path.lexists(path):
+        remove_stale(path)
     mask = os.umask(0o177)
     listener.bind(path)
     os.umask(mask)
@@ -291,12 +301,14 @@ def main():
         print(name)
         return
     listener = listen(words.socket)
+    made = os.lstat(words.socket)
     print(f"{name} at {words.socket}", flush=True)
     is_first = share(words.processes)
     try:
         serve(listener, sign, draw)
     finally:
-        if is_first:
+        # Another signer may have its socket there by now.
+        if is_first and os.path.lexists(words.socket) and os.path.samestat(os.lstat(words.socket), made):
             os.remove(words.socket)
 
 

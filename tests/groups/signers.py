@@ -153,6 +153,38 @@ def examples_signer_py_started_thrice_at_a_stale_socket(t):
     serving[0].stdout.close()
 
 
+@test(seconds=3)
+def examples_signer_py_leaves_what_is_no_stale_socket(t):
+    """A file, a link to nothing, and a link to a stale socket stay as they are, and the program ends."""
+    authority.need_cryptography(t)
+    it = Authority(t)
+    (t.room / "file").write_text("precious")
+    with socket.socket(socket.AF_UNIX) as stale:
+        stale.bind(str(t.room / "stale.sign"))
+    for name, target in (("dangling", "nowhere"), ("link.sign", "stale.sign")):
+        (t.room / name).symlink_to(target)
+    for name in ("file", "dangling", "link.sign"):
+        ran = t.tried("timeout", 60, sys.executable, authority.EXAMPLES / "signer.py", it.key, name)
+        t.same((ran.returncode, ran.stdout, ran.stderr), (1, b"", f"{name} is no socket\n".encode()), name)
+    t.same((t.room / "file").read_text(), "precious", "the file")
+    t.same([os.readlink(t.room / name) for name in ("dangling", "link.sign")], ["nowhere", "stale.sign"], "the links")
+
+
+@test(seconds=3)
+def examples_signer_py_leaves_the_socket_of_a_later_one(t):
+    """A signer that ends leaves the socket of one that was started after its own was removed."""
+    authority.need_cryptography(t)
+    it = Authority(t)
+    words = ["python3", authority.EXAMPLES / "signer.py", it.key, "ca.sign"]
+    earlier = authority.started(t, words, t.room / "ca.sign")
+    t.true(signature(t.room / "ca.sign", b"a message") != b"", "the earlier one signs")
+    (t.room / "ca.sign").unlink()
+    authority.started(t, words, t.room / "ca.sign")
+    earlier.terminate()
+    t.same(earlier.wait(program.LONGEST), 0, "the earlier one's status")
+    t.true(signature(t.room / "ca.sign", b"a message") != b"", "the later one goes on")
+
+
 @each(ALGORITHMS, seconds=4)
 def a_signature_follows_a_placeholder_digest(t, algorithm):
     """The next CRL is signed, with the next number and the same entries. The CRL with the placeholder digest stays as it was, and no other follows."""
