@@ -52,7 +52,7 @@ copy() {
 # Keeps the new copy, whatever the clock says, and the six newest of the others.
 drop_old() {
     set --
-    for old in "$folder/$name"-[0-9]*Z; do
+    for old in "$folder/$name"-????????T??????Z; do
         [ "$old" = "$kept" ] || set -- "$@" "$old"
     done
     while [ $# -gt 6 ]; do

@@ -641,14 +641,15 @@ def a_copy_of_an_open_register_in_another_folder(t):
 
 @test(seconds=2)
 def seven_are_kept(t):
-    copies = register_and_copies(t, *(f"ca.db-2026010{day}T000000Z" for day in range(1, 9)), "other.db-20250101T000000Z")
+    others = ["ca.db-2-20250101T000000Z", "other.db-20250101T000000Z"]
+    copies = register_and_copies(t, *(f"ca.db-2026010{day}T000000Z" for day in range(1, 9)), *others)
     # What a run left that was killed.
     (copies / ".backup.abc").mkdir()
     (copies / ".backup.abc/ca.db").write_text("half")
     t.same(back_up(t)[0], 0)
     kept = names(copies)
-    t.same(kept[:6], [f"ca.db-2026010{day}T000000Z" for day in range(3, 9)], "six older ones")
-    t.same((len(kept), kept[-1]), (8, "other.db-20250101T000000Z"), "and the new one; what is of another register stays")
+    t.same(kept[1:7], [f"ca.db-2026010{day}T000000Z" for day in range(3, 9)], "six older ones")
+    t.same((len(kept), [kept[0], kept[-1]]), (9, others), "and the new one; what is of other registers stays")
 
 
 @test(seconds=2)
