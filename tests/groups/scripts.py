@@ -240,6 +240,16 @@ def a_register_that_was_set_back(t):
     at_control(t, "crl")
     t.same(publish(t, desk)[1], "crl 3 published in www\n", "a greater number is taken again")
 
+@test(seconds=3)
+def crls_are_published_after_the_ninth(t):
+    """openssl prints their numbers in hexadecimal."""
+    it, desk = open_desk(t, *["crl"] * 9)
+    for more, number in ((0, 9), (1, 10), (6, 16), (1, 17)):
+        at_control(t, *["crl"] * more)
+        t.same(publish(t, desk), (0, f"crl {number} published in www\n", []))
+    published(t, it, desk, 17)
+
+
 
 @test(seconds=2)
 def a_crl_is_published_at_a_path_with_a_blank(t):
