@@ -240,6 +240,7 @@ def a_register_that_was_set_back(t):
     at_control(t, "crl")
     t.same(publish(t, desk)[1], "crl 3 published in www\n", "a greater number is taken again")
 
+
 @test(seconds=3)
 def crls_are_published_after_the_ninth(t):
     """openssl prints their numbers in hexadecimal."""
@@ -248,7 +249,6 @@ def crls_are_published_after_the_ninth(t):
         at_control(t, *["crl"] * more)
         t.same(publish(t, desk), (0, f"crl {number} published in www\n", []))
     published(t, it, desk, 17)
-
 
 
 @test(seconds=2)
@@ -384,6 +384,15 @@ def two_common_names_are_two_subscribers(t):
     t.has(register_pem(t, "-c", "counter", "again.pem")[1], f"of subscriber {len(names)}\n", "the next certificate of one of them")
     desk.end()
     t.same([name for _, name in rows(t, "subscriber")], [name_of(common) for common in names])
+
+
+@test(seconds=2)
+def the_first_of_several_common_names_is_the_subscriber(t):
+    it, desk = unsigned_desk(t)
+    issued(t, it, "a", "05", "/CN=first/O=Example/CN=second")
+    t.same(register_pem(t, "-c", "counter", "a.pem"), (0, "a.pem: serial number 05 registered, order 1 of subscriber 1\n", []))
+    desk.end()
+    t.same([name for _, name in rows(t, "subscriber")], ["first"])
 
 
 @test(seconds=3)
