@@ -334,6 +334,19 @@ def of_a_log(t, log, wanted, told):
     t.same(again(t, "--log", "ca.log")[0], [], "it is entered once")
 
 
+@test
+def of_two_logs(t):
+    """The second goes on where the first was rotated. Their lines are of one second, and stay in their order."""
+    begun(t)
+    log, wanted, _ = LOGS["each command"]
+    lines_of_it = log.splitlines(keepends=True)
+    (t.room / "ca.log.1").write_text("".join(lines_of_it[:5]))
+    (t.room / "ca.log").write_text("".join(lines_of_it[5:]))
+    script, told = again(t, "--log", "ca.log.1", "--log", "ca.log")
+    t.same(script, [f"{NEXT} {it}" for it in wanted])
+    t.same(told[:-1], [], "standard error")
+
+
 LATER = "2026-01-05T00:00:00Z"
 GROUNDS = ("asked", "unauthorized", "key-compromise", "control-lost", "affiliation", "superseded", "cessation", "misuse", "name-not-permitted", "nonconforming", "inaccurate")
 # The ground that the script takes where only the reason is known.
