@@ -342,6 +342,23 @@ def issue_due_crl_at_once_among_many(t):
         t.same((ran.stdout, told in ran.stderr), (b"", True), f"{words} told {ran.stderr}")
 
 
+@test(seconds=3)
+def issue_due_crl_at_once_fails_if_a_list_does_not_come(t):
+    """Here curl gets each page but those of lists."""
+    now = moment_of(authority.now())
+    ends = moment_of(authority.now() + 90 * DAY)
+    given = ["subscriber acme", "order 1 398", f"register 1 05 {now} {ends}", "crl", "request 05 key-compromise", "revoke 1"]
+    t.register(lines="".join(f"{now} {line}\n" for line in given))
+    desk = t.open()
+    (t.room / "bin").mkdir()
+    (t.room / "bin/curl").write_text(f'#!/bin/sh\ncase "$*" in *"/list/"*) exit 22 ;; esac\nexec {shutil.which("curl")} "$@"\n')
+    (t.room / "bin/curl").chmod(0o755)
+    issues = ("bash", EXAMPLES / "issue-due-crl.sh", "--at-once", "key-compromise", "--port", desk.port, "counter")
+    ran = play(t, *issues, more={"PATH": f"{t.room}/bin:{os.environ['PATH']}"}, status=1)
+    t.same((ran.stdout, ran.stderr), (b"", f"counter: the desk does not answer /list/revoked?limit=250 at port {desk.port}\n".encode()))
+    t.same(play(t, *issues).stdout, b"crl 2 entries 1\n", "once it comes")
+
+
 NAMES = {
     "P-256": ("ecdsa-sha256", "/CN=T"),
     "P-384": ("ecdsa-sha384", "/C=XX/O=Example/CN=An Example CA"),
