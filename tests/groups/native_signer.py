@@ -441,6 +441,10 @@ def a_certificate_of_another_key_is_not_taken(t):
     for words, told in rows:
         ran = t.tried(native.signer(), *words, it.key, "ca.sign")
         t.same((ran.returncode, (t.room / "ca.sign").exists(), ran.stderr.count(b"\n")), (1, False, 1), f"{words}: status, whether it listens, lines")
+    # That it is no PEM is no reason.
+    t.tool("openssl", "x509", "-in", other.pem, "-outform", "DER", "-out", "other.der")
+    ran = t.tried(native.signer(), "--only-ours", "other.der", it.key, "ca.sign")
+    t.same((ran.returncode, ran.stderr), (1, f"{NAME}other.der: it is the certificate of another key\n".encode()), "a certificate in DER")
         t.has(ran.stderr, told)
 
 
