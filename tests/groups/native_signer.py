@@ -852,6 +852,22 @@ def its_standard_streams(t):
     t.same(signature(t.room / "ca.sign", b"hello"), b"", "what is refused while nobody reads standard error")
     verifies(t, it, message, signature(t.room / "ca.sign", message))
 
+@test(seconds=2)
+def each_line_on_standard_error_is_one_write(t):
+    """So lines of several processes are not mixed. Here each write is a datagram."""
+    it = Authority(t)
+    reads, writes = socket.socketpair(socket.AF_UNIX, socket.SOCK_DGRAM)
+    with reads, writes:
+        words = [native.signer(), "--only-ours", it.pem, it.key, "ca.sign"]
+        process = subprocess.Popen(words, cwd=t.room, stdin=subprocess.DEVNULL, stdout=subprocess.PIPE, stderr=writes)
+        t.callback(authority.end, process)
+        with process.stdout:
+            process.stdout.readline()
+        t.same(signature(t.room / "ca.sign", b"hello"), b"", "what is refused")
+        reads.settimeout(program.LONGEST)
+        t.same(reads.recv(65_536), f"{NAME}refused to sign 5 bytes: no value with the right tag at octet 0\n".encode())
+
+
 
 @test(seconds=4)
 def what_it_was_started_with(t):
