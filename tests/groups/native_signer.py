@@ -441,11 +441,11 @@ def a_certificate_of_another_key_is_not_taken(t):
     for words, told in rows:
         ran = t.tried(native.signer(), *words, it.key, "ca.sign")
         t.same((ran.returncode, (t.room / "ca.sign").exists(), ran.stderr.count(b"\n")), (1, False, 1), f"{words}: status, whether it listens, lines")
+        t.has(ran.stderr, told)
     # That it is no PEM is no reason.
     t.tool("openssl", "x509", "-in", other.pem, "-outform", "DER", "-out", "other.der")
     ran = t.tried(native.signer(), "--only-ours", "other.der", it.key, "ca.sign")
     t.same((ran.returncode, ran.stderr), (1, f"{NAME}other.der: it is the certificate of another key\n".encode()), "a certificate in DER")
-        t.has(ran.stderr, told)
 
 
 @test(seconds=3)
@@ -594,6 +594,17 @@ def a_rate(t):
     waited = time.monotonic() - began
     t.true(waited >= 0.5, f"11 signatures after a pause took {waited:.2f} s")
     t.same(len(ended(process)[1]), 1, "lines that are told")
+
+
+@test(seconds=3)
+def a_rate_goes_on_though_the_clock_is_set_back(t):
+    """By a day, between two signatures."""
+    it = Authority(t)
+    (t.room / "clock").write_text("1800000000")
+    started(t, "--rate", 20, it.key, before=["env", f"LD_PRELOAD={os.environ['DESK_FAULTS_LIBRARY']}", f"FAULTS_CLOCK={t.room / 'clock'}"])
+    t.true(signature(t.room / "ca.sign", b"a message") != b"", "a signature before")
+    (t.room / "clock").write_text("1799913600")
+    t.true(signature(t.room / "ca.sign", b"a message") != b"", "a signature behind it")
 
 
 @test(seconds=4)
@@ -852,6 +863,7 @@ def its_standard_streams(t):
     t.same(signature(t.room / "ca.sign", b"hello"), b"", "what is refused while nobody reads standard error")
     verifies(t, it, message, signature(t.room / "ca.sign", message))
 
+
 @test(seconds=2)
 def each_line_on_standard_error_is_one_write(t):
     """So lines of several processes are not mixed. Here each write is a datagram."""
@@ -866,7 +878,6 @@ def each_line_on_standard_error_is_one_write(t):
         t.same(signature(t.room / "ca.sign", b"hello"), b"", "what is refused")
         reads.settimeout(program.LONGEST)
         t.same(reads.recv(65_536), f"{NAME}refused to sign 5 bytes: no value with the right tag at octet 0\n".encode())
-
 
 
 @test(seconds=4)
