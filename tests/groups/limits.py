@@ -323,7 +323,8 @@ def a_thousand_clients_are_late_together(t):
     authority.until(lambda: desk.files == desk.before + 1_000, "that all are accepted")
     desk.set_forward(30_000)
     authority.until(lambda: desk.files == desk.before, "that all are closed", seconds=10)
-    t.same({why for _, why in desk.lost}, {"late"}, "why they were lost")
+    desk.advance(0)
+    t.same([why for _, why in desk.lost], ["late"] * 1_000, "each is lost, and why")
 
 
 @each({f"{it}, {what}": (error, what) for it, error in (("the process has no descriptor left", "EMFILE"), ("the machine has none", "ENFILE")) for what in ("an answer", "a CRL")}, seconds=3)
