@@ -150,6 +150,27 @@ def clients_that_reset_make_room_for_others(t):
 
 
 @test(seconds=3)
+def a_client_in_the_place_of_one_that_reset_gets_its_own_answer(t):
+    """The one that reset waited in the queue. The next client has its slot, and a signature of its own."""
+    held = Held(t)
+    t.register(key=P256_KEY)
+    desk = Passing(t, *SIGNING)
+    request = lambda serial: b"POST /ocsp HTTP/1.1\r\nContent-Length: %d\r\n\r\n" % len(asked_for(serial)) + asked_for(serial)
+    clients = [desk.comes(request(0x1100 + at)) for at in range(AT_ONCE)]
+    t.true(held.signers.until(AT_ONCE), "all that may be asked for are")
+    gone = desk.comes(request(0x2200))
+    port = str(gone.getsockname()[1])
+    # Closing sends a reset.
+    gone.setsockopt(socket.SOL_SOCKET, socket.SO_LINGER, b"\1\0\0\0\0\0\0\0")
+    gone.close()
+    authority.until(lambda: desk.lost == [(port, "broken")], "that it is lost")
+    clients.append(desk.comes(request(0x3300)))
+    held.release.set()
+    t.same([is_signed(program.parted(program.read_all(it))[2]) for it in clients], [True] * (AT_ONCE + 1), "whether each answer is signed")
+    t.same([sum(names(it, serial) for it in held.signers.asked) for serial in (0x2200, 0x3300)], [0, 1], "signatures of who went and of who came")
+
+
+@test(seconds=3)
 def a_disconnected_client_is_not_signed_for(t):
     held = Held(t)
     t.register(key=P256_KEY)
