@@ -70,6 +70,16 @@ def a_log_in_the_place_of_a_register(t, log):
 
 
 @test
+def a_log_in_the_place_of_that_of_a_register_behind_a_link(t):
+    """The register's own log lies beside the file to which the link leads."""
+    (t.room / "registers").mkdir()
+    t.register("registers/ca.db", lines=ENTERED)
+    (t.room / "ca.db").symlink_to("registers/ca.db")
+    ran = t.desk("open", "ca.db", "--unsigned", "--control", "counter", "--port", free_port(), "--log-file", "registers/ca.db-wal", "--why")
+    t.same((ran.status, ran.out, ran.err), (1, b"", b"F5 write\n  the path already exists: give another one (--log-file)\n"))
+
+
+@test
 def the_control_socket_by_its_older_name(t):
     t.register(lines=ENTERED)
     t.open("ca.db", "--counter", "older")
