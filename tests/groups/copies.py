@@ -4,8 +4,9 @@ import os
 import re
 import shutil
 import threading
+from concurrent.futures import ThreadPoolExecutor
 
-from lib import faults, program, registers
+from lib import authority, faults, program, registers
 from lib.program import Control, parted
 from lib.trial import each, test
 
@@ -128,6 +129,20 @@ def never_over_an_existing_file(t, lay, end):
     t.same(found, before, "what lies there")
     t.open()
     refused(t, "counter", "copy.db", TAKEN)
+
+
+@test(seconds=2)
+def never_over_a_file_that_appears_meanwhile(t):
+    """Once the desk has looked for one and begins its copy."""
+    t.register(lines=ENTERED)
+    with ThreadPoolExecutor(1) as pool:
+        ran = pool.submit(t.desk, "copy", "ca.db", "copy.db", "--why", faults=faults.environment(slow_open=t.room / "go", only="copy.db.part"))
+        authority.until((t.room / "go.waits").exists, "that it opens the new file")
+        (t.room / "copy.db").write_text("mine")
+        (t.room / "go").touch()
+        t.same((ran.result().status, ran.result().err.decode()), (1, f"F2 store\n  {TAKEN}\n"))
+    t.same((t.room / "copy.db").read_text(), "mine", "the other file")
+    t.same([it.name for it in t.room.iterdir() if it.name.endswith(".part")], [], "what is left")
 
 
 @test
