@@ -254,6 +254,38 @@ def a_request_has_30_seconds_to_be_whole(t):
     desk.loses(first, why="late")
 
 
+@test
+def a_request_in_pieces_has_30_seconds_in_all(t):
+    """However many of its bytes come meanwhile."""
+    entered(t)
+    desk = Passing(t)
+    slow = desk.comes(COUNTS[:9])
+    for at in (9, 10):
+        desk.advance(10_000)
+        slow.sendall(COUNTS[at : at + 1])
+        until(lambda: is_read(slow), "that the desk has read it")
+    desk.loses()
+    desk.advance(10_000)
+    desk.loses(slow, why="late")
+
+
+@test(seconds=3)
+def an_answer_that_is_taken_in_pieces_has_30_seconds_in_all(t):
+    """However much of it the client takes meanwhile."""
+    entered(t, LARGE)
+    desk = Passing(t)
+    slow = desk.comes(CRL)
+    for _ in range(2):
+        desk.advance(10_000)
+        # As much as lets the desk send more.
+        for _ in range(20):
+            slow.recv(65_536)
+        desk.advance(0)
+    desk.loses()
+    desk.advance(10_000)
+    desk.loses(slow, why="late")
+
+
 @test(seconds=2)
 def an_answer_has_30_seconds_to_be_taken(t):
     """From when it is there, however long its request took."""
