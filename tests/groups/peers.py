@@ -355,6 +355,24 @@ def answers_that_wait_hold_64_mib_together(t):
     desk.loses(first, second, third, why="crowded")
 
 
+@test(seconds=6)
+def what_a_lost_client_did_not_take_waits_no_more(t):
+    """Two clients were late, each with 33 MB of its answer unsent: they leave room for the answers of two others."""
+    size = 33_000_000
+    entered(t, size)
+    desk = Passing(t)
+    later, earlier = gone = [peer(t, desk.desk, CRL) for _ in range(2)][::-1]
+    for it in gone:
+        t.same(it.recv(1), b"H", "its answer is there")
+    desk.advance(30_000)
+    desk.loses(later, earlier, why="late")
+    others = [peer(t, desk.desk, CRL) for _ in range(2)]
+    for it in others:
+        t.same(it.recv(1), b"H", "its answer is there")
+    desk.loses(later, earlier, why="late")
+    t.same([len(read_all(it)) > size for it in others], [True] * 2, "whether they got all")
+
+
 @test(seconds=2)
 def serve_answers_the_given_number_of_requests(t):
     desk = opened(t, "--requests", 3, command="serve")
