@@ -384,13 +384,15 @@ def serve_answers_the_given_number_of_requests(t):
 
 @test
 def half_a_request_counts_as_one(t):
-    desk = opened(t, "--requests", 2, command="serve")
+    """And its client, which has ended its side, is not lost."""
+    desk = opened(t, "--requests", 2, "--log", command="serve")
     half = peer(t, desk, b"GET /status/05 HTTP/1.1\r\n")
     half.shutdown(socket.SHUT_WR)
     t.same(read_all(half), b"", "what it hears")
     t.same(desk.process.poll(), None, "it runs on")
     t.same(parted(desk.send(COUNTS))[0], 200, "the second")
-    t.same(desk.wait().status, 0, "status")
+    ran = desk.wait()
+    t.same((ran.status, [it for it in ran.err_lines if " lost " in it]), (0, []), "status, and lost connections in the log")
 
 
 @test(seconds=2)
