@@ -3,6 +3,7 @@
 import os
 import re
 import resource
+import signal
 import socket
 import threading
 import time
@@ -474,6 +475,24 @@ def a_control_connection_of_many_lines_holds_up_nobody(t):
         finally:
             ends.set()
         t.same(replies.result(), {b"unknown\n"}, "its replies")
+
+
+@test(seconds=2)
+def lines_of_control_connections_are_answered_in_turn(t):
+    """One connection has sent a thousand lines at once. Two others, one accepted before it and one after it, wait for a line of it, and not for all."""
+    entered(t)
+    desk = t.open("ca.db", "--log")
+    before, busy, after = (t.control() for _ in range(3))
+    t.same([it.ask("counts") for it in (before, busy, after)], ["good 1 revoked 0 expired 0"] * 3)
+    desk.process.send_signal(signal.SIGSTOP)
+    busy.peer.sendall(b"status 7b\n" * 1_000)
+    for it in (before, after):
+        it.peer.sendall(b"status 05\n")
+    desk.process.send_signal(signal.SIGCONT)
+    t.same([it.file.readline() for it in (before, after)], [b"good\n"] * 2)
+    t.same([busy.file.readline() for _ in range(1_000)], [b"unknown\n"] * 1_000)
+    places = [at for at, line in enumerate(desk.end().err_lines) if "status 05" in line]
+    t.true(len(places) == 2 and places[1] < 100, f"the lines of the other two are at {places} in the log")
 
 
 @test(seconds=2)
