@@ -226,6 +226,18 @@ def a_part_of_the_time(t, made, url, desk, crls):
         t.same(table(t, "closed", word), table(t, "part", word), f"{word} of a closed register")
 
 
+@test(seconds=2)
+def a_second_between_two_times_is_in_the_later_one(t):
+    """Of a certificate, its request and its revocation, and of a CRL."""
+    begins, between, ends = "2026-01-01", "2026-02-01T00:00:00Z", "2026-03-01"
+    lines = ("subscriber acme", "order 1 398", f"register 1 05 {between} 2026-12-31T00:00:00Z", "request 05 superseded", "revoke 1", "crl")
+    t.register(lines="".join(f"{between} {line}\n" for line in lines))
+    for begin, end, count in ((begins, between, 0), (between, ends, 1)):
+        report(t, "--register", "ca.db", "--folder", "part", begin, end)
+        t.same({word: len(table(t, "part", word)) for word in ("certificates", "requests", "revocations", "crls")},
+               dict.fromkeys(("certificates", "requests", "revocations", "crls"), count), f"rows from {begin} to {end}")
+
+
 @test(seconds=4)
 def lists_of_several_pages(t):
     """Of 1,100 certificates the table has all, and the page the first thousand. A CRL has more than 65,536 octets."""
