@@ -1158,6 +1158,16 @@ def a_second_name(path):
     os.link(path.parent / "first", path)
 
 
+@each({"a URI": "file:ca.db", "a name of SQLite's own": ":memory:"})
+def a_file_whose_name_sqlite_reads_otherwise_is_not_read(t, name):
+    """SQLite would not open the file of that name."""
+    t.register()
+    os.rename(t.room / "ca.db", t.room / name)
+    for words in (["audit", name], ["copy", name, "copy.db"], ["crl", name]):
+        ran = t.desk(*words)
+        t.same((ran.status, ran.out, ran.err), (1, b"", b"F2 store\n"), program.shown(words))
+
+
 JOURNALS = {
     "a journal": lambda path: path.write_bytes(hot_journal()),
     "a folder": lambda path: path.mkdir(),
