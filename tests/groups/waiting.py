@@ -66,7 +66,7 @@ class Held:
         self.signers = t.enter_context(Signers(t.room / path, self.answer))
 
     def answer(self, message):
-        self.release.wait(60)
+        self.release.wait(60 * program.PATIENCE)
         return self.signature(message)
 
 
@@ -156,9 +156,16 @@ def a_client_in_the_place_of_one_that_reset_gets_its_own_answer(t):
     t.register(key=P256_KEY)
     desk = Passing(t, *SIGNING)
     request = lambda serial: b"POST /ocsp HTTP/1.1\r\nContent-Length: %d\r\n\r\n" % len(asked_for(serial)) + asked_for(serial)
-    clients = [desk.comes(request(0x1100 + at)) for at in range(AT_ONCE)]
+    clients = [t.enter_context(desk.desk.connect()) for _ in range(AT_ONCE)]
+    for at, it in enumerate(clients):
+        it.sendall(request(0x1100 + at))
     t.true(held.signers.until(AT_ONCE), "all that may be asked for are")
-    gone = desk.comes(request(0x2200))
+    # It is accepted before its request comes, and so it is polled.
+    gone = t.enter_context(desk.desk.connect())
+    authority.until(lambda: program.is_read(gone), "that it is accepted")
+    gone.sendall(request(0x2200))
+    authority.until(lambda: program.is_read(gone), "that its request is read")
+    desk.advance(0)
     port = str(gone.getsockname()[1])
     # Closing sends a reset.
     gone.setsockopt(socket.SOL_SOCKET, socket.SO_LINGER, b"\1\0\0\0\0\0\0\0")
