@@ -23,7 +23,7 @@ audit_result_of (Err (audit_fault.Broken broken)) = Ok (Broken broken)
 audit_result_of (Err audit_fault.Memory) = Err fault.Memory
 audit_result_of (Err audit_fault.Store) = Err fault.Store
 
--- the result is `Sound`: all rows were checked, and are those of sound records
+-- the result is `Sound`
 abbrev pub IsSound : AuditResult → Type 0
 IsSound (Sound found) = Unit {0}
 IsSound _ = ⊥

@@ -4,11 +4,11 @@ use Rattle.sqlite_value.specs.Order.{Row, column}
 use Rattle.reg_store_tables.specs.Rows.{number}
 pub use Rattle.reg_store_tables.specs.ShownRows.{HasCells}
 
--- the row is that of some record
+-- the row begins with the columns of some record, of which `well` holds
 abbrev pub IsOfSomeRecord : {A : Type 0} → (A → Type 0) → (A → Row) → Row → Type 0
 IsOfSomeRecord {A = A} well shown row = (it : A) × well it × HasCells 0 row (shown it)
 
--- the numbers in the first column rise by one
+-- the first columns are the numbers from `from` on, which rise by one
 abbrev pub CountedFrom : ℕ → List Row → Type 0
 CountedFrom from [] = Unit {0}
 CountedFrom from (row ∷ rows) = (column row 0 ≡ number from) × CountedFrom (from + 1) rows

@@ -34,7 +34,7 @@ pub record AreTables (db : Database) : Type 0 where
   pub rises : AllByRecursion (λ tree. IsTable (db.trees tree)) table_trees
   pub whole : AllByRecursion (λ row. length row ≡ 7) (db.trees 15)
 
--- the rows of a table are those of some records, whose numbers are the rowids 1, 2, 3 and so on
+-- the rows of a table are those of some records; their numbers are 1, 2, 3 and so on, and `well` holds of each
 pub record AreKeyed {A : Type 0} (well : A → Type 0) (stored : A → Row) (number : A → ℕ)
     (rows : List Row) : Type 0 where
   pub these : List A
@@ -42,13 +42,13 @@ pub record AreKeyed {A : Type 0} (well : A → Type 0) (stored : A → Row) (num
   pub numbered : NumberedFrom number 1 these
   pub each : AllByRecursion well these
 
--- the rows of a table are the rowids 1, 2, 3 and so on, each before the columns of some record
+-- the rows of a table are the rowids 1, 2, 3 and so on, each before the columns of some record, of which `well` holds
 pub record AreCounted {A : Type 0} (well : A → Type 0) (stored : A → Row) (rows : List Row) : Type 0 where
   pub these : List A
   pub are : rows ≡ counted_rows (map stored these)
   pub each : AllByRecursion well these
 
--- the one row of `office`, and the steps of the schedule, are those of an issuer, a policy and a moment
+-- the one row of `office`, and the steps of the schedule, are those of an issuer, a valid policy and a moment
 pub record AreOffice (trees : Trees) : Type 0 where
   pub days : ℤ
   pub issuer : Issuer
@@ -86,7 +86,7 @@ LettersAgree trees = AreCounted {A = Standing} (λ row. IsSerial row.serial) sto
 abbrev pub ListingsAgree : Trees → Type 0
 ListingsAgree trees = AreCounted {A = Listed} (λ row. IsSerial row.serial) stored_listed (trees 15)
 
--- the one row of the table `kept`
+-- the table `kept` has one row, with some counts
 pub record AreCounts (rows : List Row) : Type 0 where
   pub counts : Counts
   pub are : rows ≡ stored_counts counts ∷ []

@@ -17,7 +17,7 @@ use Rattle.reg_audit.specs.ReadableValues.{IsSoundRegister}
 use Rattle.reg_audit.specs.AuditResults.{CountedBy, DisprovedBy, IsSound, ReportsTables}
 
 -- `Sound`: all records that the tables show are sound, and their numbers are reported; there are such records if the presumed facts hold.
--- `Broken`: the tables show no sound records. Other results say which tables there are. No error is `NotEmpty`. No table changes.
+-- `Broken`: see `DisprovedBy`. Other results say which tables there are. No error is `NotEmpty`. No table changes.
 pub record IsJudged {S : Type 0} (g : Ghosts S) (old new : Held S)
     (result : Result AuditResult StoreFault) : Type 0 where
   pub sound : (records : Records) (columns : DerivedRows) → ShowsBoth g old records columns

@@ -1,4 +1,4 @@
--- What an audit knows of a connection, and what is presumed of it.
+-- Facts that an audit knows of a connection, and facts that are presumed of it.
 use Rattle.std.specs.Prelude.{◌≡◌, false, length, IsTrue}
 use Rattle.std.specs.List.{AllByRecursion}
 use Rattle.sqlite_trees.specs.declared.store.Store.{Ghosts}
@@ -13,10 +13,10 @@ pub record IsOverRegister {S : Type 0} (g : Ghosts S) (h : Held S) : Type 0 wher
   pub live : IsLive (state g h)
   pub saved : IsTrue (state g h).is_open → (state g h).now ≡ (state g h).committed
 
--- What is presumed of an open connection, and of the file that it reads: no clause of the crate `sqlite` says it, and no query
--- can find it out.
+-- Facts that are presumed of an open connection and the file that it reads: no clause of the crate `sqlite` states them, and no
+-- query can check them.
 pub record IsPresumed {S : Type 0} (g : Ghosts S) (h : Held S) : Type 0 where
-  -- No call has left its transaction broken: the crate keeps this of every connection that is open.
+  -- No call has left its transaction broken: the crate keeps this true of every open connection.
   pub unbroken : (g.view h.store).is_broken ≡ false
   -- Each row of `listed` has its last column, the seventh if the rowid is counted. If a row lacks it, a query returns NULL for it. No
   -- statement of a register writes such a row.

@@ -60,7 +60,7 @@ AreRead records columns = AreEach (IsReadOf records columns)
 abbrev pub AreReadFrom : {Rows : Type 0} → Database → List AuditQuery → List Rows → (Rows → List Row) → Type 0
 AreReadFrom db = AreEach (IsReadFrom db)
 
--- the statements for the rows of all tables, in the order in which an audit runs them
+-- the statements for the rows of all tables except that of the schedule, in the order in which an audit runs them
 abbrev pub whole : List AuditQuery
 whole =
     Office ∷ Subscribers ∷ Orders ∷ Certificates ∷ Requests ∷ Revocations ∷ Crls ∷ Standings

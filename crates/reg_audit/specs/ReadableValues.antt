@@ -11,7 +11,7 @@ use Rattle.reg_store_tables.specs.Kept.{Kept}
 use Rattle.reg_audit.specs.Stored.{IsSomeCrl}
 pub use Rattle.reg_store_tables.specs.RecordValues.{IsValidity, AreMomentAndReason, HasValues}
 
--- the column `days` of `office` is a number that a schedule can have
+-- the column `days` of `office` is a number of days that a schedule can have: 1 to 398
 abbrev pub HasAllowedDays : DerivedRows → Type 0
 HasAllowedDays columns = (days : ℕ) × (columns.days ≡ pos days) × IsDays days
 

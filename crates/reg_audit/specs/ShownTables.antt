@@ -13,29 +13,29 @@ use Rattle.reg_audit.specs.ReadableValues.{AreReadable}
 use Rattle.reg_audit.specs.declared.fault.AuditFault.{AuditFault}
 use Rattle.reg_audit.specs.declared.sql.AuditQuery.{AuditQuery}
 
--- `Has` holds of whatever records and derived rows the tables show before a call, if the disk is clean after it
+-- if the disk returned what was written, `Has` holds of any records and derived rows that the tables show before a call
 abbrev pub OnShown : {S : Type 0} → Ghosts S → Held S → Held S → (Records → DerivedRows → Type 0) → Type 0
 OnShown g old new Has =
     (records : Records) → (columns : DerivedRows) → ShowsBoth g old records columns
     → HasCleanDisk (state g new) → Has records columns
 
--- `Has` holds of whatever records and derived rows these rows of one statement were read from
+-- `Has` holds of any records and derived rows from which these rows of one statement were read
 abbrev pub OnRead : AuditQuery → List Row → (Records → DerivedRows → Type 0) → Type 0
 OnRead what rows Has =
     (records : Records) → (columns : DerivedRows) → IsReadOf records columns what rows → Has records columns
 
--- `Has` holds of whatever records and derived rows the rows of these statements were read from
+-- `Has` holds of any records and derived rows from which the rows of these statements were read
 abbrev pub OnEachRead : {Rows : Type 0} → List AuditQuery → List Rows → (Rows → List Row)
     → (Records → DerivedRows → Type 0) → Type 0
 OnEachRead whats all items Has =
     (records : Records) → (columns : DerivedRows) → AreRead records columns whats all items
     → Has records columns
 
--- the same for the statements that read all tables
+-- the same for the statements of `whole`
 abbrev pub OnAllRead : {Z : Type 0} → List (Vec Row Z) → (Records → DerivedRows → Type 0) → Type 0
 OnAllRead all Has = OnEachRead whole all (λ rows. rows.items) Has
 
--- no row is reported as broken if the records and derived rows have a register's values
+-- no row is reported as broken if the records and derived rows from which it was read are `AreReadable`
 abbrev pub AreReadIfReadable : {T : Type 0} → AuditQuery → List Row → Result T AuditFault → Type 0
 AreReadIfReadable what rows result =
     OnRead what rows (λ records columns. AreReadable records columns → NoBrokenRow result)

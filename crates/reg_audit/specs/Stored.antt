@@ -10,7 +10,7 @@ use Rattle.reg_der.specs.ValueReading.{Parts, value_at}
 use Rattle.reg_audit_rows.specs.Crls.{IsCrlOf}
 use Rattle.reg_audit_rows.specs.declared.derived_rows.Listed.{Listed}
 
--- the bytes are this CRL (RFC 5280 5.1), with some AlgorithmIdentifier and any signature: at most 2^28 bytes
+-- the bytes, at most 2^28, are this CRL (RFC 5280 5.1), with some AlgorithmIdentifier and any signature of at most 65,536 bytes
 pub record IsSomeCrl (crl : CertList) (bytes : List ℕ) : Type 0 where
   pub algorithm : List ℕ
   pub form : IsAlgorithm algorithm
@@ -28,7 +28,7 @@ behind_signed bytes =
     value_at bytes >>= λ list. value_at list.0.contents >>= λ tbs.
     value_at tbs.1 >>= λ algorithm. Some algorithm.0
 
--- there is a CRL with the number of a row (RFC 5280 5.2.3), and its bytes are those of the entries that the records have for it
+-- the records have a CRL with the number of a row (RFC 5280 5.2.3), and its bytes are a CRL of the entries by the records
 abbrev pub IsStored : Records → CrlRow → Type 0
 IsStored records row =
     IsSomeAnd (crl_in records.crls row.number)

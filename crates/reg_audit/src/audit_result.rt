@@ -45,14 +45,14 @@ fn is_over_register<S: Alter>(alloc: Global, conn: &Connection<S>) -> Result<boo
 /// Checks the version, the issuer, the policy and the last accepted moment, as the opening of a register does. If the version is
 /// the program's, it checks that the schema is a register's ([`reg_store_schema::is_register`]), and then all rows
 /// ([`crate::audit`]). It changes nothing, and does not migrate a register of version 1 or 2. The connection must be in no
-/// transaction, as one that was just opened. The observer receives the progress.
+/// transaction. The observer receives the progress.
 ///
 /// `Sound`: there are sound records that the tables show, if the connection was open and the presumed facts hold
-/// (`IsPresumed`). `Broken`: there are none; if the defect is not the bytes of a CRL, there are none even if all CRLs had the
-/// right bytes (`Disproves`). `Older` and `OtherSchema` say which tables there are (`ReportsTables`).
+/// (`IsPresumed`). `Broken`: the tables show no sound records with values and derived tables that a register can have; if the defect is
+/// not the bytes of a CRL, this is so whatever these bytes are (`Disproves`). `Older` and `OtherSchema` say which tables there are.
 ///
 /// # Errors
-/// `NotARegister` and `NewVersion`, as from [`reg_store_opening::open`]; `Memory`; `Store` as from [`crate::audit`].
+/// `NotARegister` and `NewVersion`, as from [`examine`]; `Memory`; `Store` as from [`crate::audit`].
 pub fn judge<S: Alter, W: ProgressObserver>(
     alloc: Global,
     conn: &mut Connection<S>,

@@ -28,7 +28,7 @@ use reg_store_tables::sql_values::number_at;
 use sqlite::Row;
 use std::alloc::Global;
 
-/// The statements that an audit runs after [`crate::whole_audit::TABLE_QUERIES`], in this order: rowids, `office` and the schedule.
+/// The statements that an audit runs after [`crate::whole_audit::TABLE_QUERIES`], in this order: for rowids, `office` and the schedule.
 pub(crate) const OTHER_QUERIES: [AuditQuery; 7] = [
     AuditQuery::CertificateRowids,
     AuditQuery::RevocationRowids,
@@ -72,7 +72,7 @@ fn stands<T: RowKind>(row: &Row) -> bool
     }
 }
 
-/// Checks that each row is the row of some record.
+/// Checks that each row is that of some record. `Store` if one is not.
 fn each_stands<T: RowKind>(rows: &[Row]) -> Result<(), AuditFault>
     ensures stand { OnOk result (AllByRecursion (IsOfSomeRecord T.has_valid_serial T.shown) rows.now) }
     ensures broken { NoBrokenRow result }
@@ -132,7 +132,7 @@ struct Terms {
     last: u64,
 }
 
-/// The numbers of the one row of `office`; `None` if that has another version or form.
+/// The numbers of the only row of `office`; `None` for other rows, another version, or a value of another type.
 fn terms_in(rows: &[Row]) -> Option<Terms>
     ensures { IfSome result (IsTermsOf rows.now) }
 {

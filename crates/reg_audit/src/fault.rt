@@ -7,8 +7,11 @@ use std::alloc::AllocFailed;
 /// Why [`audit`](crate::audit) does not find all rows sound.
 #[derive(Clone, Copy, PartialEq, Eq)]
 pub enum AuditFault {
+    /// Out of memory.
     Memory,
+    /// The database failed, or the issuer, the policy, the version or the rowid in `kept` is one that no register writes.
     Store,
+    /// A row breaks a rule.
     Broken(BrokenRow),
 }
 

@@ -1,6 +1,6 @@
 /// Receives the progress of an audit. It does not influence the result.
 pub trait ProgressObserver {
-    /// `count` more rows were read.
+    /// A statement returned `count` rows. The last statements, for rowids, `office` and the schedule, are not reported.
     fn rows_read(&mut self, count: usize);
 
     /// The bytes of one more CRL were compared.

@@ -22,6 +22,7 @@ use reg_audit_rows::{Audited, Rows, StoredDerivedRows, check};
 use sqlite::Row;
 use std::alloc::Global;
 
+/// The rows that the statement with this index returned; none if there is no such statement.
 pub(crate) fn rows_at(all: &[Vec<Row>], row_index: usize) -> &[Row]
     ensures read { (records : Records) → (columns : DerivedRows) → (whats : List AuditQuery) → (other : AuditQuery)
         → AreRead records columns whats all.now (λ rows. rows.items) → row_index < length whats
@@ -36,7 +37,7 @@ pub(crate) fn rows_at(all: &[Vec<Row>], row_index: usize) -> &[Row]
     }
 }
 
-/// Checks that the rows, which were read for each item of [`crate::whole_audit::TABLE_QUERIES`], are those of a register.
+/// Checks that the rows, which were read for each item of [`crate::whole_audit::TABLE_QUERIES`], are those of a register, and counts them.
 pub(crate) fn check_read(alloc: Global, all: &[Vec<Row>]) -> Result<Audited, AuditFault>
     ensures sound { OnAllRead all.now
         (λ records columns. IfOk result (λ _. ReachedRows records × Kept columns records)) }

@@ -1,4 +1,5 @@
-//! The SQL statements of an audit: some read the rows of each table in the order of its rowids, others only the rowids.
+//! The SQL statements of an audit. Most read the rows of a table in the order of its rowids, some only the rowids. None reads the issuer or
+//! the bytes of CRLs.
 
 ghost use Rattle.std.specs.Prelude.{◌≡◌};
 ghost use Rattle.reg_audit.specs.ReadQueries.{sql_of};

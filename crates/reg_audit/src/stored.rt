@@ -37,7 +37,7 @@ const SEQUENCE: u8 = 0x30;
 
 const MOST_ALGORITHM: usize = 1_024;
 
-/// The most octets of a CRL, 2^28. By the contracts of `reg_crl`, a register issues no CRL with much more than half as many.
+/// The most octets of a CRL, 2^28. By the contracts of `reg_crl`, a register's CRL has at most 2^27 + 66,573.
 const MOST_CRL: usize = 268_435_456;
 
 fn other_bytes_fault(number: u64) -> AuditFault
@@ -75,7 +75,7 @@ fn as_algorithm(value: Tlv<'_>) -> Option<&[u8]>
     }
 }
 
-/// The signatureAlgorithm of a CRL (RFC 5280 5.1.1.2), if it has one.
+/// The signatureAlgorithm of a CRL (RFC 5280 5.1.1.2), if it is a SEQUENCE of at most 1,024 octets.
 fn algorithm_in(crl: &[u8]) -> Option<&[u8]>
     ensures found { IfSome result (λ found. IsAlgorithm found.now) }
     ensures one { (list : CertList) → (is : IsSomeCrl list crl.now)
@@ -179,7 +179,7 @@ fn check_each<S: Alter, W: ProgressObserver>(
     Ok(())
 }
 
-/// What all CRLs have in common: the issuer, and the seconds from thisUpdate to nextUpdate.
+/// The issuer, and the seconds from thisUpdate to nextUpdate, which all CRLs share.
 fn terms<S: Alter>(conn: &mut Connection<S>) -> Result<(Issuer, u64), DatabaseFault>
     ensures found { (records : Records) → Shows S.Store conn.old records
         → HasCleanDisk (state S.Store conn.new)
@@ -192,8 +192,8 @@ fn terms<S: Alter>(conn: &mut Connection<S>) -> Result<(Issuer, u64), DatabaseFa
     Ok((issuer, policy.crl_life()))
 }
 
-/// Checks that the stored bytes of each CRL are those of its entries, with any one algorithm and any signature. `all` has the
-/// rows that were read for each item of [`crate::whole_audit::TABLE_QUERIES`]. The observer is called after each CRL.
+/// Checks that the stored bytes of each CRL are those of its entries, with any algorithm and any signature. `all` has the rows that
+/// were read for each item of [`crate::whole_audit::TABLE_QUERIES`]. The observer is called after each CRL that has the right bytes.
 pub(crate) fn check_crls<S: Alter, W: ProgressObserver>(
     alloc: Global,
     conn: &mut Connection<S>,

@@ -1,4 +1,4 @@
-//! Reads typed values from the rows of a table. A row with a value of another type, or an invalid value, is reported as broken.
+//! Reads typed values from the rows of a table. A row with a value of another type or an invalid value is reported as broken.
 
 ghost use Rattle.std.specs.Prelude.{◌≡◌, [], ◌∷◌, List, map, IfOk};
 ghost use Rattle.std.specs.List.{AllByRecursion};
@@ -115,7 +115,7 @@ pub(crate) fn typed<T: RowKind>(
     }
 }
 
-/// The typed value of the only row of a table.
+/// The typed value of the only row of a table. If the table has no row or several, the row number after the last is reported as broken.
 pub(crate) fn only<T: RowKind>(table: RegisterTable, rows: &[Row]) -> Result<T::Record, AuditFault>
     ensures read { (it : T.Record) → T.has_valid_serial it → rows.now ≡ T.shown it ∷ []
         → IfOk result (λ read. read ≡ it) }

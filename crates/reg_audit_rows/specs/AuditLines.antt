@@ -8,7 +8,7 @@ use Rattle.reg_audit_rows.specs.declared.broken_row.Defect.{Defect}
 use Rattle.reg_audit_rows.specs.declared.broken_row.Defect.TheVariants as why
 use Rattle.reg_audit_rows.specs.declared.audit_result.Audited.{Audited}
 
--- a table by its name
+-- the name of a table
 unfoldable pub table_name : RegisterTable → List ℕ
 table_name table.Office = codes "office"
 table_name table.Subscriber = codes "subscriber"
@@ -21,7 +21,7 @@ table_name table.Standing = codes "standing"
 table_name table.Kept = codes "kept"
 table_name table.Listed = codes "listed"
 
--- what is wrong with a row
+-- the text that says what is wrong with a row
 unfoldable pub why_text : Defect → List ℕ
 why_text why.PastClockEnd = codes "a moment past the end of the clock"
 why_text why.NeverAccepted = codes "a last accepted moment that no command set"
@@ -54,13 +54,13 @@ why_text why.OtherBytes = codes "its bytes are not those of what the records lis
 why_text why.WrongCounts = codes "its counts are not those of the table standing"
 why_text why.NoValue = codes "a value that no register writes, or no such row"
 
--- all rows are sound: how many certificates, revocations and CRLs there are
+-- the line if all rows are sound: how many certificates, revocations and CRLs there are
 abbrev pub sound_text : Audited → List ℕ
 sound_text found =
     codes "sound, " ++ decimal found.certificates ++ codes " certificates, " ++ decimal found.revoked
     ++ codes " revoked, " ++ decimal found.crls ++ codes " CRLs\n"
 
--- a row that breaks a rule: its table, its number there, counted from 1, and why
+-- the line for a row that breaks a rule: its table, its number there, and why
 abbrev pub broken_text : BrokenRow → List ℕ
 broken_text broken =
     codes "broken: " ++ table_name broken.table ++ codes " " ++ decimal broken.row ++ codes ": "

@@ -20,7 +20,7 @@ IsCrlOf algorithm crl bytes =
     (signature : List ℕ) × (length signature ≤ 65536)
     × (bytes ≡ certificate_list (tbs_of algorithm crl) algorithm signature)
 
--- a CRL of the issuer, with the number and thisUpdate of a row, and these entries
+-- a CRL of the issuer, with the number and thisUpdate of a row, this nextUpdate and these entries
 abbrev pub crl_with_entries : Issuer → CrlRow → ℕ → List Entry → CertList
 crl_with_entries issuer crl next_update entries =
     record {
@@ -36,13 +36,13 @@ abbrev pub behind_first : List ℕ → Option (List ℕ)
 behind_first [] = None
 behind_first (first ∷ rest) = Some rest
 
--- the octets of the BIT STRING that is the third value in a SEQUENCE: the signature of a CRL
+-- the octets of the third value in a SEQUENCE, but the first octet: of a CRL, those of its BIT STRING signature
 abbrev pub signature_at : List ℕ → Option (List ℕ)
 signature_at bytes =
     value_at bytes >>= λ list. value_at list.0.contents >>= λ tbs. value_at tbs.1 >>= λ algorithm.
     value_at algorithm.1 >>= λ bits. behind_first bits.0.contents
 
--- n is not above the number of the last CRL that lists a row, if that has been issued
+-- n is not above the number of the last CRL that lists a row, if there is that number
 abbrev pub still_on : ℕ → Option ℕ → Bool
 still_on n None = true
 still_on n (Some last) = nat_le n last
@@ -58,7 +58,8 @@ listed_entry row = record { serial = row.serial; at = row.at; reason = row.reaso
 abbrev pub listed_entries : ℕ → List Listed → List Entry
 listed_entries n rows = map listed_entry (filter (lists_row n) rows)
 
--- the issuer, the seconds from thisUpdate to nextUpdate, and the rows of `listed` are those of the records
+-- the issuer, the seconds from thisUpdate to nextUpdate, and the rows of `listed`, in any order, are those of the records; CRL numbers are
+-- 1, 2, 3 and so on
 pub record MatchRecords (issuer : Issuer) (crl_life : ℕ) (listed : List Listed)
     (records : Records) : Type 0 where
   pub by_issuer : issuer ≡ records.issuer

@@ -15,7 +15,7 @@ use Rattle.reg_audit_rows.specs.declared.derived_rows.Letter.TheVariants.{Good, 
 use Rattle.reg_audit_rows.specs.declared.derived_rows.Standing.{Standing}
 use Rattle.reg_audit_rows.specs.declared.derived_rows.Listed.{Listed}
 
--- a letter as it is stored
+-- the letter in reg_store_tables `DerivedRows` for a letter of the code
 abbrev pub letter_in : Letter → column.Letter
 letter_in Good = column.good
 letter_in Revoked = column.revoked
@@ -35,7 +35,7 @@ listed_in row =
       last = row.last;
     }
 
--- the rows are these ones of the derived tables
+-- the rows that were read are those of these derived tables
 pub record AreDerivedRowsOf (kept : StoredDerivedRows) (columns : column.DerivedRows) : Type 0 where
   pub letters : map standing_in kept.letters.now ≡ columns.letters
   pub counts : kept.counts ≡ columns.counts
@@ -48,7 +48,7 @@ letter_by state.Good = Good
 letter_by state.Expired = Expired
 letter_by (state.Revoked at reason) = Revoked
 
--- a certificate's row of `standing`, by the revocations that are looked up
+-- a certificate's row of `standing`, by its status at a moment, with the revocation that a look-up finds
 abbrev pub standing_by : ℕ → (ℕ → Option RevocationRow) → CertRow → Standing
 standing_by last revocations certificate = record {
   serial = certificate.serial;
@@ -56,12 +56,12 @@ standing_by last revocations certificate = record {
   letter = letter_by (status_by last (Some certificate) (revocations certificate.serial));
 }
 
--- the end of a certificate that was looked up
+-- the notAfter of a certificate that was looked up; 0 if there is none
 abbrev pub found_end : Option CertRow → ℕ
 found_end None = 0
 found_end (Some certificate) = certificate.not_after
 
--- a revocation's row of `listed`, by the certificates that are looked up
+-- a revocation's row of `listed`, by these CRLs, with the certificate that a look-up finds
 abbrev pub listed_with : List CrlRow → (ℕ → Option CertRow) → RevocationRow → Listed
 listed_with crls certificates revocation = record {
   serial = revocation.serial;

@@ -3,7 +3,7 @@ use Rattle.std.specs.Prelude.{Option, Result, IfErr, MatchOption}
 use Rattle.reg_audit_rows.specs.declared.fault.CheckFault.{CheckFault}
 use Rattle.reg_audit_rows.specs.declared.fault.CheckFault.TheVariants.{Memory, Broken}
 
--- the fault is a row that breaks a rule, and not that memory ran out
+-- the fault is a row that breaks a rule, not out of memory
 abbrev pub IsBroken : CheckFault → Type 0
 IsBroken Memory = ⊥
 IsBroken (Broken broken) = Unit {0}

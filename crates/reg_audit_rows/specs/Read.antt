@@ -36,7 +36,7 @@ IsLastSet rows =
     rows.subscribers.now ≡ []
     → (rows.last ≡ 0) ⊎ IsTrue (list_any (λ crl. crl.this_update == rows.last) rows.crls.now)
 
--- what is looked up by a key is the first row with it
+-- a look-up by a key finds the first row with it
 abbrev pub Indexes : {Row : Type 0} → (Row → ℕ) → List Row → (ℕ → Option Row) → Type 0
 Indexes key rows row_with = (k : ℕ) → row_with k ≡ find (λ row. key row == k) rows
 
@@ -45,7 +45,7 @@ abbrev pub HaveSubscribers : List SubscriberRow → List OrderRow → Type 0
 HaveSubscribers subscribers orders =
     AllByRecursion (λ row. IsSome (subscriber_in subscribers row.subscriber)) orders
 
--- a validity is no longer than the days of the order that was looked up
+-- the look-up found an order, and the validity is no longer than its days
 abbrev pub IsAsOrdered : CertRow → Option OrderRow → Type 0
 IsAsOrdered certificate order = IsSomeAnd order (λ found. validity_seconds certificate ≤ 86400 * found.days)
 
@@ -53,7 +53,7 @@ abbrev pub AreAsOrdered : List OrderRow → List CertRow → Type 0
 AreAsOrdered orders certificates =
     AllByRecursion (λ row. IsAsOrdered row (order_in orders row.order)) certificates
 
--- a request was not received after the end of the certificate that was looked up
+-- the look-up found a certificate, and the request was not received after its notAfter
 abbrev pub IsInTime : RequestRow → Option CertRow → Type 0
 IsInTime request certificate = IsSomeAnd certificate (λ found. request.received ≤ found.not_after)
 
@@ -61,7 +61,7 @@ abbrev pub AreInTime : (ℕ → Option CertRow) → List RequestRow → Type 0
 AreInTime certificate_with requests =
     AllByRecursion (λ row. IsInTime row (certificate_with row.serial)) requests
 
--- a request was not received after the revocation that was looked up, if there is one
+-- if the look-up found a revocation, the request was not received after it
 abbrev pub IsBefore : RequestRow → Option RevocationRow → Type 0
 IsBefore request revocation = IfSome revocation (λ found. request.received ≤ found.at)
 
@@ -74,7 +74,7 @@ pub record AreAround (first at : ℕ) (crls : List CrlRow) : Type 0 where
   pub before : AllByRecursion (λ crl. crl.number < first → crl.this_update ≤ at) crls
   pub after : AllByRecursion (λ crl. first ≤ crl.number → at ≤ crl.this_update) crls
 
--- a revocation fits the certificate and the request that were looked up, and the CRLs
+-- the look-ups found a certificate and a request, and the revocation fits these, the CRLs and the last accepted moment
 pub record FitsIn (last : ℕ) (certificate : Option CertRow) (request : Option RequestRow) (crls : List CrlRow)
     (revocation : RevocationRow) : Type 0 where
   pub within_validity : IsSomeAnd certificate (λ found. revocation.at ≤ found.not_after)
@@ -91,7 +91,7 @@ FitTogether last certificate_with requests crls revocations =
     AllByRecursion (λ row.
     FitsIn last (certificate_with row.serial) (request_in requests row.request) crls row) revocations
 
--- CRL numbers are 1, 2, 3 and so on (RFC 5280 5.2.3), thisUpdates do not fall, and none is after the last accepted moment
+-- CRL numbers are 1, 2, 3 and so on (RFC 5280 5.2.3), thisUpdates do not fall, none is after the last accepted moment; at most `cap` rows
 pub record AreCrls (cap last : ℕ) (crls : List CrlRow) : Type 0 where
   pub numbered : NumberedFrom (λ crl. crl.number) 1 crls
   pub updates_never_decrease : NeverDecreases (λ crl. crl.this_update) crls
@@ -111,7 +111,7 @@ pub record AreRevocations (found : ℕ → Option CertRow) (rows : Rows) : Type 
   pub none_after : AllByRecursion
       (λ row. IsBefore row (revocation_in rows.revocations.now row.serial)) rows.requests.now
 
--- the rows are found by their serial numbers
+-- look-ups by serial number find the first certificate and the first revocation with it
 pub record IsIndexOf (rows : Rows) (found : RowsBySerial) : Type 0 where
   pub certificates : Indexes (λ row. row.serial) rows.certificates.now (get nat_cmp found.certificates)
   pub revocations : Indexes (λ row. row.serial) rows.revocations.now (get nat_cmp found.revocations)

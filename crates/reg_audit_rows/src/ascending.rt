@@ -1,4 +1,4 @@
-//! Checks that numbers rise by one, and that moments do not fall.
+//! Checks that numbers rise by one, and that moments do not fall and are not after the last accepted one.
 
 ghost use Rattle.std.specs.Prelude.{◌≡◌, ◌≤◌, OnOk};
 ghost use Rattle.std.specs.List.{AllByRecursion};

@@ -11,12 +11,12 @@ pub struct Audited {
 /// The result of an audit of a register.
 #[derive(Clone, Copy, PartialEq, Eq)]
 pub enum AuditResult {
-    /// No row breaks a rule; how many rows there are.
+    /// No row breaks a rule; the numbers of rows.
     Sound(Audited),
     /// A row breaks a rule.
     Broken(BrokenRow),
-    /// The register is of version 1 or 2: its rows are not checked.
+    /// The register is of version 1 or 2: only its row of `office` is checked.
     Older,
-    /// The tables, columns or indexes are not those of a register: its rows are not checked.
+    /// The version is the program's, but the schema is not a register's: only `office` and the schedule are checked.
     OtherSchema,
 }

@@ -1,4 +1,4 @@
-/// A table of a register.
+/// A table of a register that can have a broken row: each except `longest`, the schedule.
 #[derive(Clone, Copy, PartialEq, Eq)]
 pub enum RegisterTable {
     Office,
@@ -20,13 +20,14 @@ pub enum Defect {
     PastClockEnd,
     /// No command can have set the last accepted moment: there is no subscriber, and it is neither 0 nor the thisUpdate of a CRL.
     NeverAccepted,
-    /// There are more rows than the policy's cap.
+    /// There are more rows than the policy's cap, the most rows of a table.
     AboveCap,
-    /// Its id, rowid or CRL number (RFC 5280 5.2.3) is not one more than that of the previous row, or not 1 in the first row.
+    /// Its id, rowid or CRL number (RFC 5280 5.2.3) is not one more than the previous row's; in the first row, it is not 1.
     OutOfOrder,
     /// Its name has a byte that no command takes.
     BadName,
     SameName,
+    /// The days of an order, or the column `days` of `office`, are not 1 to 398.
     BadDays,
     /// An earlier row has the same serial number (RFC 5280 4.1.2.2).
     SameSerial,
@@ -37,6 +38,7 @@ pub enum Defect {
     NoOrder,
     /// Its notBefore is after its notAfter (RFC 5280 4.1.2.5).
     ReversedValidity,
+    /// Its validity, both ends included, is longer than the days of its order.
     TooLong,
     NoCertificate,
     /// There is no such request, or it is for another serial number.
@@ -45,7 +47,7 @@ pub enum Defect {
     OtherReason,
     /// Its moment is after the last accepted one.
     AfterLast,
-    /// Its moment is after the certificate's end.
+    /// Its moment is after the certificate's notAfter.
     AfterEnd,
     /// Its moment is after the revocation of its serial number.
     AfterRevocation,
@@ -59,17 +61,17 @@ pub enum Defect {
     EarlierFirst,
     /// Its thisUpdate (RFC 5280 5.1.2.4) is before that of the previous CRL.
     ThisUpdateDecreases,
-    /// It does not match the records, or the row of a lower serial number is missing.
+    /// It does not match the records, or a row with a lower serial number is missing.
     DerivedMismatch,
     /// Its bytes are not those of a CRL with the entries that the records have for it (RFC 5280 5.1).
     OtherBytes,
-    /// The counts in `kept` are not those of the letters in `standing`.
+    /// The counts in `kept` are not those of the certificates' states by the records.
     WrongCounts,
     /// It has a value of another type or an invalid value, or a table that must have one row has none or several.
     NoValue,
 }
 
-/// A row that breaks a rule: its table, its number there, counted from 1, and why.
+/// A row that breaks a rule: its table, its number there, counted from 1, and why. A missing row can have the number after the last row.
 #[derive(Clone, Copy, PartialEq, Eq)]
 pub struct BrokenRow {
     pub table: RegisterTable,

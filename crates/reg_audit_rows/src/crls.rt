@@ -133,8 +133,9 @@ fn check_bytes(
     }
 }
 
-/// Checks that the bytes of a CRL are those of the entries that the records have for it, with this algorithm and any signature of at
-/// most 65,536 bytes. Errors: `Memory`; `Broken` if the bytes differ, or if the CRL would have over 1,000,000 entries or two for one serial number.
+/// Checks that the bytes of a CRL are those of its entries by the records, with this algorithm and any signature of at most 65,536 bytes.
+/// `crl_life` is in seconds. Errors: `Memory`; `Broken` if the bytes differ, or if the CRL would have over 1,000,000 entries or two for one
+/// serial number. The row in `Broken` does not name the CRL.
 pub fn check_crl(
     alloc: Global,
     issuer: &Issuer,

@@ -31,7 +31,7 @@ pub struct Standing {
     pub letter: Letter,
 }
 
-/// A row of `listed`: a revocation's CRL entry, the numbers of the first CRL that lists it and of the last, if that has been issued, and notAfter.
+/// A row of `listed`: a revocation's CRL entry, its certificate's notAfter, and the numbers of its first CRL and of its last, if that was issued.
 #[derive(Clone, Copy)]
 pub struct Listed {
     pub serial: Serial,
@@ -134,7 +134,8 @@ fn is_past(crl: &CrlRow, first: u64, not_after: Moment) -> bool
     first <= crl.number && not_after < crl.this_update
 }
 
-/// The number of the first CRL, from the number `first` on, whose thisUpdate is after `not_after`, if there is one; a binary search.
+/// The number of the last CRL that lists a revocation: the first, from the number `first` on, whose thisUpdate is after `not_after`. `None`
+/// if there is none yet. If the numbers rise and the thisUpdates do not fall, a binary search finds it.
 fn last_listing(crls: &[CrlRow], first: u64, not_after: Moment) -> Option<u64>
     ensures { NumberedFrom (λ crl. crl.number) 1 crls.now → NeverDecreases (λ crl. crl.this_update) crls.now
         → result ≡ last_in crls.now first not_after }
@@ -225,7 +226,7 @@ fn first_difference<T: HasSerial>(held: &[T], wanted: &[T]) -> Option<usize>
     }
 }
 
-/// The index of a row among others, or their number if it is not there. It is used only in the report.
+/// The index of a row among others, or their number if the row is not there. Only the report uses this index.
 fn index_of<T: HasSerial>(rows: &[T], row: Option<&T>) -> usize {
     let Some(row) = row else {
         return rows.len();

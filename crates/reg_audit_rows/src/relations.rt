@@ -67,7 +67,7 @@ fn certificate_defect(certificate: &CertRow, order: Option<OrderRow>) -> Option<
     None
 }
 
-/// Checks that each certificate's order exists, and that its validity is no longer than ordered.
+/// Checks that each certificate's order exists, and that no validity is longer than its order's days.
 pub(crate) fn are_as_ordered(
     certificates: &[CertRow],
     orders: &[OrderRow],
@@ -140,7 +140,7 @@ pub(crate) fn none_after(
     Ok(())
 }
 
-/// Why a revocation can't be by this request; `None` if it can.
+/// Why this request can't have led to the revocation; `None` if it can.
 fn request_mismatch(request: &RequestRow, revocation: &RevocationRow) -> Option<Defect>
     ensures { NoDefectIff (LeadsTo revocation.now request.now) result }
 {

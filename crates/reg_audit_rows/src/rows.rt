@@ -28,8 +28,8 @@ use reg_core::{
 use std::alloc::Global;
 use std::collections::BTreeMap;
 
-/// The policy's cap, the last accepted moment, and the rows of each table that is not derived, in the order of its rowids. The CRLs are without
-/// their bytes.
+/// The policy's cap (the most rows of a table), the last accepted moment, and the rows of each table of records, in rowid order. The CRLs are
+/// without their bytes.
 #[derive(Clone, Copy)]
 pub struct Rows<'a> {
     pub cap: u64,
@@ -53,7 +53,7 @@ fn check_subscribers(alloc: Global, rows: &[SubscriberRow], cap: u64) -> Result<
     names_differ(alloc, rows)
 }
 
-/// Checks that ids are 1, 2, 3 and so on, each subscriber exists, days are 1 to 398, and there are no more rows than the cap.
+/// Checks that there are no more rows than the cap, ids are 1, 2, 3 and so on, each subscriber exists, and days are 1 to 398.
 fn check_orders(
     subscribers: &[SubscriberRow],
     rows: &[OrderRow],
@@ -70,7 +70,8 @@ fn check_orders(
     days_are_allowed(rows)
 }
 
-/// Checks that serial numbers differ (RFC 5280 4.1.2.2), each certificate fills an order of its own, and validities are no longer than ordered.
+/// Checks that there are no more rows than the cap, and serial numbers differ (RFC 5280 4.1.2.2). Checks that each certificate fills an order
+/// of its own, no notBefore is after its notAfter, and no validity is longer than ordered. Returns the certificates by serial number.
 fn check_certificates(
     alloc: Global,
     orders: &[OrderRow],
@@ -90,7 +91,8 @@ fn check_certificates(
     certificates_by_serial(alloc, rows)
 }
 
-/// Checks that ids are 1, 2, 3 and so on, each certificate exists and had not ended, and moments of receipt do not fall.
+/// Checks that there are no more rows than the cap, ids are 1, 2, 3 and so on, and each certificate exists and had not ended. Checks that
+/// moments of receipt do not fall, and none is after the last accepted moment.
 fn check_requests(
     certificates: &BTreeMap<Serial, CertRow>,
     rows: &[RequestRow],
@@ -111,7 +113,8 @@ fn check_requests(
     are_in_time(rows, certificates)
 }
 
-/// Checks that numbers are 1, 2, 3 and so on (RFC 5280 5.2.3), and thisUpdates do not fall.
+/// Checks that there are no more rows than the cap, and numbers are 1, 2, 3 and so on (RFC 5280 5.2.3). Checks that thisUpdates do not fall, and
+/// none is after the last accepted moment.
 fn check_crls(rows: &[CrlRow], last: Moment, cap: u64) -> Result<(), CheckFault>
     ensures ok { OnOk result (AreCrls cap last rows.now) }
     ensures broken { NotBrokenIf (AreCrls cap last rows.now) result }

@@ -36,7 +36,7 @@ fn check_derived(
     same_rows(alloc, RegisterTable::Listed, beside.listed, listed)
 }
 
-/// Checks that the rows are those of sound records, and that the derived tables match them: the letters, their counts, and the
+/// Checks that the rows are those of sound records (`ReachedRows`), and that the derived tables match these: the letters, their counts, and the
 /// entries of CRLs. It does not check the bytes of CRLs. Errors: `Memory`; `Broken` with a row that breaks a rule. It takes
 /// O(n log n) steps for n rows, and one step for each pair of a revocation and a CRL.
 pub fn check(

@@ -8,12 +8,12 @@ use Rattle.reg_core.specs.declared.calendar.Civil.{Civil}
 abbrev pub IsMoment : ℕ → Type 0
 IsMoment seconds = seconds < 253402300800
 
--- the register accepts moments before 9999-12-22T00:00:00Z, so that each nextUpdate is in the range of GeneralizedTime
+-- the register accepts moments before 9999-12-22T00:00:00Z, ten days before the year 10000, so that each nextUpdate has a GeneralizedTime
 -- (RFC 5280 4.1.2.5.2)
 abbrev pub clock_end : ℕ
 clock_end = 253401436800
 
--- the Gregorian rule: every fourth year is a leap year, except the centuries that are not divisible by 400
+-- the Gregorian rule: a year divisible by 4 is a leap year, unless it is divisible by 100 and not by 400
 abbrev pub is_leap : ℕ → Bool
 is_leap year = (year % 4 == 0) && (not (year % 100 == 0) || (year % 400 == 0))
 
@@ -23,9 +23,8 @@ month_length year month =
     if month == 2 then (if is_leap year then 29 else 28)
     else (if (month == 4) || (month == 6) || (month == 9) || (month == 11) then 30 else 31)
 
--- The year, month and day of the date that is `days` days after the first of a month. It goes on month by month, and
--- from December (month / 12 is 1) to the next year. `steps` bounds the recursion, which needs no more steps than
--- there are days.
+-- The year, month and day of the date that is `days` days after the first of a month. The recursion goes on month by month, and
+-- from December (month / 12 is 1) to the next year. `steps` bounds the recursion, which needs at most `days` steps.
 unfoldable pub date_after : ℕ → ℕ → ℕ → ℕ → ℕ × ℕ × ℕ
 date_after zero year month days = (year, month, days + 1)
 date_after (suc steps) year month days =
@@ -56,7 +55,7 @@ pub record IsCivilAt (seconds : ℕ) (c : Civil) : Type 0 where
   pub minute : c.minute ≡ seconds % 3600 / 60
   pub second : c.second ≡ seconds % 60
 
--- the range of each field
+-- the range of each field; a month may have fewer than 31 days
 pub record IsCivil (c : Civil) : Type 0 where
   pub first_year : 1970 ≤ c.year
   pub last_year : c.year ≤ 9999
@@ -108,11 +107,11 @@ generalized_time c =
     four_digits c.year ++ two_digits c.month ++ two_digits c.day
     ++ two_digits c.hour ++ two_digits c.minute ++ two_digits c.second ++ codes "Z"
 
--- the register's own text of a moment
+-- the text of a moment: `YYYY-MM-DDTHH:MM:SSZ` (RFC 3339 5.6)
 unfoldable pub moment_text : ℕ → List ℕ
 moment_text seconds = date_time (civil_of seconds)
 
--- the first number below a bound that passes a test
+-- the least number below a bound that passes a test
 unfoldable pub first_below : (ℕ → Bool) → ℕ → Option ℕ
 first_below test zero = None
 first_below test (suc n) = option_or (first_below test n) (cond (test n) (Some n) None)
@@ -121,11 +120,11 @@ first_below test (suc n) = option_or (first_below test n) (cond (test n) (Some n
 unfoldable pub moment_of : List ℕ → Option ℕ
 moment_of text = first_below (λ m. bytes_eq text (moment_text m)) 253402300800
 
--- the contents of the UTCTime of a moment: a two-digit year means 1950 to 2049
+-- the contents of the UTCTime of a moment through 2049 (RFC 5280 4.1.2.5.1): the year in two digits, of which 00 to 49 mean 2000 to 2049
 unfoldable pub utc_text : ℕ → List ℕ
 utc_text seconds = utc_time (civil_of seconds)
 
--- the contents of the GeneralizedTime of a moment
+-- the contents of the GeneralizedTime of a moment (RFC 5280 4.1.2.5.2)
 unfoldable pub general_text : ℕ → List ℕ
 general_text seconds = generalized_time (civil_of seconds)
 

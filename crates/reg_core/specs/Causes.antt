@@ -23,11 +23,11 @@ cause_line cause.OcspLife = codes "  --ocsp-life: 28800 to 863999"
 cause_line cause.Cap = codes "  --cap: 1 to 1000000"
 cause_line cause.Steps = codes "  1 to 16 MOMENT=DAYS, ascending from 1970-01-01, DAYS 1 to 398"
 
--- whether a number is out of a range
+-- whether a number is below `least` or above `most`
 abbrev pub is_out : ℕ → ℕ → ℕ → Bool
 is_out least most number = nat_lt number least || nat_lt most number
 
--- the first value of a policy that is out of its range, if one is (docs/RULES.md, "What is kept")
+-- the cause for the first value of a policy that is out of its range, if one is (docs/RULES.md, "What is kept")
 unfoldable pub terms_cause : ℕ → ℕ → ℕ → ℕ → Option Cause
 terms_cause days crl_life ocsp_life cap =
     if is_out 1 398 days then Some cause.Days

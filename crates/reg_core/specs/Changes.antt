@@ -14,24 +14,24 @@ use Rattle.reg_core.specs.declared.rows.RevocationRow.{RevocationRow}
 abbrev pub touched : Records → ℕ → Records
 touched records now = record records { last = now }
 
--- a new subscriber
+-- a new subscriber, after the others
 abbrev pub with_subscriber : Records → ℕ → SubscriberRow → Records
 with_subscriber records now row = record records { last = now; subscribers = records.subscribers ++ row ∷ [] }
 
--- a new order
+-- a new order, after the others
 abbrev pub with_order : Records → ℕ → OrderRow → Records
 with_order records now row = record records { last = now; orders = records.orders ++ row ∷ [] }
 
--- a new certificate
+-- a new certificate, after the others
 abbrev pub with_certificate : Records → ℕ → CertRow → Records
 with_certificate records now row =
     record records { last = now; certificates = records.certificates ++ row ∷ [] }
 
--- a new request
+-- a new request, after the others
 abbrev pub with_request : Records → ℕ → RequestRow → Records
 with_request records now row = record records { last = now; requests = records.requests ++ row ∷ [] }
 
--- a request, declined if it has the id
+-- the row of a request: declined if it has the id, else the same
 abbrev pub declined_if : ℕ → RequestRow → RequestRow
 declined_if id row = cond (row.id == id) (record row { declined = true }) row
 
@@ -39,11 +39,11 @@ declined_if id row = cond (row.id == id) (record row { declined = true }) row
 abbrev pub with_declined : Records → ℕ → ℕ → Records
 with_declined records now id = record records { last = now; requests = map (declined_if id) records.requests }
 
--- a new revocation
+-- a new revocation, after the others
 abbrev pub with_revocation : Records → ℕ → RevocationRow → Records
 with_revocation records now row = record records { last = now; revocations = records.revocations ++ row ∷ [] }
 
--- a new CRL
+-- a new CRL, after the others
 abbrev pub with_crl : Records → ℕ → Crl → Records
 with_crl records now crl = record records { last = now; crls = records.crls ++ crl ∷ [] }
 
@@ -59,8 +59,9 @@ changed_by records now (Revocation row not_after) = with_revocation records now 
 changed_by records now (NewCrl row der) =
     with_crl records now (record { number = row.number; this_update = row.this_update; bytes = der.now })
 
--- the properties that a decision at this moment ensures of a change: an id or a number is the next one; a certificate is new and not
--- expired; a revoked certificate is registered with this notAfter, not expired, and was not revoked
+-- properties of a change that a decision at this moment ensures: the id of a new row, the number of a new CRL and the `first` of a new
+-- revocation are the next ones; the serial number of a new certificate is not registered, and its notAfter is not past; the serial number
+-- of a new revocation is not revoked, and is registered with this notAfter, which is not past
 abbrev pub Fits : Records → ℕ → Change → Type 0
 Fits records now Touch = Unit {0}
 Fits records now (Subscriber row) = row.id ≡ length records.subscribers + 1

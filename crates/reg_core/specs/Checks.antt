@@ -1,5 +1,6 @@
 -- The checks of each command, in their order. A check that fails gives a refusal, else `None`; the command is refused with the
--- first refusal. `full`: the table to which the command would add a row has as many rows as the policy allows.
+-- first refusal. `full`: the table to which the command would add a row has at least as many rows as the policy allows. A command with
+-- this parameter is refused for it last.
 use Rattle.std.specs.Prelude.{ℕ, Bool, true, not, cond, ◌||◌, ◌==◌, ◌+◌, ◌-◌, ◌*◌, min, nat_le, nat_lt, List, [], ◌∷◌, ◌++◌, Option, Some, None, Result, Ok, Err}
 pub use Rattle.reg_core.specs.Calendar.{clock_end}
 use Rattle.reg_core.specs.Label.{is_name}
@@ -29,7 +30,7 @@ abbrev pub refused_if_some : {Row : Type 0} → Option Row → (Row → Bool) �
 refused_if_some None test refusal = None
 refused_if_some (Some row) test refusal = cond (test row) (Some (refusal row)) None
 
--- the first refusal that applies
+-- the first refusal in the list
 abbrev pub first_refusal : List (Option Refusal) → Option Refusal
 first_refusal [] = None
 first_refusal (None ∷ rest) = first_refusal rest
@@ -48,7 +49,7 @@ subscriber_checks name by_name full =
     ∷ refused_if full Full
     ∷ []
 
--- an order of a registered subscriber, for 1 day up to the most days of any step of the schedule
+-- an order of a recorded subscriber, for 1 day up to the most days of any step of the schedule
 abbrev pub order_checks : Terms → Option SubscriberRow → ℕ → Bool → List (Option Refusal)
 order_checks policy subscriber days full =
     refused_if_none subscriber NoSubscriber
@@ -74,7 +75,7 @@ validity_checks policy now wanted order =
     ∷ refused_if (nat_lt wanted.not_after now) Ended
     ∷ []
 
--- a certificate for an order that has none yet, with a new serial number
+-- the order exists and has no certificate yet, no certificate has the serial number, and the validity passes its checks
 abbrev pub register_checks : Terms → ℕ → CertRow → Option OrderRow → Option CertRow → Option CertRow → Bool
     → List (Option Refusal)
 register_checks policy now wanted order by_order by_serial full =
@@ -95,14 +96,14 @@ live_checks now certificate revocation =
     ∷ refused_if_some certificate (λ row. nat_lt row.not_after now) (λ row. ExpiredBefore)
     ∷ []
 
--- a request for a registered certificate, neither revoked nor expired, on a ground that exists
+-- the certificate is registered, the word names a ground, and the certificate is neither revoked nor past notAfter
 abbrev pub request_checks : ℕ → Option CertRow → List ℕ → Option RevocationRow → Bool → List (Option Refusal)
 request_checks now certificate word revocation full =
     refused_if_none certificate UnknownSerial
     ∷ refused_if_no_ground (ground_or_refusal word)
     ∷ (live_checks now certificate revocation ++ refused_if full Full ∷ [])
 
--- a request that can be declined or lead to a revocation: it was not declined, and its certificate is neither revoked nor expired
+-- a request that can be declined or lead to a revocation: it exists, was not declined, and its certificate is neither revoked nor expired
 abbrev pub pending_request_checks : ℕ → Option RequestRow → Option CertRow → Option RevocationRow
     → List (Option Refusal)
 pending_request_checks now request certificate revocation =

@@ -14,7 +14,7 @@ latest [] = None
 latest (crl ∷ []) = Some crl
 latest (crl ∷ next ∷ rest) = latest (next ∷ rest)
 
--- a CRL without its bytes
+-- the number and the thisUpdate of a CRL, without its bytes
 abbrev pub row_of : Crl → CrlRow
 row_of crl = record { number = crl.number; this_update = crl.this_update }
 
@@ -35,13 +35,13 @@ is_past_end certificates serial moment = ended (certificate_in certificates seri
     ended (Some certificate) = nat_lt certificate.not_after moment
     ended None = false
 
--- the CRL can list the revocation, and its thisUpdate is past the certificate's notAfter
+-- the CRL's number is not below the revocation's `first`, and its thisUpdate is past the certificate's notAfter: no later CRL lists it
 abbrev pub ends_listing : List CertRow → RevocationRow → Crl → Bool
 ends_listing certificates revocation crl =
     nat_le revocation.first crl.number && is_past_end certificates revocation.serial crl.this_update
 
--- CRL n lists the revocation: n is not below the first CRL that can, and no earlier CRL that can is past the certificate's
--- notAfter (an entry stays until it appears on one regularly scheduled CRL issued beyond the validity, RFC 5280 3.3)
+-- CRL n lists the revocation: n is not below the revocation's `first`, and no CRL with a number below n ends its listing (an entry
+-- stays until it appears on one regularly scheduled CRL issued beyond the validity period, RFC 5280 3.3)
 abbrev pub is_listed_on : List CertRow → List Crl → ℕ → RevocationRow → Bool
 is_listed_on certificates crls n revocation =
     nat_le revocation.first n
@@ -51,7 +51,7 @@ is_listed_on certificates crls n revocation =
 abbrev pub content : Records → ℕ → List RevocationRow
 content records n = filter (is_listed_on records.certificates records.crls n) records.revocations
 
--- the number of the last CRL that lists the revocation: the first one past its certificate's notAfter, if that is issued
+-- the number of the last CRL that lists the revocation: the first one that ends its listing, if that is issued
 abbrev pub last_listing : Records → RevocationRow → Option ℕ
 last_listing records revocation =
     option_map (λ crl. crl.number) (find (ends_listing records.certificates revocation) records.crls)
@@ -76,11 +76,11 @@ abbrev pub EntriesAscend : List Entry → Type 0
 EntriesAscend [] = Unit {0}
 EntriesAscend (entry ∷ rest) = AllByRecursion (λ later. entry.serial < later.serial) rest × EntriesAscend rest
 
--- the entries of CRL n, in ascending order of serial number (RFC 5280 5.1.2.6)
+-- the entries of CRL n (revokedCertificates, RFC 5280 5.1.2.6), in ascending order of serial number
 abbrev pub entries : Records → ℕ → List Entry
 entries records n = ascending (map entry_of (content records n))
 
--- the fields that are signed in a CRL (tbsCertList, RFC 5280 5.1.2)
+-- the fields of a CRL that are signed (tbsCertList, RFC 5280 5.1.2), but for the version and the algorithm
 pub record CertList : Type 0 where
   pub issuer : Issuer
   pub number : ℕ
@@ -88,7 +88,7 @@ pub record CertList : Type 0 where
   pub next_update : ℕ
   pub entries : List Entry
 
--- the fields that are signed in CRL n, with this thisUpdate
+-- the fields of CRL n, with this thisUpdate, and nextUpdate later by the policy's life of a CRL (RFC 5280 5.1.2.5)
 abbrev pub cert_list : Records → ℕ → ℕ → CertList
 cert_list records n this_update = record {
   issuer = records.issuer;

@@ -15,11 +15,11 @@ use Rattle.reg_core.specs.declared.rows.RevocationRow.{RevocationRow}
 use Rattle.reg_core.specs.declared.rows.CrlRow.{CrlRow}
 use Rattle.reg_core.specs.declared.refusal.Refusal.{Refusal}
 
--- the head: what a decision needs besides the looked-up rows. `held` is the number of rows of the table to which it would add one.
+-- the input that all decisions share: `held` is the number of rows of the table to which the command would add one
 abbrev pub head_of : Records → ℕ → ℕ → Head
 head_of records now held = record { now = now; last = records.last; policy = records.policy; held = held }
 
--- the table that would grow has as many rows as the policy allows
+-- the table that would grow has at least as many rows as the policy allows
 abbrev pub head_is_full : Head → Bool
 head_is_full head = nat_le head.policy.cap head.held
 
@@ -40,7 +40,7 @@ abbrev pub IsDecided : {Answer : Type 0} → Head → List (Option Refusal) → 
 IsDecided head checks IsAnswer result =
     IsDecidedBy (first_refusal (clock_checks head.now head.last ++ checks)) IsAnswer result
 
--- a subscriber is entered with the next id
+-- the row of the new subscriber, with the next id
 abbrev pub DecidesSubscriber : Head → List ℕ → Option SubscriberRow → Result SubscriberRow Refusal → Type 0
 DecidesSubscriber head name by_name result =
     IsDecided
@@ -49,7 +49,7 @@ DecidesSubscriber head name by_name result =
     (λ row. row ≡ record { id = head.held + 1; name = name })
     result
 
--- an order is entered with the next id
+-- the row of the new order, with the next id
 abbrev pub DecidesOrder : Head → Option SubscriberRow → ℕ → Result OrderRow Refusal → Type 0
 DecidesOrder head subscriber days result =
     IsDecided
@@ -64,7 +64,7 @@ abbrev pub is_same : CertRow → Option CertRow → Bool
 is_same wanted None = false
 is_same wanted (Some registered) = same_certificate wanted registered
 
--- the wanted certificate is registered; if it is registered already, there is no new row
+-- the new row is the wanted certificate; if it is registered already, there is no new row, and only the clock is checked
 abbrev pub DecidesRegister : Head → CertRow → Option OrderRow → Option CertRow → Option CertRow
     → Result (Option CertRow) Refusal → Type 0
 DecidesRegister head wanted order by_order by_serial result =
@@ -83,7 +83,7 @@ pub record IsRequest (head : Head) (certificate : CertRow) (word : List ℕ) (ro
   pub received_now : row.received ≡ head.now
   pub not_declined : row.declined ≡ false
 
--- a request is entered with the next id
+-- the row of the new request, with the next id
 abbrev pub DecidesRequest : Head → Option CertRow → List ℕ → Option RevocationRow
     → Result RequestRow Refusal → Type 0
 DecidesRequest head certificate word revocation result =
@@ -93,7 +93,7 @@ DecidesRequest head certificate word revocation result =
     (λ row. IfSome certificate (λ known. IsRequest head known word row))
     result
 
--- a request is declined
+-- the row of the request, declined
 abbrev pub DecidesDecline : Head → Option RequestRow → Option CertRow → Option RevocationRow
     → Result RequestRow Refusal → Type 0
 DecidesDecline head request certificate revocation result =
@@ -116,7 +116,7 @@ revocation_by head request latest = (
   nat_lt (deadline request) head.now,
 )
 
--- a certificate is revoked
+-- the row of the new revocation, and whether it is late
 abbrev pub DecidesRevoke : Head → Option RequestRow → Option CertRow → Option RevocationRow → Option CrlRow
     → Result (RevocationRow × Bool) Refusal → Type 0
 DecidesRevoke head request certificate revocation latest result =
@@ -126,7 +126,7 @@ DecidesRevoke head request certificate revocation latest result =
     (λ answer. IfSome request (λ known. answer ≡ revocation_by head known latest))
     result
 
--- a CRL is issued with the next number
+-- the row of the new CRL, with the next number and this moment as its thisUpdate
 abbrev pub DecidesCrl : Head → Option CrlRow → Result CrlRow Refusal → Type 0
 DecidesCrl head latest result =
     IsDecided head (crl_checks (head_is_full head))

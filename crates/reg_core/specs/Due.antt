@@ -23,12 +23,12 @@ abbrev pub overdue : Records → ℕ → List RequestRow
 overdue records moment =
     filter (λ request. is_open records moment request && nat_lt (deadline request) moment) records.requests
 
--- how many requests there are, and the id of the first; `None` if there is none
+-- how many requests are in a list, and the id of the first; `None` if the list is empty
 abbrev pub overdue_report : List RequestRow → Option Overdue
 overdue_report [] = None
 overdue_report (request ∷ rest) = Some (record { count = length (request ∷ rest); first = request.id })
 
--- the revocations that no CRL can have listed yet
+-- the revocations whose `first` is not below the number of the next CRL, so that no issued CRL lists them
 abbrev pub unlisted : Records → List RevocationRow
 unlisted records =
     filter (λ revocation. nat_le (next_number records.crls) revocation.first) records.revocations
@@ -43,7 +43,7 @@ earliest (revocation ∷ rest) = Some (before revocation.at (earliest rest))
     before at (Some other) = min at other
 
 -- when the next CRL is due: a week after thisUpdate of the latest one, at its nextUpdate (RFC 5280 5.1.2.5), or a day
--- after the earliest revocation that waits for a CRL, whichever is first. `None` if there is no CRL: due at once.
+-- after the earliest revocation that no CRL has listed (`waiting`), whichever is first. `None` if there is no CRL: due at once.
 abbrev pub due_by : Terms → Option CrlRow → Option ℕ → Option ℕ
 due_by policy None waiting = None
 due_by policy (Some crl) None = Some (min (crl.this_update + 604800) (crl.this_update + policy.crl_life))

@@ -49,7 +49,7 @@ ground_words =
     ∷ (codes "inaccurate", Inaccurate)
     ∷ []
 
--- the ground with this name
+-- the ground with this name, if there is one
 abbrev pub ground_named : List ℕ → Option Ground
 ground_named word = option_map (λ row. row.1) (find (λ row. bytes_eq word row.0) ground_words)
 
@@ -57,7 +57,7 @@ ground_named word = option_map (λ row. row.1) (find (λ row. bytes_eq word row.
 abbrev pub ground_or : Ground → List ℕ → Ground
 ground_or other word = unwrap_or (ground_named word) other
 
--- a ground that was found, or the refusal: `NoHold` for `hold`, since no certificate is put on hold, else `BadGround`
+-- the ground that was found for a word, or the refusal: `NoHold` for `hold`, since no certificate is put on hold, else `BadGround`
 abbrev pub found_or_refusal : List ℕ → Option Ground → Result Ground Refusal
 found_or_refusal word (Some named) = Ok named
 found_or_refusal word None = Err (cond (bytes_eq word (codes "hold")) NoHold BadGround)

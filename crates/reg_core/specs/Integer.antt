@@ -1,4 +1,4 @@
--- The contents octets of an INTEGER (X.690 8.3): two's complement, big-endian, in the fewest octets. Only numbers that are not negative.
+-- The contents octets of an INTEGER (X.690 8.3): two's complement, big-endian, in the fewest octets. No number here is negative.
 use Rattle.std.specs.Prelude.{◌≡◌, ℕ, suc, zero, ◌<◌, ◌≤◌, List, [], ◌∷◌, cond, nat_lt, get_or}
 use Rattle.std.specs.Int.{bytes_high_first}
 use Rattle.std.specs.Int.Digits.{number_from_digits}

@@ -8,7 +8,7 @@ pub record IsLabel (text : List ℕ) : Type 0 where
   pub at_most_64 : length text ≤ 64
   pub bytes : All (λ byte. byte < 256) text
 
--- the label with this text, if the text is one
+-- the text, if it is a label
 unfoldable pub label_of : List ℕ → Option (List ℕ)
 label_of text =
     cond (nat_le 1 (length text) && nat_le (length text) 64 && list_all (λ b. nat_lt b 256) text)

@@ -10,7 +10,7 @@ use Rattle.reg_core.specs.Serial.{IsSerial, IsSerialText, serial_bytes, serial_o
 
 -- ---- octets
 
--- before n octets, an octet counts its own number times 256^n
+-- an octet that n octets follow adds its own number times 256^n
 abbrev pub OctetsAreDigits : Type 0
 OctetsAreDigits =
     (octet : ℕ) (octets : List ℕ) → value (octet ∷ octets) ≡ octet * 256 ^ length octets + value octets
@@ -44,7 +44,7 @@ OctetsInOrder =
     (xs ys : List ℕ) → IsBytes xs → IsBytes ys → length xs ≡ length ys
     → slice_cmp nat_cmp xs ys ≡ nat_cmp (value xs) (value ys)
 
--- ---- INTEGERs (X.690 8.3)
+-- ---- INTEGERs (X.690 8.3) of numbers below 2^160
 
 -- `integer` gives the INTEGER of a number
 abbrev pub IntegersAreSpelled : Type 0
@@ -59,7 +59,7 @@ OneInteger =
 abbrev pub OneNumber : Type 0
 OneNumber = (m n : ℕ) → m < 2 ^ 160 → n < 2 ^ 160 → integer m ≡ integer n → m ≡ n
 
--- the INTEGER of a number below 2^160 has at most 21 octets, and that of a serial number at most 20 (RFC 5280 4.1.2.2)
+-- `integer` gives at most 21 octets, and at most 20 for a number below 2^159, such as a serial number (RFC 5280 4.1.2.2)
 abbrev pub IntegersAreShort : Type 0
 IntegersAreShort =
     (number : ℕ) → (length (integer number) ≤ 21) × (number < 2 ^ 159 → length (integer number) ≤ 20)
@@ -81,10 +81,10 @@ OneSerial = (m n : ℕ) → IsSerial m → IsSerial n → serial_bytes m ≡ ser
 abbrev pub OneMoment : Type 0
 OneMoment = (a b : ℕ) → IsMoment a → IsMoment b → moment_text a ≡ moment_text b → a ≡ b
 
--- the number that is read from a text is the one that the text writes
+-- a number is read from a text exactly if the text writes that number
 abbrev pub NumbersAreRead : Type 0
 NumbersAreRead = (text : List ℕ) (number : ℕ) → (number_of text ≡ Some number) ↔ IsNumberText text number
 
--- the serial number that is read from a text is the one that the text writes
+-- a serial number is read from a text exactly if the text writes that serial number
 abbrev pub SerialsAreRead : Type 0
 SerialsAreRead = (text : List ℕ) (serial : ℕ) → (serial_of text ≡ Some serial) ↔ IsSerialText text serial

@@ -11,7 +11,7 @@ pub record IsNumberText (text : List ℕ) (number : ℕ) : Type 0 where
   pub digits : AllDigits 10 text
   pub spelled : digits_value 10 text ≡ number
 
--- the text writes a number: as a test
+-- whether the text writes a number
 abbrev pub is_number_text : List ℕ → Bool
 is_number_text text =
     nat_le 1 (length text) && nat_le (length text) 18 && list_all (λ code. is_digit code 10) text

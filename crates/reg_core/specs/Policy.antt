@@ -9,8 +9,8 @@ pub record Terms : Type 0 where
   pub ocsp_life : ℕ
   pub cap : ℕ
 
--- lives are below ten days, the limit of the CA/Browser Forum Baseline Requirements 4.9.7 and 4.9.10; that of an OCSP
--- response is at least eight hours; and the most rows of a table are 1 to 1,000,000
+-- the schedule is valid; a CRL's life is 1 second to ten days less a second, an OCSP response's eight hours to the same (CA/Browser Forum
+-- Baseline Requirements 4.9.7, 4.9.10); the most rows of a table are 1 to 1,000,000
 pub record IsPolicy (terms : Terms) : Type 0 where
   pub schedule : IsSchedule terms.schedule
   pub crl_life : (1 ≤ terms.crl_life) × (terms.crl_life ≤ 863999)

@@ -14,7 +14,7 @@ use Rattle.reg_core.specs.declared.command.Reply.TheVariants.{Status as StatusIs
 use Rattle.reg_core.specs.declared.refusal.Refusal.{Refusal}
 use Rattle.reg_core.specs.declared.refusal.Refusal.TheVariants.{UnknownSerial}
 
--- the first CRL that can list a revoked serial number, and the last one that does; `None` if it is not revoked
+-- the numbers of the first and, once it is issued, the last CRL that list a revoked serial number; `None` if it is not revoked
 abbrev pub listing : Records → ℕ → Option Listing
 listing records serial =
     option_map

@@ -1,4 +1,4 @@
--- Reached records: sound records with more properties, which every command keeps. `desk audit` checks them.
+-- Reached records: sound records with more properties, which `desk audit` checks. Every command keeps records reached.
 use Rattle.std.specs.Prelude.{◌≡◌, ◌⊎◌, ℕ, ◌*◌, ◌<◌, ◌≤◌, ◌==◌, false, List, [], IfSome, IsSomeAnd, IsTrue}
 use Rattle.std.specs.List.{AllByRecursion, list_any}
 use Rattle.reg_core.specs.Checks.{clock_end, validity_seconds}
@@ -15,12 +15,12 @@ use Rattle.reg_core.specs.declared.rows.CertRow.{CertRow}
 use Rattle.reg_core.specs.declared.rows.RequestRow.{RequestRow}
 use Rattle.reg_core.specs.declared.rows.RevocationRow.{RevocationRow}
 
--- names are allowed
+-- each name has only the bytes that a name may have
 pub record ReachedSubscribers (cap : ℕ) (subscribers : List SubscriberRow) : Type 0 where
   pub sound : SoundSubscribers cap subscribers
   pub names : AllByRecursion (λ row. IsName row.name) subscribers
 
--- a schedule can allow each order's days
+-- each order has 1 to 398 days, which a schedule can allow
 pub record ReachedOrders (cap : ℕ) (subscribers : List SubscriberRow) (orders : List OrderRow) : Type 0 where
   pub sound : SoundOrders cap subscribers orders
   pub days : AllByRecursion (λ row. IsDays row.days) orders
@@ -59,7 +59,8 @@ pub record ReachedRevocations (last : ℕ) (certificates : List CertRow) (reques
       IfSome (revocation_in revocations request.serial)
       (λ revocation. request.received ≤ revocation.at)) requests
 
--- the policy is valid and each table is reached; without a subscriber, the last accepted moment is 0 or the thisUpdate of a CRL
+-- the policy is valid, each table is reached, and the last accepted moment is before the clock's end; without a subscriber, that moment is
+-- 0 or the thisUpdate of a CRL
 pub record ReachedRows (records : Records) : Type 0 where
   pub policy : IsPolicy records.policy
   pub before_clock_end : records.last < clock_end

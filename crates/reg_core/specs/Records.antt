@@ -14,7 +14,7 @@ pub record Crl : Type 0 where
   pub this_update : ℕ
   pub bytes : List ℕ
 
--- the records, with the issuer, the policy and the last accepted moment
+-- the issuer, the policy, the last accepted moment (`last`), and each table
 pub record Records : Type 0 where
   pub issuer : Issuer
   pub policy : Terms
@@ -26,7 +26,7 @@ pub record Records : Type 0 where
   pub revocations : List RevocationRow
   pub crls : List Crl
 
--- the records of a new register
+-- the records of a new register: no rows, and the last accepted moment is 0
 abbrev pub no_records : Issuer → Terms → Records
 no_records issuer policy = record {
   issuer = issuer;

@@ -9,7 +9,7 @@ Ascends [] = Unit {0}
 Ascends (step ∷ []) = Unit {0}
 Ascends (step ∷ next ∷ rest) = (step.0 < next.0) × Ascends (next ∷ rest)
 
--- the first of the steps is at moment 0
+-- the first step, if there is one, is at moment 0
 abbrev pub BeginsAtOnce : List (ℕ × ℕ) → Type 0
 BeginsAtOnce [] = Unit {0}
 BeginsAtOnce (step ∷ rest) = step.0 ≡ 0
@@ -22,7 +22,8 @@ IsDays days = (1 ≤ days) × (days ≤ 398)
 abbrev pub HasDays : ℕ × ℕ → Type 0
 HasDays step = IsDays step.1
 
--- a schedule: 1 to 16 steps, each the seconds of a moment and the days of validity from it on
+-- a schedule: 1 to 16 steps, each a moment and the days of validity from then on; the first moment is 0, the moments ascend strictly,
+-- and the days are 1 to 398
 pub record IsSchedule (steps : List (ℕ × ℕ)) : Type 0 where
   pub not_empty : 1 ≤ length steps
   pub at_most_16 : length steps ≤ 16
@@ -36,11 +37,11 @@ days_of_last [] = 0
 days_of_last (step ∷ []) = step.1
 days_of_last (step ∷ next ∷ rest) = days_of_last (next ∷ rest)
 
--- the longest validity, in days, for a notBefore at this moment: the days of the last step that is not after it
+-- the longest validity, in days, for a notBefore at this moment: the days of the last step that is not after the moment
 abbrev pub longest_at : List (ℕ × ℕ) → ℕ → ℕ
 longest_at steps moment = days_of_last (filter (λ step. nat_le step.0 moment) steps)
 
--- the most days of any step
+-- the most days of any step; 0 if there are no steps
 abbrev pub greatest_of : List (ℕ × ℕ) → ℕ
 greatest_of [] = 0
 greatest_of (step ∷ rest) = max step.1 (greatest_of rest)

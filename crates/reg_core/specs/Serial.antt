@@ -18,7 +18,7 @@ pub record IsSerialText (text : List ℕ) (number : ℕ) : Type 0 where
   pub spelled : digits_value 16 text ≡ number
   pub in_range : IsSerial number
 
--- the text writes a serial number: as a test
+-- whether the text writes a serial number
 abbrev pub is_serial_text : List ℕ → Bool
 is_serial_text text =
     nat_le 1 (length text) && nat_le (length text) 40 && list_all (λ code. is_digit code 16) text

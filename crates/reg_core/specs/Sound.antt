@@ -55,7 +55,8 @@ pub record SoundRequests (cap last : ℕ) (certificates : List CertRow)
   pub within_cap : length requests ≤ cap
 
 -- A revocation is of a registered certificate that was not expired, by a request for it, at the last accepted moment or earlier.
--- CRLs with numbers below its `first` (the first CRL that can list it) were issued at its moment or earlier, the others at its moment or later.
+-- Its `first` is the number of an issued CRL or of the next one. CRLs with lower numbers were issued at its moment or earlier, the
+-- others at its moment or later.
 pub record SoundRevocation (last : ℕ) (certificates : List CertRow) (requests : List RequestRow)
     (crls : List Crl) (revocation : RevocationRow) : Type 0 where
   pub within_validity : IsSomeAnd (certificate_in certificates revocation.serial)
@@ -70,7 +71,7 @@ pub record SoundRevocation (last : ℕ) (certificates : List CertRow) (requests 
   pub crls_after : AllByRecursion
       (λ crl. revocation.first ≤ crl.number → revocation.at ≤ crl.this_update) crls
 
--- a serial number has at most one revocation, and so has a request
+-- a serial number has at most one revocation, and so has a request; each revocation is sound
 pub record SoundRevocations (last : ℕ) (certificates : List CertRow) (requests : List RequestRow)
     (crls : List Crl) (revocations : List RevocationRow) : Type 0 where
   pub serials_differ : KeysDiffer (λ row. row.serial) revocations
@@ -84,7 +85,7 @@ pub record SoundCrls (cap last : ℕ) (crls : List Crl) : Type 0 where
   pub updates_by_last : AllByRecursion (λ crl. crl.this_update ≤ last) crls
   pub within_cap : length crls ≤ cap
 
--- the rows are sound, whatever the bytes of CRLs
+-- each table is sound, and the last accepted moment is before the clock's end; the bytes of CRLs may be any
 pub record SoundRows (records : Records) : Type 0 where
   pub before_clock_end : records.last < clock_end
   pub subscribers : SoundSubscribers records.policy.cap records.subscribers

@@ -13,7 +13,8 @@ status_by moment None revocation = Unknown
 status_by moment (Some certificate) (Some revocation) = Revoked revocation.at revocation.reason
 status_by moment (Some certificate) None = cond (nat_lt certificate.not_after moment) Expired Good
 
--- the status of a serial number at a moment: once revoked, always revoked; else expired after notAfter (RFC 5280 4.1.2.5)
+-- the status of a serial number at a moment: unknown if not registered; else revoked, whatever the moment, if it has a revocation; else expired
+-- after notAfter (RFC 5280 4.1.2.5); else good
 abbrev pub status : Records → ℕ → ℕ → Status
 status records serial moment =
     status_by moment (certificate_in records.certificates serial) (revocation_in records.revocations serial)

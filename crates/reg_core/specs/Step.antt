@@ -20,7 +20,7 @@ use Rattle.reg_core.specs.declared.refusal.Refusal.{Refusal}
 use Rattle.reg_core.specs.declared.refusal.Fault.{Fault}
 use Rattle.reg_core.specs.declared.refusal.Fault.TheVariants.{Refused}
 
--- the table has as many rows as the policy allows
+-- the table has at least as many rows as the policy allows
 abbrev pub is_full : {Row : Type 0} → Records → List Row → Bool
 is_full records rows = nat_le records.policy.cap (length rows)
 
@@ -48,7 +48,7 @@ is_repeat records (Decline id) = false
 is_repeat records (Revoke id) = false
 is_repeat records IssueCrl = false
 
--- the certificate and the revocation of the request's serial number
+-- the certificate, and below the revocation, of the serial number in the request with this id
 abbrev pub certificate_of_request : Records → ℕ → Option CertRow
 certificate_of_request records id =
     option_and_then (λ row. certificate_in records.certificates row.serial) (request_in records.requests id)
@@ -57,7 +57,7 @@ abbrev pub revocation_of_request : Records → ℕ → Option RevocationRow
 revocation_of_request records id =
     option_and_then (λ row. revocation_in records.revocations row.serial) (request_in records.requests id)
 
--- the checks of a command, besides those of the clock, over the rows that it names
+-- the checks of a command, besides those of the clock, over the rows that the command names
 abbrev pub checks : Records → ℕ → Command → List (Option Refusal)
 checks records now (Subscriber name) =
     subscriber_checks name (subscriber_named records.subscribers name) (is_full records records.subscribers)
@@ -88,7 +88,7 @@ checks records now (Revoke id) =
     (revocation_of_request records id)
 checks records now IssueCrl = crl_checks (is_full records records.crls)
 
--- the first refusal that applies, if any: those of the clock, and then, unless it is a repeated registration, those of the command
+-- the first refusal that applies, if any: of the clock's checks, and then, unless the command repeats a registration, of its own
 abbrev pub refusal : Records → ℕ → Command → Option Refusal
 refusal records now command =
     first_refusal
@@ -114,7 +114,7 @@ revocation_row records now request = record {
   first = next_number records.crls;
 }
 
--- the moment is past the request's deadline
+-- the moment is past the deadline of the request with this id
 abbrev pub is_late : Records → ℕ → ℕ → Bool
 is_late records now id = late (request_in records.requests id)
   where
@@ -167,7 +167,7 @@ changed records now (Revoke id) bytes = revoked (request_in records.requests id)
 changed records now IssueCrl bytes =
     with_crl records now (record { number = next_number records.crls; this_update = now; bytes = bytes })
 
--- the bytes of an accepted command: the signed CRL with its entries, if it issues one; else none
+-- the bytes that belong to an accepted command: the signed CRL, if the command issues one; else none
 abbrev pub IsSigned : (CertList → List ℕ → Type 0) → Records → ℕ → Command → List ℕ → Type 0
 IsSigned signed records now IssueCrl bytes = signed (cert_list records (next_number records.crls) now) bytes
 IsSigned signed records now (Subscriber name) bytes = bytes ≡ []

@@ -6,7 +6,8 @@ ghost use Rattle.reg_core.specs.Calendar.{IsMoment, Spells, two_digits};
 use jiff::ToSpan;
 use jiff::civil::{Date, date};
 
-/// A date of the Gregorian calendar, 1970 to 9999, with a time of day in UTC, without leap seconds.
+/// A date of the Gregorian calendar with a time of day in UTC, without leap seconds. [`Moment::civil`](crate::Moment::civil) gives
+/// years from 1970 to 9999, months and days from 1 on, and hours, minutes and seconds from 0 on.
 #[derive(Clone, Copy, PartialEq, Eq)]
 pub struct Civil {
     pub year: u16,
@@ -39,7 +40,7 @@ impl Civil {
         }
     }
 
-    /// The seconds since 1970-01-01T00:00:00Z; `None` if there is no such date or time, and before 1970.
+    /// The seconds since 1970-01-01T00:00:00Z; `None` if no such date and time exists in the years 1970 to 9999.
     pub(crate) fn seconds(self) -> Option<u64>
         ensures { MatchOption result ((s : ℕ) → IsMoment s → civil_of s ≢ self)
             (λ s. IsMoment s × (civil_of s ≡ self)) }

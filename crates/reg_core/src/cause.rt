@@ -4,7 +4,7 @@ ghost use Rattle.reg_core.specs.Causes.{cause_line, terms_cause};
 use crate::Label;
 use std::io::ErrorKind;
 
-/// Why a system call failed, why a signer doesn't fit a register, or which option of a policy is out of its range.
+/// Why a system call failed, why a signer doesn't fit a register, or which option or schedule of a policy is invalid.
 #[derive(Clone, Copy, PartialEq, Eq)]
 pub enum Cause {
     NoFile,
@@ -26,7 +26,7 @@ pub enum Cause {
     UnknownAlgorithm,
     /// The issuer's key is not of the signer's algorithm.
     OtherKey,
-    /// The option `--days` is out of its range; the next three are for the options with their names.
+    /// The option `--days` is out of its range. The next three are for `--crl-life`, `--ocsp-life` and `--cap`.
     Days,
     CrlLife,
     OcspLife,
@@ -93,7 +93,7 @@ pub fn io_cause_of(kind: ErrorKind) -> Option<Cause>
     }
 }
 
-/// The cause if a new file could not be created, by the kind of the error; `None` if the kind has no cause here.
+/// Why a new file could not be created, by the kind of the error; `None` if the kind has no cause here.
 pub fn create_cause_of(kind: ErrorKind) -> Option<Cause>
     ensures taken { kind ≡ ErrorKind.AlreadyExists → result ≡ Some Cause.PathExists }
     ensures no_right { kind ≡ ErrorKind.PermissionDenied → result ≡ Some Cause.NoPermission }
@@ -105,7 +105,7 @@ pub fn create_cause_of(kind: ErrorKind) -> Option<Cause>
     }
 }
 
-/// The cause if a port could not be bound, by the kind of the error; `None` if the kind has no cause here.
+/// Why a port could not be bound, by the kind of the error; `None` if the kind has no cause here.
 pub fn port_cause_of(kind: ErrorKind) -> Option<Cause>
     ensures in_use { kind ≡ ErrorKind.AddrInUse → result ≡ Some Cause.PortInUse }
     ensures no_right { kind ≡ ErrorKind.PermissionDenied → result ≡ Some Cause.NoPermission }
@@ -116,7 +116,7 @@ pub fn port_cause_of(kind: ErrorKind) -> Option<Cause>
     }
 }
 
-/// The first value of a policy that is out of its range; `None` if all are in range.
+/// The cause for the first value that is out of its range, as in [`Policy::new`](crate::Policy::new); `None` if all are in range.
 #[tactic(auto, unfolding(crate::specs::Causes::terms_cause))]
 pub fn policy_cause_of(days: u64, crl_life: u64, ocsp_life: u64, cap: u64) -> Option<Cause>
     ensures { result ≡ terms_cause days crl_life ocsp_life cap }

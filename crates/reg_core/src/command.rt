@@ -5,7 +5,7 @@ use crate::moment::Moment;
 use crate::refusal::Fault;
 use crate::serial::Serial;
 
-/// A command, which changes the register. A subscriber, an order or a request is given by its id.
+/// A command, which changes the register. The fields `subscriber`, `order` and `request` are ids.
 #[derive(Clone, Copy, PartialEq, Eq)]
 pub enum Command {
     Subscriber {
@@ -28,6 +28,7 @@ pub enum Command {
         serial: Serial,
         ground: Label,
     },
+    /// Declines a request for revocation.
     Decline {
         request: u64,
     },
@@ -35,6 +36,7 @@ pub enum Command {
     Revoke {
         request: u64,
     },
+    /// Issues the next CRL.
     Crl,
 }
 
@@ -46,8 +48,9 @@ pub enum Query {
     Counts,
     /// Which CRLs list a serial number.
     Listing(Serial),
-    /// The open requests past their deadline.
+    /// The open requests past their deadline (open: not declined, and the certificate neither revoked nor expired).
     Overdue,
+    /// When the next CRL is due.
     NextCrl,
 }
 
@@ -56,11 +59,11 @@ pub enum Query {
 pub enum Status {
     /// No certificate has the serial number.
     Unknown,
-    /// Registered, not revoked, and not past notAfter.
+    /// Registered, not revoked, and not past notAfter; also before notBefore.
     Good,
     /// Registered, not revoked, and past notAfter.
     Expired,
-    /// Revoked, permanently.
+    /// Revoked at this moment, permanently; `reason` is the reasonCode (RFC 5280 5.3.1).
     Revoked { at: Moment, reason: u8 },
 }
 
@@ -108,11 +111,11 @@ pub enum Reply {
     Crl { number: u64, entries: u64 },
     Status(Status),
     Counts(Counts),
-    /// None: the serial number is not revoked.
+    /// `None`: the serial number is registered and not revoked.
     Listing(Option<Listing>),
-    /// None: no request is overdue.
+    /// `None`: no request is overdue.
     Overdue(Option<Overdue>),
-    /// None: the next CRL is due at once.
+    /// `None`: no CRL was issued, so the next one is due at once.
     NextCrl(Option<Moment>),
 }
 

@@ -1,5 +1,5 @@
-//! The pure decisions: each decides a command over the rows that the caller looked up for it by key. It returns the first refusal
-//! that applies. No decision changes anything.
+//! The pure decisions. Each takes the rows that the caller looked up for one command, and returns the first refusal that applies, or
+//! the row to add or change. No decision changes anything.
 
 ghost use Rattle.std.specs.Prelude.{◌≡◌, ℕ, ◌+◌, ◌<◌, ◌^◌, false, IfSome, ⊤};
 ghost use Rattle.reg_core.specs.Checks.{clock_checks, first_refusal, live_checks, pending_request_checks, validity_checks, refused_if};
@@ -48,7 +48,7 @@ pub fn decide_subscriber(
     Ok(SubscriberRow { id, name })
 }
 
-/// The row of the new order. `subscriber` is the one with the id that the command has.
+/// The row of the new order. `subscriber` is the subscriber with the id in the command; `days` is the longest validity to order.
 /// Refusals: those of [`clock`]; then `NoSubscriber`, `BadDays`, `Full`.
 pub fn decide_order(
     head: &Head,
@@ -73,8 +73,8 @@ pub fn decide_order(
     })
 }
 
-/// The row of the new certificate `wanted`, or `None` if one equal in all fields is registered already. `order` is the
-/// order to fill, `by_order` the certificate that fills it already, `by_serial` the one that has the serial number already.
+/// The row of the new certificate `wanted`, or `None` if one equal in all fields is registered already: then only [`clock`] can refuse.
+/// `order` is the order to fill, `by_order` the certificate that fills it already, `by_serial` the one that has the serial number already.
 /// Refusals: those of [`clock`]; then `NoOrder`, `OrderFilled`, `SerialTaken`, `BadValidity`, `TooLong`, `Ended`, `Full`.
 pub fn decide_register(
     head: &Head,

@@ -25,7 +25,7 @@ pub enum Ground {
 }
 
 impl Ground {
-    /// The ground with this name. `NoHold` for `hold`, since no certificate is put on hold; `BadGround` for any other word.
+    /// The ground with this name. `NoHold` for `hold`, since no certificate is put on hold; `BadGround` if no ground has the name.
     pub fn read(word: &[u8]) -> Result<Ground, Refusal>
         ensures { result ≡ ground_or_refusal word.now }
     {

@@ -31,7 +31,7 @@ impl Moment {
     /// 1970-01-01T00:00:00Z, where the register's clock begins.
     pub const EPOCH: Moment = Moment { seconds: 0 };
 
-    /// 9999-12-22T00:00:00Z, the first moment that the register does not accept.
+    /// 9999-12-22T00:00:00Z: the register accepts no moment from then on (`Refusal::ClockEnd`).
     pub const CLOCK_END: Moment = Moment {
         seconds: 253_401_436_800,
     };
@@ -74,8 +74,8 @@ impl Moment {
         Civil::at(self.secs())
     }
 
-    /// Reads the text of a moment: `YYYY-MM-DDTHH:MM:SSZ` (RFC 3339 5.6), with a date that the calendar has, hours 00
-    /// to 23, minutes and seconds 00 to 59. `None` for any other bytes, so for another offset than `Z`, a fraction or lower case.
+    /// Reads the text of a moment: `YYYY-MM-DDTHH:MM:SSZ` (RFC 3339 5.6), with a date that exists, from the year 1970 on, hours
+    /// 00 to 23, minutes and seconds 00 to 59. `None` for any other bytes, so for an offset other than `Z`, a fraction or lower case.
     pub fn read(bytes: &[u8]) -> Option<Moment>
         ensures found { IfSome result (λ m. IsMoment m × (bytes.now ≡ moment_text m)) }
         ensures none { IfNone result ((m : ℕ) → IsMoment m → bytes.now ≢ moment_text m) }

@@ -8,7 +8,7 @@ use crate::moment::Moment;
 use crate::schedule::Schedule;
 use std::marker::Model;
 
-/// Ten days less a second, below the limits of the CA/Browser Forum Baseline Requirements 4.9.7 and 4.9.10.
+/// Ten days less a second: below the limit of the CA/Browser Forum Baseline Requirements for CRLs (4.9.7) and OCSP responses (4.9.10).
 const LONGEST_LIFE: u64 = 863_999;
 
 /// Eight hours, the minimum of the Baseline Requirements 4.9.10.
@@ -76,7 +76,7 @@ impl Policy {
         Policy::with(schedule, crl_life, ocsp_life, cap)
     }
 
-    /// The policy with a schedule of longest validities; the other values as in [`Policy::new`].
+    /// The policy with a schedule of longest validities; the other values, and `None` for them, as in [`Policy::new`].
     pub fn with(schedule: Schedule, crl_life: u64, ocsp_life: u64, cap: u64) -> Option<Policy>
         ensures some { IsSome result ↔ IsPolicy (record {
           schedule = schedule;
@@ -107,7 +107,7 @@ impl Policy {
         })
     }
 
-    /// The default policy: 398 days, eight days for CRLs, four days for OCSP responses, 1,000,000 rows of a table.
+    /// The default policy: 398 days of validity, lives of eight days for CRLs and four for OCSP responses, 1,000,000 rows of a table.
     pub fn usual() -> Policy
         ensures { result ≡ record
             { schedule = one_step 398; crl_life = 691200; ocsp_life = 345600; cap = 1000000 } }

@@ -15,7 +15,7 @@ pub enum Refusal {
     ClockBack { last: Moment },
     /// E02: the moment is 9999-12-22T00:00:00Z or later.
     ClockEnd,
-    /// E03: the table that would grow has as many rows as the policy allows.
+    /// E03: the table that would grow has reached the policy's limit of rows.
     Full,
     /// E04: the name has a byte that is not a letter, digit, dot, hyphen or underscore.
     BadName,
@@ -57,8 +57,7 @@ pub enum Refusal {
     Syntax,
 }
 
-/// Why a command or query has no reply: a refusal, or a fault of memory, of the store, of the signer, of the input or of
-/// the output.
+/// Why a command, a query or a job of the program has no reply: a refusal, or a failure of memory, store, signer, input or output.
 #[derive(Clone, Copy, PartialEq, Eq)]
 pub enum Fault {
     Refused(Refusal),
@@ -68,7 +67,7 @@ pub enum Fault {
     Store,
     /// F3: the signer failed.
     Signer,
-    /// F4: the input failed, or is longer than allowed.
+    /// F4: the input, the clock or a socket failed, or the input is longer than allowed.
     Read,
     /// F5: the output failed.
     Write,
@@ -96,7 +95,6 @@ impl From<Memory> for Fault {
     }
 }
 
-/// A line that is only this text.
 fn line_of(text: &[u8]) -> Label
     requires not_empty { 1 ≤ length text.now }
     requires short { length text.now ≤ 30 }

@@ -47,13 +47,13 @@ pub struct RequestRow {
     pub id: u64,
     pub serial: Serial,
     pub ground: Ground,
-    /// The moment of the command that entered it.
+    /// The moment of the command that entered the request.
     pub received: Moment,
     pub declined: bool,
 }
 
 impl RequestRow {
-    /// The last moment at which a revocation by the request is not late.
+    /// The last moment at which a revocation by the request is not late: receipt plus the limit of its ground.
     pub fn deadline(&self) -> Moment
         requires { self.now.received < clock_end }
         ensures { result ≡ deadline self.now }
@@ -95,7 +95,8 @@ pub struct Entry {
     pub reason: u8,
 }
 
-/// The input of each decision besides the looked-up rows: the moments, the policy, and the size of the table.
+/// The input that all decisions share, besides the looked-up rows and the command's own fields. A decision that adds no row, or only a
+/// revocation, uses neither `policy` nor `held`.
 #[derive(Clone, Copy, PartialEq, Eq)]
 pub struct Head {
     /// The moment of the command.

@@ -7,7 +7,7 @@ use std::marker::Model;
 
 const MAX_STEPS: usize = 16;
 
-/// The longest validity in days that a step may allow: the first limit in the Baseline Requirements 6.3.2.
+/// The longest validity in days that a step may allow: the first limit in the CA/Browser Forum Baseline Requirements 6.3.2.
 const MAX_DAYS: u64 = 398;
 
 /// A schedule of longest validities, as the CA/Browser Forum Baseline Requirements 6.3.2 lower them by date. It has 1 to 16

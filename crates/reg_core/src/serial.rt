@@ -13,9 +13,10 @@ use crate::number::read_digits;
 use std::cmp::Ordering;
 use std::marker::Model;
 
-/// The bytes of a serial number in [`Serial::bytes20`].
+/// The number of bytes that [`Serial::bytes20`] returns.
 const BYTES: usize = 20;
 
+/// The number of bytes of the lowest 128 bits.
 const LOW_BYTES: usize = 16;
 
 /// The most hexadecimal digits of a serial number in [`Serial::read`].
@@ -98,8 +99,8 @@ impl Serial {
         Serial::of_halves(read_digits(high, 16)?, read_digits(low, 16)?)
     }
 
-    /// Reads the contents octets of a DER INTEGER (X.690 8.3). `None` if there are no octets or more than the fewest, for 0
-    /// and negative numbers, and for a number above 2^159 - 1.
+    /// Reads the contents octets of a DER INTEGER (X.690 8.3). `None` if there are no octets, if fewer octets would do
+    /// (X.690 8.3.2), for 0, for a negative number, and for a number above 2^159 - 1.
     pub fn from_der(octets: &[u8]) -> Option<Serial>
         ensures read { MatchOption result ((n : ℕ) → IsSerial n → ¬ IsInteger octets.now n)
             (λ n. IsSerial n × IsInteger octets.now n) }

@@ -10,13 +10,13 @@ use crate::moment::Moment;
 use crate::policy::Policy;
 use crate::rows::{CertRow, CrlRow, RevocationRow};
 
-/// A week: the longest time from one CRL to the next.
+/// A week: the next CRL is due at most this long after thisUpdate of the latest one.
 const SECONDS_OF_WEEK: u64 = 604_800;
-/// A day: the longest time from a revocation to the first CRL that lists it.
+/// A day: the next CRL is due at most this long after a revocation that no CRL has listed.
 const SECONDS_OF_DAY: u64 = 86_400;
 
-/// The status of a serial number at a moment, by its certificate and its revocation: unknown without a certificate; revoked,
-/// permanently, with a revocation; else expired after notAfter; else good, even before notBefore.
+/// The status of a serial number at a moment, by its certificate and its revocation. `Unknown` without a certificate; else
+/// `Revoked` with a revocation; else `Expired` after notAfter; else `Good`, even before notBefore.
 pub fn status_of(
     now: Moment,
     certificate: Option<CertRow>,

@@ -20,7 +20,7 @@ use Rattle.reg_core.specs.declared.refusal.Fault.{Fault}
 use Rattle.reg_core.specs.declared.refusal.Fault.TheVariants.{Refused}
 use Rattle.reg_core_laws.specs.Run.{Run}
 
--- A DAY
+-- ---- a day
 
 -- a line of a day, at its moment
 pub data DayLine : Type 0 where
@@ -102,11 +102,11 @@ seen_in (crl_has number those ∷ rest) = listed those ∷ seen_in rest
 abbrev pub no_bytes : CertList → List ℕ → Type 0
 no_bytes list bytes = bytes ≡ []
 
--- the records of a new register with this policy
+-- the records of a new register with this policy, and without an issuer's name and key
 abbrev pub new_under : Terms → Records
 new_under policy = no_records (record { name = []; key = [] }) policy
 
--- a day is as its lines say: from a new register, the commands have these outcomes, and the observations at the other lines are those that they expect
+-- a day is as its lines say: from a new register, the commands have these outcomes, and the observations at the other lines are as expected
 pub record DayUnder (policy : Terms) (lines : List DayLine) : Type 0 where
   pub run :
       Run no_bytes (new_under policy) (commands_of lines) (outcomes_of lines)
@@ -117,6 +117,7 @@ pub record DayUnder (policy : Terms) (lines : List DayLine) : Type 0 where
 abbrev pub usual : Terms
 usual = record { schedule = one_step 398; crl_life = 691200; ocsp_life = 345600; cap = 1000000 }
 
+-- a day under the default policy
 abbrev pub Day : List DayLine → Type 0
 Day lines = DayUnder usual lines
 
@@ -142,7 +143,7 @@ counted good revoked expired = CountsAre (record { good = good; revoked = revoke
 abbrev pub entry : ℕ → ℕ → ℕ → Entry
 entry serial at reason = record { serial = serial; at = at; reason = reason }
 
--- THE EXAMPLES
+-- ---- the examples
 
 -- nothing is registered in a new register, and its first CRL is due at once
 abbrev pub ANewRegisterIsEmpty : Type 0
@@ -193,7 +194,7 @@ TimeMovesTheCounts =
     ∷ deny (january 10) Counts (ClockBack (january 10 + 1))
     ∷ [])
 
--- a request is in time through its deadline
+-- a revocation at the deadline of its request is in time
 abbrev pub TheDeadlineIsInTime : Type 0
 TheDeadlineIsInTime =
     Then
@@ -202,7 +203,7 @@ TheDeadlineIsInTime =
     ∷ decided (january 3) (Revoke 1) (RevokedNow false)
     ∷ [])
 
--- a request is late a second after its deadline
+-- a revocation a second after the deadline of its request is late
 abbrev pub ASecondLaterIsLate : Type 0
 ASecondLaterIsLate =
     Then
@@ -212,7 +213,7 @@ ASecondLaterIsLate =
     ∷ queried (january 3 + 1) (Status 5) (StatusIs (Revoked (january 3 + 1) 1))
     ∷ [])
 
--- each CRL lists a revocation while its certificate is not past notAfter
+-- each CRL after a revocation lists it while its certificate is not past notAfter; the CRL before it does not
 abbrev pub EachCrlListsARevocation : Type 0
 EachCrlListsARevocation =
     Then
@@ -255,7 +256,7 @@ ALateCrlListsOnce =
     ∷ queried (january 40 - 90000) (Listing 5) (ListingIs (Some (record { first = 1; last = Some 1 })))
     ∷ [])
 
--- there is no hold, a serial number is revoked once, and a request for a revoked certificate is not overdue
+-- a request needs a known ground other than `hold`, a serial number is revoked once, and a request for a revoked certificate is not overdue
 abbrev pub OneRevocationOfASerialNumber : Type 0
 OneRevocationOfASerialNumber =
     Then
@@ -291,7 +292,7 @@ TheNextCrlIsDueByNextUpdate =
     ∷ queried (january 6) NextCrl (NextCrlIs (Some (january 4)))
     ∷ [])
 
--- six more grounds, each with its limit and its reason, and the CRL with its entries in ascending order
+-- six more grounds, each with its limit and its reason, and the CRL with its entries in ascending order of serial number
 abbrev pub EachGroundHasItsLimitAndReason : Type 0
 EachGroundHasItsLimitAndReason =
     Then
@@ -356,7 +357,7 @@ ADeclinedRequestStaysSo =
     ∷ refuse (january 2) (Revoke 1) DeclinedBefore
     ∷ [])
 
--- the refusals of commands and queries that no other example has, and an order of 0 days
+-- the refusals of commands and queries that no other example has; also an order of 0 days
 abbrev pub EachRefusalHasItsCase : Type 0
 EachRefusalHasItsCase =
     Then

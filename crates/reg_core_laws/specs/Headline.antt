@@ -1,7 +1,7 @@
 -- The main law. For every list of commands: at any moment from the last accepted one on, before the clock's end, each registered serial
 -- number has exactly one of the statuses good, revoked and expired. Only accepted commands and the passing of time change the three
--- counts. Every CRL after a revocation lists it, up to and including the first one issued past its certificate's notAfter, and lists
--- nothing else. A command that is refused, or ends in a fault, changes nothing.
+-- counts. Every CRL after a revocation lists it, up to and including the first one issued past its certificate's notAfter (RFC 5280 3.3).
+-- No CRL has any other entry. A command that is refused, or ends in a fault, changes nothing.
 use Rattle.std.specs.Prelude.{◌≡◌, ℕ, Bool, ◌&&◌, ◌⊎◌, ◌↔◌, ◌==◌, ◌+◌, ◌<◌, ◌≤◌, nat_le, nat_lt, List, [], ◌∷◌, ◌++◌, length, filter, Some, Result, Ok, Err, IsTrue, IsFalse}
 use Rattle.std.specs.List.{AllByRecursion, list_any}
 use Rattle.reg_core.specs.Checks.{clock_end}
@@ -23,12 +23,12 @@ use Rattle.reg_core.specs.declared.command.Status.TheVariants.{Good, Expired}
 use Rattle.reg_core_laws.specs.Revocations.{IsRevocationBy}
 use Rattle.reg_core_laws.specs.Run.{Happens, Run}
 
--- a new register is sound, with any policy
+-- the records of a new register are sound, with any policy
 abbrev pub CreatedSound : (CertList → List ℕ → Type 0) → Type 0
 CreatedSound signed =
     (issuer : Issuer) (policy : Terms) → Sound signed (no_records issuer policy)
 
--- every run keeps the records sound
+-- if the records are sound, they are sound after every run
 abbrev pub KeepsSound : (CertList → List ℕ → Type 0) → Type 0
 KeepsSound signed =
     (records after : Records)
@@ -52,7 +52,7 @@ RunsInParts signed =
     × Run signed records prefix early between
     × Run signed between rest late after
 
--- one of three tests passes, and only one
+-- exactly one of three tests passes
 abbrev pub ExactlyOne : Bool → Bool → Bool → Type 0
 ExactlyOne first second third =
     (IsTrue first × IsFalse second × IsFalse third)
@@ -96,7 +96,7 @@ abbrev pub ends_between : Records → ℕ → ℕ → CertRow → Bool
 ends_between records moment later row =
     is_good (status records row.serial moment) && nat_le moment row.not_after && nat_lt row.not_after later
 
--- as time passes, certificates that are not revoked and pass notAfter move from good to expired, and no others change
+-- from `moment` to `later`, the certificates of `ends_between` move from good to expired, in the counts too, and no others change
 pub record TimeMoves (records : Records) (moment later : ℕ) : Type 0 where
   pub good :
       (counts records later).good + length (filter (ends_between records moment later) records.certificates)
@@ -115,7 +115,7 @@ pub record TimeMoves (records : Records) (moment later : ℕ) : Type 0 where
       → status records row.serial later ≡ status records row.serial moment)
       records.certificates
 
--- at every command of every run, the counts change as `CountsMove` says, and between commands as `TimeMoves` says
+-- at every command of every run, the counts change as `CountsMove` says; over the records before it they change with time as `TimeMoves` says
 abbrev pub CountsMoveExactly : (CertList → List ℕ → Type 0) → Type 0
 CountsMoveExactly signed =
     (records before next : Records)
@@ -139,8 +139,8 @@ abbrev pub NonePastBetween : List Crl → ℕ → ℕ → ℕ → Type 0
 NonePastBetween crls first n not_after =
     AllByRecursion (λ crl. first ≤ crl.number → crl.number < n → crl.this_update ≤ not_after) crls
 
--- a revocation in the CRLs: those issued before it do not list it; each later one lists it exactly if no CRL between it and
--- the revocation was issued past the certificate's notAfter
+-- a revocation that is still recorded, in the CRLs: those issued before it do not list it; each later one lists it exactly if no CRL
+-- from `first` up to the one before it was issued past the certificate's notAfter
 pub record ListedByCrls (earlier : List Crl) (after : Records) (certificate : CertRow)
     (revocation : RevocationRow) : Type 0 where
   pub stands : revocation_in after.revocations certificate.serial ≡ Some revocation
@@ -155,7 +155,8 @@ pub record ListedByCrls (earlier : List Crl) (after : Records) (certificate : Ce
       ↔ NonePastBetween after.crls revocation.first crl.number certificate.not_after))
       later
 
--- an entry of CRL n is that of a recorded revocation, with its moment and its reason, which this CRL must list
+-- an entry of CRL n is that of a recorded revocation, with its moment and its reason; n is not below its `first`, and no CRL from there
+-- up to n - 1 was issued past the certificate's notAfter
 pub record IsDueEntry (records : Records) (n : ℕ) (entry : Entry) : Type 0 where
   pub certificate : CertRow
   pub revocation : RevocationRow
@@ -165,12 +166,12 @@ pub record IsDueEntry (records : Records) (n : ℕ) (entry : Entry) : Type 0 whe
   pub can_list : revocation.first ≤ n
   pub none_past : NonePastBetween records.crls revocation.first n certificate.not_after
 
--- each entry of each CRL is one that the CRL must list
+-- each entry of each CRL is as `IsDueEntry` says
 abbrev pub ListsNothingElse : Records → Type 0
 ListsNothingElse records = (n : ℕ) → AllByRecursion (IsDueEntry records n) (entries records n)
 
--- every CRL after a revocation lists it, up to and including the first one issued past its certificate's notAfter, and lists
--- nothing else
+-- every CRL after a revocation lists it, up to and including the first one issued past its certificate's notAfter (RFC 5280 3.3), and
+-- no CRL has an entry that it need not have
 abbrev pub ListsRevoked : (CertList → List ℕ → Type 0) → Type 0
 ListsRevoked signed =
     (records before next after : Records)

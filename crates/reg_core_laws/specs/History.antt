@@ -12,7 +12,7 @@ use Rattle.reg_core_laws.specs.Headline.{lists, ListsNothingElse}
 use Rattle.reg_core_laws.specs.Run.{Run}
 
 -- the CRLs that list a revoked serial number are exactly those from its first to its last, or all from its first on while
--- there is no last
+-- the last is not issued
 abbrev pub ListedFromFirstToLast : Records → Type 0
 ListedFromFirstToLast records =
     AllByRecursion
@@ -33,7 +33,7 @@ pub record CrlsStay (signed : CertList → List ℕ → Type 0) (records after :
       (λ crl. signed (cert_list after crl.number crl.this_update) crl.bytes)
       records.crls
 
--- all of this holds after every run
+-- after every run from sound records: `ListedFromFirstToLast`, `ListsNothingElse` and `CrlsStay`
 abbrev pub HistoryIsKept : (CertList → List ℕ → Type 0) → Type 0
 HistoryIsKept signed =
     (records after : Records)

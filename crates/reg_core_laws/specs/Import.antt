@@ -18,7 +18,7 @@ use Rattle.reg_core_laws.specs.Run.{Happens}
 abbrev pub register : CertRow → Command
 register row = Register row.order row.serial row.not_before row.not_after
 
--- the outcome of each row, in order, at one moment; a row that can't be read is refused with `Syntax`
+-- the outcome of each row, in order, at one moment; a row that can't be read (`None`) is refused with `Syntax`
 abbrev pub Imports : (CertList → List ℕ → Type 0) → Records → ℕ → List (Option CertRow)
     → List (Result Reply Fault) → Records → Type 0
 Imports signed records now [] [] after = after ≡ records
@@ -44,7 +44,8 @@ IsFault (Err Write) = Unit {0}
 abbrev pub AnsweredAgain : Result Reply Fault → Result Reply Fault → Type 0
 AnsweredAgain first second = (first ≡ Ok Registered) ⊎ (first ≡ Ok Same) → (second ≡ Ok Same) ⊎ IsFault second
 
--- if an import without a fault is repeated at the same moment, with nothing between, the second one adds no certificate
+-- if an import without a fault is repeated at the same moment, with nothing between, the second one adds no certificate, and the
+-- outcome of each row is as `AnsweredAgain` says
 abbrev pub ImportsTwice : (CertList → List ℕ → Type 0) → Type 0
 ImportsTwice signed =
     (records between after : Records)

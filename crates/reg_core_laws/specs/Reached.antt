@@ -18,7 +18,7 @@ use Rattle.reg_core_laws.specs.Run.{Run}
 abbrev pub ReachedIsSound : (CertList → List ℕ → Type 0) → Type 0
 ReachedIsSound signed = (records : Records) → Reached signed records → Sound signed records
 
--- a new register with a valid policy is reached
+-- the records of a new register with a valid policy are reached
 abbrev pub CreatedReached : (CertList → List ℕ → Type 0) → Type 0
 CreatedReached signed =
     (issuer : Issuer) (policy : Terms) → IsPolicy policy → Reached signed (no_records issuer policy)

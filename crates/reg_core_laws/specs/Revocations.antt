@@ -1,4 +1,4 @@
--- Revocations: the command that adds one, and that nothing else does.
+-- Revocations: the command that adds one; no other outcome changes them.
 use Rattle.std.specs.Prelude.{◌≡◌, ℕ, List, [], ◌∷◌, ◌++◌, Some, Result, Ok}
 use Rattle.reg_core.specs.Crls.{CertList, next_number}
 use Rattle.reg_core.specs.Grounds.{reason_of}

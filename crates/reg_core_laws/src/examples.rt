@@ -2,7 +2,7 @@
 
 ghost use Rattle.reg_core_laws.specs.Examples.{ANewRegisterIsEmpty, TheLongestValidity, ASecondRegisterIsTheSame, NotAfterIsTheLastGoodSecond, TimeMovesTheCounts, TheDeadlineIsInTime, ASecondLaterIsLate, EachCrlListsARevocation, TheLastListingIsPastTheEnd, ALateCrlListsOnce, OneRevocationOfASerialNumber, TheNextCrlIsDue, TheNextCrlIsDueByNextUpdate, EachGroundHasItsLimitAndReason, AFullTableTakesNoMore, ADeclinedRequestStaysSo, EachRefusalHasItsCase, TheClockEnds, TheScheduleGoesByNotBefore};
 
-/// Example days of a register: the outcome of each command, the answer to each query, and the entries of CRLs.
+/// Example days of a register: the outcome of each command, the answer to each query, and the entries of CRLs. The function does nothing.
 pub fn worked_examples()
     ensures a_new_register_is_empty { ANewRegisterIsEmpty }
     ensures the_longest_validity { TheLongestValidity }

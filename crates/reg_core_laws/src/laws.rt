@@ -11,7 +11,7 @@ use reg_core::SignsCrls;
 /// For every list of commands, from a new register or from sound records: at any moment from the last accepted one on, before the clock's end,
 /// each registered serial number has exactly one of the statuses good, revoked and expired. Only accepted commands and the passing of time change
 /// the three counts. Every CRL after a revocation lists it, up to and including the first one issued past its certificate's notAfter (RFC 5280
-/// 3.3), and lists nothing else. A command that is refused, or ends in a fault, changes nothing.
+/// 3.3). No CRL has any other entry. A command that is refused, or ends in a fault, changes nothing.
 pub fn headline<S: SignsCrls>()
     ensures created { (signer : S) → CreatedSound (S.signed signer) }
     ensures sound { (signer : S) → KeepsSound (S.signed signer) }
@@ -32,19 +32,20 @@ pub fn reached<S: SignsCrls>()
 {}
 
 /// The CRLs that list a revoked serial number are exactly those from its first to its last, or all from its first on while
-/// there is no last. No CRL lists anything else. A recorded CRL never changes, nor do its entries and the fields that are
+/// the last is not issued. No CRL lists anything else. A recorded CRL never changes, nor do its entries and the fields that are
 /// signed in it, and it stays signed.
 pub fn history<S: SignsCrls>()
     ensures { (signer : S) → HistoryIsKept (S.signed signer) }
 {}
 
 /// A revocation is added only by a command with the reply `Revoked`: it is of its request's serial number, at the command's moment,
-/// with the reason of its request's ground. No other command and no fault adds or changes one.
+/// with the reason of its request's ground. No other outcome adds a revocation, and none changes or removes one.
 pub fn revocations<S: SignsCrls>()
     ensures { (signer : S) → RevocationsMoveExactly (S.signed signer) }
 {}
 
-/// If an import without a fault is repeated at the same moment, with nothing between, the second one adds no certificate.
+/// If an import without a fault is repeated at the same moment, with nothing between, the second one adds no certificate: each row that
+/// got the reply `Registered` or `Same` now gets `Same`, or a fault.
 pub fn import_twice<S: SignsCrls>()
     ensures { (signer : S) → ImportsTwice (S.signed signer) }
 {}

@@ -26,7 +26,7 @@ abbrev pub cursor_named : List ℕ → Option ℕ → Option Cursor
 cursor_named word (Some before) = cond (bytes_eq word (codes "ending")) (Some (Ending before None)) None
 cursor_named word None = option_map (λ row. row.1) (find (λ row. bytes_eq word row.0) list_names)
 
--- the same list, after the row whose key a text writes
+-- the same list, after the row whose key a text writes, if the text writes one
 abbrev pub cursor_past : List ℕ → Cursor → Option Cursor
 cursor_past key (Revoked after) = option_map (λ serial. Revoked (Some serial)) (serial_of key)
 cursor_past key (Certificates after) = option_map (λ serial. Certificates (Some serial)) (serial_of key)

@@ -31,7 +31,7 @@ status_name Good = codes "good"
 status_name Expired = codes "expired"
 status_name (Revoked at reason) = codes "revoked"
 
--- the moment of revocation (RFC 5280 5.1.2.6)
+-- the moment of revocation (RFC 5280 5.1.2.6), if revoked
 abbrev pub revoked_at_cell : Status → Cell
 revoked_at_cell (Revoked at reason) = At at
 revoked_at_cell Unknown = Empty
@@ -50,7 +50,7 @@ state_name false Unknown = status_name Unknown
 abbrev pub decided_cell : Bool → Status → Cell
 decided_cell declined status = cond declined Empty (revoked_at_cell status)
 
--- the reasonCode of a revocation (RFC 5280 5.3.1)
+-- the reasonCode of a revocation (RFC 5280 5.3.1), if revoked
 abbrev pub reason_cell : Status → Cell
 reason_cell (Revoked at reason) = Number reason
 reason_cell Unknown = Empty
@@ -65,7 +65,7 @@ abbrev pub serial_or_empty : Option ℕ → Cell
 serial_or_empty None = Empty
 serial_or_empty (Some serial) = Serial serial
 
--- the first CRL that can list a certificate, and the last one that does, if that is issued
+-- the number of the first CRL that lists a certificate, and below that of the last one, if it is issued
 abbrev pub first_listing : Option Listing → Cell
 first_listing None = Empty
 first_listing (Some listing) = Number listing.first
@@ -88,7 +88,7 @@ ground_name NameNotPermitted = codes "name-not-permitted"
 ground_name Nonconforming = codes "nonconforming"
 ground_name Inaccurate = codes "inaccurate"
 
--- the fields of each kind of row, in the order in which a header names them
+-- the fields of a certificate; here and below, each kind of row has its fields in the order of its header
 abbrev pub certificate_fields : ListedCertificate → List (List ℕ × Cell)
 certificate_fields line =
     (codes "serial", Serial line.certificate.serial)

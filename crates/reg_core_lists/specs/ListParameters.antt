@@ -16,11 +16,11 @@ use Rattle.reg_core_lists.specs.declared.filter.Filter.{Filter}
 abbrev pub prefix_of : List ℕ → Option (List ℕ)
 prefix_of text = if list_all is_ascii_hexdigit text && nat_le (length text) 40 then label_of text else None
 
--- no parameters
+-- the parameters of an empty query: none
 abbrev pub no_params : Params
 no_params = record { after = None; before = None; limit = None; filter = all_rows }
 
--- the parameters with one more; `None` if it was given before, or its value can't be read
+-- the parameters with one more; `None` if it was given before, or its value can't be read (`limit` may be any number here)
 abbrev pub with_after : Params → List ℕ → Option Params
 with_after params value =
     cond (is_some params.after) None (option_map (λ key. record params { after = Some key }) (label_of value))
@@ -76,7 +76,7 @@ with_value params name value =
     else if bytes_eq name (codes "limit") then with_limit params value
     else with_filter params name value
 
--- the parameters with one more, as `NAME=VALUE` (61 is the code of `=`)
+-- the parameters with one more, as `NAME=VALUE`; `None` without `=` (61 is its code)
 abbrev pub with_parameter : Params → List ℕ → Option Params
 with_parameter params piece =
     cond (position_or_len (λ byte. byte == 61) piece == length piece) None
@@ -106,7 +106,7 @@ abbrev pub at_most : Option ℕ → Option ℕ
 at_most None = Some 250
 at_most (Some limit) = if (limit == 0) || nat_lt 1000 limit then None else Some (min limit 250)
 
--- the query, if the rows of its list have the fields that its filter needs
+-- the query itself, if the rows of its list have the fields that its filter needs
 abbrev pub where_fits : PageQuery → Option PageQuery
 where_fits wanted = cond (fits wanted.filter wanted.from) (Some wanted) None
 

@@ -76,14 +76,14 @@ listed_revocation records now revocation =
     (certificate_in records.certificates revocation.serial)))
     (request_in records.requests revocation.request)
 
--- when a request that was not declined stopped being open: its certificate's revocation or notAfter; or now, if it is open
+-- when a request that was not declined stopped being open: at its certificate's revocation or notAfter; now, if it is open
 abbrev pub open_until : ℕ → CertRow → Status → ℕ
 open_until now certificate (state.Revoked at reason) = at
 open_until now certificate state.Expired = certificate.not_after
 open_until now certificate state.Good = now
 open_until now certificate state.Unknown = now
 
--- how many seconds a request was open after its deadline; `None` if it was declined, because no record has the moment of that
+-- how many seconds a request was open after its deadline, or 0; `None` if it was declined, because no record has the moment of that
 abbrev pub lateness_of : ℕ → RequestRow → CertRow → Status → Option ℕ
 lateness_of now request certificate standing =
     cond request.declined None (Some (open_until now certificate standing - deadline request))
@@ -188,7 +188,7 @@ page_over key row_for at after most rows = record {
   next = next_cursor at most (map key (take most (past key after rows)));
 }
 
--- the key after which a list by serial numbers continues: 0 to begin with the first row, because no serial number is 0
+-- the key after which a list by serial numbers continues: 0 if it begins with the first row, because no serial number is 0
 abbrev pub key_of : Option ℕ → ℕ
 key_of after = unwrap_or after 0
 

@@ -32,11 +32,11 @@ IsPaged records now most from (Err Signer) = ⊥
 IsPaged records now most from (Err Read) = ⊥
 IsPaged records now most from (Err Write) = ⊥
 
--- the rows are sound, and this is the result for a page of a list
+-- the rows of the records are sound, and this is the result for a page of a list
 abbrev pub IsPagedSoundly : Records → ℕ → ℕ → Cursor → Result Page Fault → Type 0
 IsPagedSoundly records now most from given = SoundRows records × IsPaged records now most from given
 
--- the same, and the records stay the same
+-- the rows of the records are sound, this is the result for a page of a list, and the call leaves the records as they are
 abbrev pub Pages : Records → ℕ → ℕ → Cursor → Result Page Fault → Records → Type 0
 Pages before now most from given after = IsPagedSoundly before now most from given × (after ≡ before)
 
@@ -50,7 +50,8 @@ ArePages records now most (Some from) rows (first ∷ rest) =
     × ((others : List Row) × (rows ≡ first ++ others)
     × ArePages records now most (page records now most from).next others rest)
 
--- the result for a whole list as a text: all its rows from a cursor on that pass the filter, each once and in order
+-- the result for a whole list as a text: all its rows from a cursor on that pass the filter, each once and in order, if the checks of
+-- the clock pass; else their refusal; or a fault of memory or of the store
 abbrev pub IsWholeList : Records → ℕ → Format → Filter → Cursor → Result (List ℕ) Fault → Type 0
 IsWholeList records now form wanted from (Ok text) =
     (first_refusal (clock_checks now records.last) ≡ None)
@@ -63,7 +64,7 @@ IsWholeList records now form wanted from (Err Signer) = ⊥
 IsWholeList records now form wanted from (Err Read) = ⊥
 IsWholeList records now form wanted from (Err Write) = ⊥
 
--- the result for a whole list, and the records stay the same
+-- the result for a whole list, and the call leaves the records as they are
 abbrev pub GivesWholeList : Records → ℕ → Format → Filter → Cursor → Result (List ℕ) Fault → Records → Type 0
 GivesWholeList before now form wanted from given after =
     IsWholeList before now form wanted from given × (after ≡ before)

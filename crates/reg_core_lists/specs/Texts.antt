@@ -10,7 +10,7 @@ use Rattle.reg_core_lists.specs.declared.rows.Row.{Row}
 use Rattle.reg_core_lists.specs.declared.texts.Format.{Format}
 use Rattle.reg_core_lists.specs.declared.texts.Format.TheVariants.{Csv, Json}
 
--- the header of a list as CSV: the names of its fields
+-- the header of a list as CSV: the names of its fields, with commas between them, and LF
 abbrev pub header_text : Cursor → List ℕ
 header_text (Revoked after) =
     codes "serial,subscriber,name,order,notBefore,notAfter,status,revokedAt,reason,firstCrl,lastCrl,request,ground,received,due,lateness\n"
@@ -28,7 +28,7 @@ header_text (Subscribers after) = codes "subscriber,name\n"
 header_text (Orders after) = codes "order,subscriber,name,days,serial\n"
 header_text (Crls after) = codes "crl,thisUpdate\n"
 
--- a field of a record after another one (44 is the code of `,`)
+-- a comma, and then the value of a field (44 is the code of `,`)
 abbrev pub record_rest : List ℕ × Cell → List ℕ
 record_rest field = 44 ∷ plain_text field.1
 
@@ -37,11 +37,11 @@ unfoldable pub record_text : List (List ℕ × Cell) → List ℕ
 record_text [] = []
 record_text (first ∷ rest) = plain_text first.1 ++ flat_map record_rest rest
 
--- a member of an object: its name and its value
+-- a member of an object: the field's name as a string, a colon, and its value (34 is the code of `"`)
 unfoldable pub member_text : List ℕ × Cell → List ℕ
 member_text field = 34 ∷ field.0 ++ codes "\":" ++ json_text field.1
 
--- a member after another one
+-- a comma, and then a member
 abbrev pub member_rest : List ℕ × Cell → List ℕ
 member_rest field = 44 ∷ member_text field
 
@@ -54,7 +54,7 @@ members_text (first ∷ rest) = member_text first ++ flat_map member_rest rest
 unfoldable pub object_text : List (List ℕ × Cell) → List ℕ
 object_text fields = 123 ∷ members_text fields ++ 125 ∷ []
 
--- a row as a line
+-- a row as a line: a record in CSV, an object in JSON (10 is the code of LF)
 unfoldable pub row_text : Format → Row → List ℕ
 row_text Csv row = record_text (row_fields row) ++ 10 ∷ []
 row_text Json row = object_text (row_fields row) ++ 10 ∷ []
@@ -64,11 +64,11 @@ abbrev pub opening_text : Format → Cursor → List ℕ
 opening_text Csv from = header_text from
 opening_text Json from = []
 
--- a whole list: a line for each row
+-- a whole list: the header if it has one, and then a line for each row
 abbrev pub list_text : Format → Cursor → List Row → List ℕ
 list_text form from rows = opening_text form from ++ flat_map (row_text form) rows
 
--- a row of a page after another one
+-- a comma, and then a row of a page as an object
 abbrev pub row_rest : Row → List ℕ
 row_rest row = 44 ∷ object_text (row_fields row)
 

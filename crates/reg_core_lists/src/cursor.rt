@@ -3,10 +3,11 @@ ghost use Rattle.reg_core_lists.specs.Cursors.{cursor_named, cursor_past, list_n
 
 use reg_core::{Moment, Serial, read_number};
 
-/// A list, and the key after which it continues. With `None` or 0 it begins with the first row, because serial numbers and ids
-/// are above 0.
+/// A list, and the key after which it continues. With `None` or 0 it begins with the first row, because serial numbers, ids and CRL
+/// numbers are above 0.
 #[derive(Clone, Copy)]
 pub enum Cursor {
+    /// The revocations, in the order of their serial numbers.
     Revoked(Option<Serial>),
     Certificates(Option<Serial>),
     /// The good certificates whose notAfter is before a moment, in the order of their serial numbers.
@@ -26,8 +27,8 @@ pub enum Cursor {
 }
 
 impl Cursor {
-    /// The list with this name, from its first row on. `ending` requires a moment, and no other list takes one. `None` for any
-    /// other name.
+    /// The list with this name, from its first row on. `None` for any other name, for `ending` without a moment, and for another list
+    /// with one.
     pub fn named(name: &[u8], before: Option<Moment>) -> Option<Cursor>
         ensures { result ≡ cursor_named name.now before }
     {

@@ -10,11 +10,12 @@ use std::alloc::{AllocError, Global};
 /// A filter of a list's rows: a row must satisfy each condition that is given.
 #[derive(Clone, Copy)]
 pub struct Filter {
-    /// The name of a subscriber.
+    /// The exact name of the subscriber.
     pub subscriber: Option<Label>,
-    /// The first hexadecimal digits of the serial number, in either case, with or without its leading zeros.
+    /// The first hexadecimal digits of the serial number, in either case: of all 40, as in lists, or of those after the leading zeros.
     pub serial: Option<Label>,
-    /// The first second of a period in which the row's time (`time_of_row`) must be.
+    /// The first second of a period in which the row's time must be: notBefore of a certificate, the moment of a revocation, receipt of a
+    /// request, or thisUpdate of a CRL.
     pub from: Option<Moment>,
     /// The first second after that period.
     pub to: Option<Moment>,
@@ -35,7 +36,7 @@ impl Filter {
         }
     }
 
-    /// The rows that pass the filter, in their order.
+    /// The rows that pass the filter, in their order; `AllocError` if out of memory.
     pub fn kept(&self, alloc: Global, rows: &[Row]) -> Result<Vec<Row>, AllocError>
         ensures { IfOk result (λ kept. kept.items ≡ filtered_rows self.now rows.now) }
     {

@@ -31,7 +31,7 @@ struct Params {
     filter: Filter,
 }
 
-/// A query for a page: where it begins, the most rows that it reads, and which of them it has.
+/// A query for a page: where the page begins, the most rows that it reads (1 to 250), and the filter that selects its rows among them.
 #[derive(Clone, Copy)]
 pub struct PageQuery {
     pub from: Cursor,
@@ -40,8 +40,8 @@ pub struct PageQuery {
 }
 
 /// Reads the query for a page, from the list's name and its parameters. The page reads at most 250 rows. `None` if there is no
-/// such list, if a parameter is repeated or is none of the seven, if a value can't be read, if the limit is not 1 to 1,000, or
-/// if the rows of the list don't have the fields that the filter needs.
+/// such list, if `before` is missing for `ending` or given for another list, if a parameter is repeated or is none of the seven, if a
+/// value can't be read, if the limit is not 1 to 1,000, or if the rows of the list don't have the fields that the filter needs.
 pub fn read_page(name: &[u8], query: &[u8]) -> Option<PageQuery>
     ensures { result ≡ page_query name.now query.now }
 {
@@ -113,7 +113,7 @@ fn behind(text: &[u8], index: usize) -> &[u8]
     &text[index + 1..]
 }
 
-/// The index of the first such byte; the length of the text if there is none.
+/// The index of the first byte `wanted`; the length of the text if there is none.
 fn index_of(text: &[u8], wanted: u8) -> usize
     ensures index { result ≡ position_or_len (λ byte. byte == wanted) text.now }
     ensures within { result ≤ length text.now }
@@ -130,7 +130,7 @@ fn position_of(text: &[u8], wanted: u8) -> Option<usize>
     text.iter().position(|byte| *byte == wanted)
 }
 
-/// The parameters with one more, as `NAME=VALUE`.
+/// The parameters with one more, as `NAME=VALUE`. `None` if it has no `=`, or as for [`with_value`].
 fn with_parameter(params: Params, parameter: &[u8]) -> Option<Params>
     ensures { result ≡ with_parameter params parameter.now }
 {

@@ -10,10 +10,10 @@ use reg_core::{
 #[derive(Clone, Copy)]
 pub struct ListedCertificate {
     pub certificate: CertRow,
-    /// The subscriber whose order it fills.
+    /// The subscriber whose order the certificate fills.
     pub subscriber: SubscriberRow,
     pub status: Status,
-    /// The CRLs that list it, if it is revoked.
+    /// The CRLs that list the certificate, if it is revoked.
     pub listing: Option<Listing>,
 }
 
@@ -45,7 +45,8 @@ pub struct RequestHistory {
     pub request: ListedRequest,
     /// The status of its certificate.
     pub status: Status,
-    /// For how many seconds it was open after its deadline, or has been until now. `None` if it was declined: no record has the moment of that.
+    /// For how many seconds the request was open after its deadline, or has been until now; 0 if it was not. `None` if it was declined, because
+    /// no record has the moment of that.
     pub lateness: Option<u64>,
 }
 
@@ -73,7 +74,8 @@ pub enum Row {
     Crl(CrlRow),
 }
 
-/// A page of a list: its rows in the order of keys, and the cursor of the next page, if there may be one.
+/// A page of a list: its rows in ascending order of their keys, and the cursor of the next page. `next` is `None` if the page read
+/// fewer rows than it may, and so the last one. A next page may be empty.
 #[derive(Drop)]
 pub struct Page {
     pub rows: Vec<Row>,

@@ -50,7 +50,7 @@ pub fn header(from: Cursor) -> &'static str
     }
 }
 
-/// Appends rows to a text, each as a line.
+/// Appends rows to a text, each as a line; no header. `AllocError` if out of memory: then `out` may have some of the bytes.
 pub fn put_rows(
     alloc: Global,
     out: &mut Vec<u8>,
@@ -170,7 +170,8 @@ fn put_string(out: &mut Vec<u8>, cell: &Cell) -> Result<(), AllocError>
     Ok(())
 }
 
-/// A page as a JSON object: the name of its list, the key after which the next page begins or `null`, and its rows.
+/// A page as a JSON object: the name of its list, the key after which the next page begins or `null`, and its rows. `AllocError` if out
+/// of memory.
 #[tactic(auto, unfolding(crate::specs::Texts::page_body))]
 pub fn page_text(
     alloc: Global,

@@ -13,7 +13,7 @@ use Rattle.reg_der.specs.WrittenValues.{integer_value, bits_value, time_value}
 unfoldable pub extension : List ℕ → List ℕ → List ℕ
 extension identifier value = tlv 48 (tlv 6 identifier ++ tlv 4 value)
 
--- the reason code extension, 2.5.29.21: an ENUMERATED, of reasons 0 to 10 (RFC 5280 5.3.1)
+-- the reason code extension, 2.5.29.21: an ENUMERATED of one octet (RFC 5280 5.3.1)
 unfoldable pub reason_code : ℕ → List ℕ
 reason_code reason = extension (85 ∷ 29 ∷ 21 ∷ []) (tlv 10 (reason ∷ []))
 
@@ -26,7 +26,7 @@ unfoldable pub revoked_certificate : Entry → List ℕ
 revoked_certificate entry =
     tlv 48 (integer_value entry.serial ++ time_value entry.at ++ crl_entry_extensions entry.reason)
 
--- revokedCertificates, absent if there are none (RFC 5280 5.1.2.6)
+-- revokedCertificates, absent if there are no entries (RFC 5280 5.1.2.6)
 unfoldable pub revoked_certificates : List Entry → List ℕ
 revoked_certificates [] = []
 revoked_certificates (entry ∷ rest) = tlv 48 (flat_map revoked_certificate (entry ∷ rest))

@@ -16,7 +16,7 @@ use Rattle.reg_crl.specs.Signing.{IsAlgorithm}
 abbrev pub is_time : ℕ → Bool
 is_time tag = (tag == 0x17) || (tag == 0x18)
 
--- the bytes after a Time
+-- the bytes after a Time, whose contents may be any (RFC 5280 5.1.2.4)
 unfoldable pub time_at : List ℕ → Option (List ℕ)
 time_at bytes = value_at bytes >>= λ time. if is_time time.0.tag then Some time.1 else None
 
@@ -49,7 +49,8 @@ crl_number_of [] = None
 crl_number_of (first ∷ rest) =
     if nat_lt first 0x80 && nat_le (length (first ∷ rest)) 8 then Some (value (first ∷ rest)) else None
 
--- the value of the first CRL number extension, 2.5.29.20, in Extensions (RFC 5280 5.2.3). `fuel` bounds the recursion; it is their length, because each has at least one octet.
+-- the value of the first CRL number extension, 2.5.29.20, in the contents of Extensions (RFC 5280 5.2.3). `fuel` bounds the recursion: the
+-- number of octets is enough, because each extension has at least one.
 abbrev pub number_among : ℕ → List ℕ → Option ℕ
 number_among fuel [] = None
 number_among zero (first ∷ rest) = None
@@ -58,7 +59,7 @@ number_among (suc fuel) (first ∷ rest) =
     >>= λ x. if bytes_eq x.0.0 (85 ∷ 29 ∷ 20 ∷ []) then (whole_at 0x02 x.0.1 >>= crl_number_of)
     else number_among fuel x.1
 
--- the CRL number in crlExtensions, which nothing follows
+-- the CRL number in crlExtensions, tagged [0], which nothing follows (RFC 5280 5.1.2.7)
 unfoldable pub crl_number_at : List ℕ → Option ℕ
 crl_number_at bytes =
     whole_at 0xA0 bytes >>= λ tagged. whole_at 0x30 tagged >>= λ extensions.
@@ -105,7 +106,7 @@ IsCrlWith bytes number serials =
 
 -- ---- laws
 
--- a CRL that is written is read back: its number, if that is below 2^63, and the serial numbers of its entries
+-- a CRL with a number below 2^63 that is written is read back: its number, and the serial numbers of its entries, in their order
 abbrev pub CrlsAreRead : Type 0
 CrlsAreRead =
     (crl : CertList) (algorithm signature : List ℕ) → IsIssuer crl.issuer → IsAlgorithm algorithm

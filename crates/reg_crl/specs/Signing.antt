@@ -6,12 +6,12 @@ use Rattle.reg_core.specs.Crls.{CertList}
 use Rattle.reg_der.specs.Der.{IsTlv, tlv}
 use Rattle.reg_crl.specs.Crl.{tbs_of, certificate_list}
 
--- a signer: the AlgorithmIdentifier of its signatures and its public key (RFC 5280 4.1.1.2, 4.1.2.7)
+-- a signer: the AlgorithmIdentifier of its signatures, and its public key, empty without a key (RFC 5280 4.1.1.2, 4.1.2.7)
 pub record Identity : Type 0 where
   pub algorithm : List ℕ
   pub public_key : List ℕ
 
--- one AlgorithmIdentifier, a SEQUENCE (RFC 5280 4.1.1.2), of at most 1,024 bytes
+-- one SEQUENCE, as an AlgorithmIdentifier is (RFC 5280 4.1.1.2), of at most 1,024 bytes in all; its contents may be any
 pub record IsAlgorithm (algorithm : List ℕ) : Type 0 where
   pub contents : List ℕ
   pub sequence : IsTlv algorithm 48 contents
@@ -47,7 +47,7 @@ signed_since since signs identity crl bytes =
 
 -- ---- laws
 
--- a SEQUENCE with at most 1,000 octets of contents is an AlgorithmIdentifier
+-- a SEQUENCE with at most 1,000 octets of contents satisfies `IsAlgorithm` (RFC 5280 4.1.1.2)
 abbrev pub SequencesAreAlgorithms : Type 0
 SequencesAreAlgorithms =
     (contents : List ℕ) → AllByRecursion (λ octet. octet < 256) contents → length contents ≤ 1000

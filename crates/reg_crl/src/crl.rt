@@ -27,7 +27,7 @@ const REASON_CODE: [u8; 3] = [0x55, 0x1D, 0x15];
 const AUTHORITY_KEY_IDENTIFIER: [u8; 3] = [0x55, 0x1D, 0x23];
 
 /// The TBSCertList of a CRL (RFC 5280 5.1.2), the part that is signed; at most 2^27 bytes. The entries ascend strictly by
-/// serial number, and there are at most 1,000,000. `algorithm` is an AlgorithmIdentifier, of at most 1,024 bytes.
+/// serial number, and there are at most 1,000,000. `algorithm` is an AlgorithmIdentifier, of at most 1,024 bytes. `Memory` if out of memory.
 #[tactic(auto, unfolding(crate::specs::Crl::tbs_cert_list))]
 pub fn crl_tbs(
     alloc: Global,
@@ -63,8 +63,8 @@ pub fn crl_tbs(
     Ok(tbs)
 }
 
-/// The CertificateList (RFC 5280 5.1.1) of a TBSCertList of at most 2^27 bytes, an algorithm of at most 1,024 and a
-/// signature of at most 65,536.
+/// The CertificateList (RFC 5280 5.1.1) of a TBSCertList of at most 2^27 bytes, an AlgorithmIdentifier of at most 1,024 and a
+/// signature of at most 65,536. `Memory` if out of memory.
 #[tactic(auto, unfolding(crate::specs::Crl::certificate_list))]
 pub fn crl_whole(
     alloc: Global,
@@ -121,7 +121,7 @@ fn revoked(alloc: Global, entries: &[Entry]) -> Result<Vec<u8>, Memory>
     Ok(out)
 }
 
-/// Appends one entry. `buffer`, which is cleared first, gets its contents.
+/// Appends one entry. `buffer` is cleared, and then gets the contents of the entry.
 #[tactic(auto, unfolding(crate::specs::Crl::revoked_certificate))]
 fn put_revoked_certificate(
     out: &mut Vec<u8>,

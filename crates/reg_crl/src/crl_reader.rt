@@ -1,4 +1,4 @@
-//! Reads the number of a CRL and the serial numbers of its entries (RFC 5280 5.1), which are compared with a register.
+//! Reads the number of a CRL and the serial numbers of its entries (RFC 5280 5.1), so that they can be compared with a register.
 
 ghost use Rattle.std.specs.Prelude.{◌≡◌, ◌<◌, ℕ, List, length, IfSome, MatchOption};
 ghost use Rattle.reg_crl.specs.Reading.{IsEntryAt, after_next_update, certificate_list_at, crl_extension_at, header_at, crl_number_at, number_among, crl_number_of, revoked_entry_at, tbs_cert_list_at, time_at};
@@ -22,8 +22,8 @@ pub struct ParsedCrl<'a> {
     pub revoked: &'a [u8],
 }
 
-/// Reads the DER of a CRL, without verifying its signature. `None` for other bytes, for a CRL without a CRL number, and for a number of 2^63
-/// or more.
+/// Reads the DER of a CRL, without verifying its signature or reading its entries. `None` for other bytes, for a CRL without a CRL number, and for
+/// a number that is negative, or 2^63 or more.
 #[tactic(auto, unfolding(crate::specs::Reading::certificate_list_at))]
 pub fn read_crl(bytes: &[u8]) -> Option<ParsedCrl<'_>>
     ensures { AgreesWith (λ crl. (crl.number, crl.revoked.now)) result (certificate_list_at bytes.now) }
@@ -34,7 +34,7 @@ pub fn read_crl(bytes: &[u8]) -> Option<ParsedCrl<'_>>
     parts(tbs.contents)
 }
 
-/// The serial number of the first entry, and the entries after it. `None` if there is no entry, or its serial number is invalid ([`Serial`]).
+/// The serial number of the first entry, and the entries after it. `None` if no entry is at the front, or its serial number is invalid ([`Serial`]).
 pub fn next_entry(entries: &[u8]) -> Option<(Serial, &[u8])>
     ensures exact { MatchOption result
         ((serial : ℕ) (rest : List ℕ) → ¬ IsEntryAt entries.now serial rest)
@@ -140,7 +140,7 @@ fn next_extension(bytes: &[u8]) -> Option<(&[u8], &[u8], &[u8])>
     Some((identifier.contents, value, rest))
 }
 
-/// The number with the contents octets of an INTEGER (X.690 8.3). `None` if it is negative, or has no octets or more than eight.
+/// The number with the contents octets of an INTEGER (X.690 8.3). `None` if the number is negative, or has no octets or more than eight.
 fn number_of_integer(octets: &[u8]) -> Option<u64>
     ensures { result ≡ crl_number_of octets.now }
 {

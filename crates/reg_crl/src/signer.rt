@@ -56,8 +56,8 @@ pub trait Signer {
     fn public_key(&self) -> Option<&[u8]>
         ensures { IfSome (option_copied result) (λ key. key ≡ (identity self.now).public_key) };
 
-    /// A signature of the message, of at most 65,536 bytes. `Device` if the device failed: then the count of failures rises. At
-    /// `u64::MAX` it can't rise, and the fault is `Memory`.
+    /// A signature of the message, of at most 65,536 bytes. `Memory` if out of memory. `Device` if the device failed: then the count of
+    /// failures rises. At `u64::MAX` the count can't rise, and the fault is `Memory` instead.
     fn sign(&mut self, alloc: Global, message: &[u8]) -> Result<Vec<u8>, SignFault>
         ensures { SignsOrFails identity signs failure_count self.old self.new message.now result };
 
@@ -72,7 +72,7 @@ pub trait Signer {
 }
 
 /// A signer, with the relation of a CRL's fields to its DER that the register's laws use. CRLs with numbers below `since` have the placeholder
-/// digest, because the register used that before it got a key.
+/// digest, because the register used it before it got a key. CRLs from `since` on are signed by `signer`.
 #[derive(Drop)]
 pub struct CrlSigner<S> {
     pub signer: S,

@@ -1,4 +1,4 @@
--- Each AlgorithmIdentifier is one.
+-- The identifier of each algorithm is an AlgorithmIdentifier (`IsAlgorithm`).
 use Rattle.std.proofs.Common.{ℕ, List, [], ◌∷◌, arith, rules}
 use Rattle.reg_der.specs.Der.{tlv, length_octets}
 use Rattle.reg_crl.specs.Signing.{IsAlgorithm}

@@ -1,4 +1,4 @@
--- SEQUENCEs of two INTEGERs of numbers above 0, as they are read from the front.
+-- Lemmas about reading SEQUENCEs of two INTEGERs above 0.
 use Rattle.std.proofs.Common.{◌≡◌, ◌≢◌, ℕ, ◌^◌, ◌<◌, ◌≤◌, Bool, true, false, eqb, List, [], ◌++◌, length, refl, sym, ap, subst, ◌∙◌, append-nil, arith}
 use Rattle.std.specs.Prelude.{MatchOption, Option, Some, None, is_some, IsTrue, ◌↔◌}
 use Rattle.std.proofs.lemmas.Bool.{eqb-true, false≢true}
@@ -20,14 +20,14 @@ is_something bytes answer told no_is nothing =
 
 -- ---- one INTEGER at the front
 
--- a value of another tag is none
+-- a value with another tag is no INTEGER
 pub not_integer : (bytes raw contents rest : List ℕ) (tag : ℕ) → IsTlv raw tag contents → bytes ≡ raw ++ rest → tag ≢ 2
     → (other after : List ℕ) (number : ℕ) → IsPositive other number → bytes ≡ other ++ after → ⊥
 not_integer bytes raw contents rest tag is parts differs other after number positive split =
     let same = no_two_prefixes raw rest contents other after positive.octets tag 2 is positive.integer (sym parts ∙ split) in
     differs same.1
 
--- nor is a value whose contents are those of no number above 0
+-- a value is no INTEGER above 0 if its contents are those of no number above 0
 pub not_positive : (bytes raw contents rest : List ℕ) (tag : ℕ) → IsTlv raw tag contents → bytes ≡ raw ++ rest
     → ((number : ℕ) → 0 < number → ¬ IsInteger contents number)
     → (other after : List ℕ) (number : ℕ) → IsPositive other number → bytes ≡ other ++ after → ⊥
@@ -35,7 +35,7 @@ not_positive bytes raw contents rest tag is parts never other after number posit
     let same = no_two_prefixes raw rest contents other after positive.octets tag 2 is positive.integer (sym parts ∙ split) in
     never number positive.positive (subst (λ (octets : List ℕ). IsInteger octets number) (sym same.2) positive.spells)
 
--- two at the front of the same bytes are of one number
+-- two INTEGERs at the front of the same bytes are of one number
 pub one_number : (x s y t : List ℕ) (m n : ℕ) → IsPositive x m → IsPositive y n → x ++ s ≡ y ++ t → (m ≡ n) × (s ≡ t)
 one_number x s y t m n has_m has_n parts =
     let same = no_two_prefixes x s has_m.octets y t has_n.octets 2 2 has_m.integer has_n.integer parts in
@@ -55,13 +55,13 @@ is_all bytes raw contents after whole tag is parts sequence =
     let same = no_two_prefixes raw after contents bytes [] whole tag 48 is sequence (sym parts ∙ sym (append-nil bytes)) in
     record { sequence = same.1; nothing = same.3; same = same.2 }
 
--- what was read of a number at the front leaves what stands behind it
+-- after the number at the front was read, the bytes after it are left
 pub left_behind : (contents rest : List ℕ) (size number : ℕ) (raw behind : List ℕ) → BeginsPositive contents size rest → IsPositive raw number
     → contents ≡ raw ++ behind → rest ≡ behind
 left_behind contents rest size number raw behind begins is same =
     (one_number begins.raw rest raw behind begins.number number begins.is is (sym begins.parts ∙ same)).1
 
--- two numbers that were read, with nothing behind them, are a pair
+-- two numbers that were read, with nothing after them, are a pair
 pub holds_pair : (bytes raw contents after rest left : List ℕ) (tag m n : ℕ) → IsTlv raw tag contents → bytes ≡ raw ++ after → tag ≡ 48 → after ≡ []
     → BeginsPositive contents m rest → BeginsPositive rest n left → left ≡ [] → IsPairOfIntegers bytes m n
 holds_pair bytes raw contents after rest left tag m n is parts sequence nothing one two end =
@@ -83,7 +83,7 @@ holds_pair bytes raw contents after rest left tag m n is parts sequence nothing 
       second_octets = two.octets;
     }
 
--- the same bytes hold one pair
+-- the same bytes are only one pair
 pub one_pair : (bytes : List ℕ) (a b c d : ℕ) → IsPair bytes a b → IsPair bytes c d → (a ≡ c) × (b ≡ d)
 one_pair bytes a b c d p q =
     let inside = no_two_prefixes bytes [] (p.first_bytes ++ p.second_bytes) bytes [] (q.first_bytes ++ q.second_bytes) 48 48 p.sequence q.sequence refl in
@@ -122,7 +122,7 @@ rsa_size key m n size holds is =
     let least : size ≤ m = one_count holds.first size m octets holds.first_octets in
     omega arith
 
--- where a pair was found, there is an RSAPublicKey, and nowhere else
+-- the bytes are an RSAPublicKey if a pair was found, and only then
 pub rsa_found : (key : List ℕ) (found : Option (ℕ × ℕ)) → MatchOption found ((first second : ℕ) → ¬ IsPair key first second) (λ counts. IsPairOfIntegers key counts.0 counts.1)
     → IsTrue (is_some found) ↔ ((size : ℕ) × IsRsaKey key size)
 rsa_found key (Some counts) holds = (λ told. (counts.0, rsa_made key counts.0 counts.1 holds), λ is. refl)

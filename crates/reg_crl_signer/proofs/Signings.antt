@@ -1,4 +1,4 @@
--- What comes of asking a signer for a signature, where it gives one.
+-- The result of `sign` if the signer returned a signature.
 use Rattle.std.proofs.Common.{◌≡◌, ℕ, ◌≤◌, List, length, Ok, Vec, Global}
 use Rattle.reg_crl.specs.Signatures.{SignsOrFails}
 use Rattle.reg_crl.specs.Signing.{Identity}

@@ -1,4 +1,4 @@
--- How many octets a number has, and the INTEGERs of numbers above 0.
+-- Lemmas about how many octets a number has, and about the INTEGERs of numbers above 0.
 use Rattle.std.proofs.Common.{◌≡◌, ℕ, suc, ◌-◌, ◌*◌, ◌^◌, ◌<◌, ◌≤◌, List, [], ◌∷◌, length, get_or, refl, sym, ap, subst, arith, inl, inr}
 use Rattle.std.proofs.Math.Nat.{pow-succ', pow-le-pow_right, one-le-pow, mul-le-mul_right}
 use Rattle.std.proofs.lemmas.Bool.{cases_lt}
@@ -6,7 +6,7 @@ use Rattle.reg_core.specs.Integer.{IsBytes, IsInteger, IsShortest, value}
 use Rattle.reg_core.proofs.PublicLaws.{octets_are_below, octets_are_places}
 use Rattle.reg_crl_signer.specs.Forms.{HasOctets}
 
--- octets whose first is above 0 are as many as their number has
+-- if the first octet is above 0, the number has as many octets as there are
 pub octets_lead : (first : ℕ) (rest : List ℕ) → 0 < first → IsBytes (first ∷ rest) → HasOctets (value (first ∷ rest)) (suc (length rest))
 octets_lead first rest some each =
     let unit = 256 ^ length rest in
@@ -15,7 +15,7 @@ octets_lead first rest some each =
     let places = pow-succ' 256 (length rest) in
     record { below = octets_are_below (first ∷ rest) each; no_fewer = omega arith }
 
--- a number has no two counts
+-- a number has only one count of octets
 pub one_count : (number a b : ℕ) → HasOctets number a → HasOctets number b → a ≤ b
 one_count number a b has_a has_b = elim (cases_lt b a) [
   | inl less ↦
@@ -27,7 +27,7 @@ one_count number a b has_a has_b = elim (cases_lt b a) [
   | inr least ↦ least
 ]
 
--- a number of at most so many octets is below their power, and no other is
+-- a number has at most so many octets if it is below that power of 256, and only then
 pub below_power : (number count octets : ℕ) → HasOctets number count → count ≤ octets → number < 256 ^ octets
 below_power number count octets has few =
     let powers : 256 ^ count ≤ 256 ^ octets = pow-le-pow_right {n = 256} (omega arith) {i = count} {j = octets} few in

@@ -11,7 +11,7 @@ algorithm_name EcdsaSha384 = codes "ecdsa-sha384"
 algorithm_name RsaSha256 = codes "rsa-sha256"
 algorithm_name Ed25519 = codes "ed25519"
 
--- the algorithm with this name
+-- the algorithm with this name; `None` if none has it
 abbrev pub algorithm_named : List ℕ → Option Algorithm
 algorithm_named name =
     if bytes_eq name (algorithm_name EcdsaSha256) then Some EcdsaSha256
@@ -24,7 +24,7 @@ algorithm_named name =
 abbrev pub id_ed25519 : List ℕ
 id_ed25519 = tlv 6 (43 ∷ 101 ∷ 112 ∷ [])
 
--- NULL
+-- a NULL
 abbrev pub null_value : List ℕ
 null_value = tlv 5 []
 

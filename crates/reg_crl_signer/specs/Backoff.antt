@@ -1,4 +1,4 @@
--- The back-off from a signer: after a ten-second timeout it is not asked again for ten seconds.
+-- The back-off from a signer: after a timeout the signer is not asked again for ten seconds.
 use Rattle.std.specs.Prelude.{◌≡◌, ◌⊎◌, ◌-◌, ◌<◌, ℕ, List, Option, Some, None, Result}
 use Rattle.std.specs.Duration.{as_nanos}
 use Rattle.std.specs.declared.time.Duration.{Duration}
@@ -7,19 +7,19 @@ use Rattle.reg_crl_signer.specs.declared.backoff.BackoffDevice.{BackoffDevice}
 use Rattle.reg_crl_signer.specs.declared.device.Device.{Ghosts}
 use Rattle.reg_crl_signer.specs.declared.device.DeviceFault.{DeviceFault}
 
--- the signer timed out, and less than ten seconds have passed since
+-- there was a timeout, and `now` is less than ten seconds after it, or before it
 abbrev pub IsBackedOff : Option Duration → Duration → Type 0
 IsBackedOff None now = ⊥
 IsBackedOff (Some since) now = as_nanos now - as_nanos since < 10000000000
 
 module _ {D C : Type 0} (g : Ghosts D) where
-  -- the device failed; or its back-off was active at some time, and it stayed as it was
+  -- the device failed to answer the message; or the back-off is active at some time, and nothing changed
   abbrev pub FailsOrIsBackedOff : BackoffDevice D C → List ℕ → BackoffDevice D C → Type 0
   FailsOrIsBackedOff it message after =
       g.fails it.device message after.device
       ⊎ (((now : Duration) × IsBackedOff it.backoff.since now) × (after ≡ it))
 
-  -- one exchange with the device, unless its back-off was active
+  -- one exchange with the device, which fails only if the device fails or the back-off is active at some time
   abbrev pub ExchangesUnlessBackedOff : BackoffDevice D C → BackoffDevice D C → List ℕ → List ℕ
       → Result ℕ DeviceFault → Type 0
   ExchangesUnlessBackedOff =

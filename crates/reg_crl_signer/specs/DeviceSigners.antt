@@ -15,7 +15,7 @@ module _ {D : Type 0} (g : Ghosts D) where
   abbrev pub device_identity : DeviceSigner D g → Identity
   device_identity it = identity_of it.algorithm (g.public_key it.device)
 
-  -- a signer with this device and this algorithm, which the device's key fits; it has no failures and no preset signature
+  -- The signer has this device and this algorithm, no failures and no preset. The device's key has the form of a key of the algorithm.
   pub record IsNew (device : D) (algorithm : Algorithm) (signer : DeviceSigner D g) : Type 0 where
     pub device_is : signer.device ≡ device
     pub algorithm_is : signer.algorithm ≡ algorithm
@@ -28,12 +28,12 @@ module _ {D : Type 0} (g : Ghosts D) where
   SignsByDevice identity message signature =
       g.answers identity.public_key message signature × HasForm identity signature
 
-  -- the result of asking the signer for a signature
+  -- the result of a call of `sign`: the signer before and after, the message, and the signature or fault
   abbrev pub SigningByDevice : DeviceSigner D g → DeviceSigner D g → List ℕ
       → Result (Vec ℕ Global) SignFault → Type 0
   SigningByDevice = SignsOrFails device_identity SignsByDevice (λ it. it.failures)
 
-  -- the device, asked to sign a message, failed, or its answer doesn't have the form of a signature
+  -- the device failed to answer the message, or it gave an answer that doesn't have the form of a signature under its key
   abbrev pub FailsToSign : DeviceSigner D g → List ℕ → DeviceSigner D g → Type 0
   FailsToSign it message after =
       g.fails it.device message after.device
@@ -41,7 +41,7 @@ module _ {D : Type 0} (g : Ghosts D) where
       × ¬ (HasSignatureForm it.algorithm (g.public_key it.device) answer))
 
   -- Without a preset, the signature is an answer of the device at its path. With one, it is an answer that another caller got there. It has at most
-  -- 4,096 bytes. Without a preset, the fault `Device` means that the device gave no signature. The path stays the same.
+  -- 4,096 bytes. Without a preset, the fault `Device` means that the device failed to sign. The path stays the same.
   pub record AsksAtItsPath (old new : DeviceSigner D g) (message : List ℕ)
       (result : Result (Vec ℕ Global) SignFault) : Type 0 where
     pub device_answered : old.preset_signature ≡ None

@@ -2,8 +2,8 @@
 use Rattle.std.specs.Prelude.{◌≡◌, ℕ, ◌<◌, List, length, take, Result, IfOk, OnErr}
 use Rattle.reg_crl_signer.specs.declared.device.DeviceFault.{DeviceFault}
 
--- A device was asked to answer a message. Either `room` begins with its answer, which is shorter than `room`, or the device failed. The device's
--- path and key stay the same.
+-- The result of a call of `exchange`. Either `room` begins with an answer to the message by the device with this key and at this path, and is
+-- longer than the answer; or the device failed. The device's path and key stay the same.
 pub record Exchanges {S : Type 0} (public_key device_path : S → List ℕ)
     (device_answered answers : List ℕ → List ℕ → List ℕ → Type 0)
     (fails : S → List ℕ → S → Type 0) (old new : S) (message room : List ℕ)

@@ -13,7 +13,7 @@ module _ {L : Type 0} (remaining contents : L → Option (List ℕ)) (finished :
     pub came : Consumes (remaining told) (remaining left) answer
     pub ended : IsAtEnd (remaining left)
 
-  -- this exchange was over a connection to the listener at the path
+  -- the message and the answer were exchanged over a connection to the listener at the path
   abbrev pub ExchangesAtPath : (List ℕ → L → Type 0) → List ℕ → List ℕ → List ℕ → Type 0
   ExchangesAtPath connected path message answer =
       (link : L) × connected path link × ExchangesMessage link message answer

@@ -22,7 +22,7 @@ pub record IsPair (bytes : List ℕ) (first second : ℕ) : Type 0 where
   pub first_is : IsPositive first_bytes first
   pub second_is : IsPositive second_bytes second
 
--- `size` is the fewest octets that hold the number
+-- the number is above 0, and `size` is the fewest octets that hold it
 pub record HasOctets (number size : ℕ) : Type 0 where
   pub below : number < 256 ^ size
   pub no_fewer : 256 ^ size ≤ 256 * number
@@ -43,21 +43,22 @@ pub record BeginsPositive (bytes : List ℕ) (size : ℕ) (rest : List ℕ) : Ty
   pub octets : HasOctets number size
   pub parts : bytes ≡ raw ++ rest
 
--- an RSAPublicKey: a modulus of `size` octets, and the public exponent (RFC 8017 A.1.1)
+-- an RSAPublicKey: a modulus of `size` octets, and the public exponent, both above 0 (RFC 8017 A.1.1)
 pub record IsRsaKey (key : List ℕ) (size : ℕ) : Type 0 where
   pub modulus : ℕ
   pub exponent : ℕ
   pub pair : IsPair key modulus exponent
   pub modulus_size : HasOctets modulus size
 
--- an ECPoint whose coordinates have `size` octets, uncompressed or compressed (RFC 5480 2.2; SEC 1 2.3.3)
+-- The first octet and the length of an ECPoint whose coordinates have `size` octets: 4 if uncompressed, 2 or 3 if compressed (RFC 5480 2.2;
+-- SEC 1 2.3.3). Whether the point is on a curve is not stated.
 abbrev pub IsPoint : ℕ → List ℕ → Type 0
 IsPoint size key =
     ((get_or key 0 0 ≡ 4) × (length key ≡ 1 + 2 * size))
     ⊎ (((get_or key 0 0 ≡ 2) ⊎ (get_or key 0 0 ≡ 3)) × (length key ≡ 1 + size))
 
--- A public key of an algorithm, the bits of a subjectPublicKey: a point of P-256 or of P-384 with ECDSA, an RSAPublicKey with RSA,
--- 32 octets with Ed25519 (RFC 8410 4)
+-- The form of a public key of an algorithm, the bits of a subjectPublicKey: with ECDSA that of a point of P-256 or of P-384, with RSA an
+-- RSAPublicKey, with Ed25519 32 octets (RFC 8410 4)
 abbrev pub HasKeyForm : Algorithm → List ℕ → Type 0
 HasKeyForm EcdsaSha256 key = IsPoint 32 key
 HasKeyForm EcdsaSha384 key = IsPoint 48 key
@@ -72,8 +73,8 @@ pub record IsEcdsaValue (bound : ℕ) (signature : List ℕ) : Type 0 where
   pub r_below : r < bound
   pub s_below : s < bound
 
--- The form of a signature of an algorithm under a key. ECDSA: an Ecdsa-Sig-Value of numbers below 2^256 or 2^384. RSA: as many octets
--- as the key's modulus (RFC 8017 8.2.1). Ed25519: 64 octets (RFC 8032 5.1.6)
+-- The form of a signature of an algorithm under a key. ECDSA: an Ecdsa-Sig-Value of numbers below 2^256 or 2^384. RSA: the key is an RSAPublicKey,
+-- and the signature has as many octets as its modulus (RFC 8017 8.2.1). Ed25519: 64 octets (RFC 8032 5.1.6)
 abbrev pub HasSignatureForm : Algorithm → List ℕ → List ℕ → Type 0
 HasSignatureForm EcdsaSha256 key signature = IsEcdsaValue (2 ^ 256) signature
 HasSignatureForm EcdsaSha384 key signature = IsEcdsaValue (2 ^ 384) signature
@@ -84,7 +85,7 @@ HasSignatureForm Ed25519 key signature = length signature ≡ 64
 abbrev pub identity_of : Algorithm → List ℕ → Identity
 identity_of algorithm key = record { algorithm = identifier_of algorithm; public_key = key }
 
--- the signature has the form of one of the identity's algorithm, under its key
+-- the identity's algorithm is one of the four, and the signature has the form of a signature of this algorithm under the identity's key
 pub record HasForm (identity : Identity) (signature : List ℕ) : Type 0 where
   pub algorithm : Algorithm
   pub named : identity.algorithm ≡ identifier_of algorithm

@@ -8,8 +8,8 @@ use Rattle.reg_crl_signer.specs.Forms.{HasForm}
 abbrev pub digest : Identity
 digest = record { algorithm = sha1_algorithm; public_key = [] }
 
--- without a key, the signature is the SHA-1 of the message; else it is the answer of a device with the key, and has the form of a
--- signature
+-- Either the identity is that of a signer without a key, and the signature is the SHA-1 of the message; or the signature is an answer of a device
+-- with the identity's key, and has the form of a signature.
 abbrev pub SignsByKeyOrDigest : (List ℕ → List ℕ → List ℕ → Type 0) → Identity → List ℕ → List ℕ → Type 0
 SignsByKeyOrDigest answers identity message signature =
     ((identity ≡ digest) × (signature ≡ sha1 message))

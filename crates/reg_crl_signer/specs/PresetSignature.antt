@@ -1,4 +1,4 @@
--- A preset signature.
+-- Preset signatures.
 use Rattle.std.specs.Prelude.{ℕ, List, Option}
 use Rattle.std.specs.Option.{ForSome}
 use Rattle.reg_crl_signer.specs.declared.preset_signature.PresetSignature.{PresetSignature}

@@ -1,4 +1,4 @@
--- The signer of a register: its issuer's key, the placeholder digest, or nobody.
+-- The signer of a register: its issuer's key, the placeholder digest, or none.
 use Rattle.std.specs.Prelude.{◌≡◌, ℕ, List, Option, Some, None, Result, Vec, option_map}
 use Rattle.std.specs.Global.{Global}
 use Rattle.reg_crl.specs.Signatures.{SignsOrFails}
@@ -18,13 +18,13 @@ module _ {D : Type 0} (g : Ghosts D) where
   key_of (by.Digest seal) = None
   key_of (by.NoSigner seal failures) = None
 
-  -- the algorithm and the public key of the signer; for nobody, those of the digest
+  -- the algorithm and the public key of the signer; without a key, those of the placeholder digest
   abbrev pub register_signer_identity : RegisterSigner D g → Identity
   register_signer_identity (by.Key signer) = device_identity g signer
   register_signer_identity (by.Digest seal) = digest
   register_signer_identity (by.NoSigner seal failures) = digest
 
-  -- how many failures it has counted; the digest never fails
+  -- how many failures the signer has counted; the placeholder digest counts none
   abbrev pub register_signer_failures : RegisterSigner D g → ℕ
   register_signer_failures (by.Key signer) = signer.failures
   register_signer_failures (by.Digest seal) = 0
@@ -40,13 +40,13 @@ module _ {D : Type 0} (g : Ghosts D) where
   abbrev pub register_signer_path : RegisterSigner D g → Option (List ℕ)
   register_signer_path it = option_map (λ signer. g.device_path signer.device) (key_of it)
 
-  -- the result of asking it for a signature
+  -- the result of a call of `sign`: the signer before and after, the message, and the signature or fault
   abbrev pub SigningByRegisterSigner : RegisterSigner D g → RegisterSigner D g → List ℕ
       → Result (Vec ℕ Global) SignFault → Type 0
   SigningByRegisterSigner =
       SignsOrFails register_signer_identity (SignsByKeyOrDigest g.answers) register_signer_failures
 
-  -- it has the same algorithm, key and path as before, and has counted as many failures
+  -- the signer has the same algorithm, key, path and count of failures as before
   pub record SignsAsBefore (old new : RegisterSigner D g) : Type 0 where
     pub same_identity : register_signer_identity new ≡ register_signer_identity old
     pub same_failures : register_signer_failures new ≡ register_signer_failures old

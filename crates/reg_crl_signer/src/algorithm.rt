@@ -1,4 +1,4 @@
-//! Signature algorithms.
+//! Signature algorithms. Each constant is an AlgorithmIdentifier in DER (RFC 5280 4.1.1.2).
 
 ghost use Rattle.std.specs.Prelude.{◌≡◌, ◌≢◌, ◌↔◌, IsTrue, MatchOption};
 ghost use Rattle.reg_crl.specs.Signing.{IsAlgorithm};
@@ -20,16 +20,16 @@ const RSA_SHA256: [u8; 15] = [
     0x30, 0x0D, 0x06, 0x09, 0x2A, 0x86, 0x48, 0x86, 0xF7, 0x0D, 0x01, 0x01, 0x0B, 0x05, 0x00,
 ];
 
-/// id-Ed25519, 1.3.101.112.
+/// id-Ed25519, 1.3.101.112, of a signature and of a key (RFC 8410 3).
 const ED25519: [u8; 7] = [0x30, 0x05, 0x06, 0x03, 0x2B, 0x65, 0x70];
 
-/// id-ecPublicKey, 1.2.840.10045.2.1, with the curve secp256r1, 1.2.840.10045.3.1.7 (RFC 5480 2.1.1).
+/// id-ecPublicKey, 1.2.840.10045.2.1, with the curve secp256r1, 1.2.840.10045.3.1.7 (RFC 5480 2.1.1, 2.1.1.1).
 const P256: [u8; 21] = [
     0x30, 0x13, 0x06, 0x07, 0x2A, 0x86, 0x48, 0xCE, 0x3D, 0x02, 0x01, 0x06, 0x08, 0x2A, 0x86, 0x48,
     0xCE, 0x3D, 0x03, 0x01, 0x07,
 ];
 
-/// id-ecPublicKey with the curve secp384r1, 1.3.132.0.34 (RFC 5480 2.1.1).
+/// id-ecPublicKey with the curve secp384r1, 1.3.132.0.34 (RFC 5480 2.1.1, 2.1.1.1).
 const P384: [u8; 18] = [
     0x30, 0x10, 0x06, 0x07, 0x2A, 0x86, 0x48, 0xCE, 0x3D, 0x02, 0x01, 0x06, 0x05, 0x2B, 0x81, 0x04,
     0x00, 0x22,
@@ -40,6 +40,7 @@ const RSA: [u8; 15] = [
     0x30, 0x0D, 0x06, 0x09, 0x2A, 0x86, 0x48, 0x86, 0xF7, 0x0D, 0x01, 0x01, 0x01, 0x05, 0x00,
 ];
 
+/// A signature algorithm, with the one kind of key that it is used with.
 #[derive(Clone, Copy, Debug, PartialEq, Eq)]
 pub enum Algorithm {
     /// ECDSA with SHA-256 (RFC 5758 3.2) and a P-256 key.
@@ -68,7 +69,7 @@ impl Algorithm {
         }
     }
 
-    /// The algorithm of an AlgorithmIdentifier. `None` for any other bytes.
+    /// The algorithm with this AlgorithmIdentifier in DER (RFC 5280 4.1.1.2), as [`Algorithm::identifier`] gives it. `None` for any other bytes.
     pub fn from_identifier(identifier: &[u8]) -> Option<Algorithm>
         ensures { MatchOption result ((algorithm : Algorithm) → identifier_of algorithm ≢ identifier.now)
             (λ algorithm. identifier_of algorithm ≡ identifier.now) }
@@ -119,7 +120,7 @@ impl Algorithm {
     }
 }
 
-/// Whether this is the AlgorithmIdentifier of a subjectPublicKeyInfo with a key of the algorithm (RFC 5280 4.1.2.7).
+/// Whether `identifier` is the AlgorithmIdentifier, in DER, of a subjectPublicKeyInfo with a key of the algorithm (RFC 5280 4.1.2.7).
 #[tactic(auto, unfolding(reg_der::specs::Der::tlv, reg_der::specs::Der::length_octets))]
 pub fn is_key_identifier(algorithm: Algorithm, identifier: &[u8]) -> bool
     ensures { IsTrue result ↔ (identifier.now ≡ key_identifier_of algorithm) }

@@ -1,4 +1,4 @@
-//! The back-off from a signer that timed out.
+//! The back-off: a signer that timed out is not asked again for a while.
 
 ghost use Rattle.std.specs.Prelude.{◌≡◌, ◌↔◌, ◌≤◌, ◌<◌, ◌-◌, IsTrue, IfSome, MatchOption, None, OnErr, OnOk, length};
 ghost use Rattle.std.specs.Duration.{as_nanos};
@@ -10,21 +10,22 @@ use std::time::{Clock, Duration};
 
 const BACKOFF_NANOS: u128 = 10_000_000_000;
 
-/// The back-off from a signer: after a timeout it is not asked again for ten seconds. Times are readings of one clock that never goes back.
+/// The back-off from a signer: after a timeout the signer is not asked again for ten seconds. Times are readings of one clock that never goes back.
 #[derive(Clone, Copy, Debug, PartialEq, Eq)]
 pub struct Backoff {
-    /// When the last exchange timed out; `None` if it did not.
+    /// When an exchange timed out, so that the back-off began; `None` without a back-off.
     since: Option<Duration>,
 }
 
 impl Backoff {
+    /// No back-off: the signer may be asked.
     pub fn none() -> Backoff
         ensures { result.since ≡ None }
     {
         Backoff { since: None }
     }
 
-    /// The back-off after a failed exchange: it begins at `ended` if the exchange took at least the timeout; else there is none.
+    /// The back-off after a failed exchange. If the exchange took at least `timeout`, the back-off begins at `ended`; else there is none.
     pub fn after_failure(began: Duration, ended: Duration, timeout: Duration) -> Backoff
         ensures { MatchOption result.since (as_nanos ended - as_nanos began < as_nanos timeout)
             (λ since. (since ≡ ended) × (as_nanos timeout ≤ as_nanos ended - as_nanos began)) }
@@ -37,6 +38,7 @@ impl Backoff {
         }
     }
 
+    /// Whether the signer must not be asked at `now`, because less than ten seconds have passed since the timeout.
     pub fn is_active(&self, now: Duration) -> bool
         ensures { IsTrue result ↔ IsBackedOff self.now.since now }
     {
@@ -47,7 +49,8 @@ impl Backoff {
     }
 }
 
-/// A device, which has a signer's key, with a back-off. After an exchange that fails before the timeout, the next exchange asks the device again.
+/// A device with a back-off. After an exchange that failed and took ten seconds or more, exchanges fail for ten seconds, and the device is not asked.
+/// After any other exchange, the next one asks the device.
 #[derive(Drop)]
 pub struct BackoffDevice<D: Device, C: Clock> {
     device: D,
@@ -56,6 +59,7 @@ pub struct BackoffDevice<D: Device, C: Clock> {
 }
 
 impl<D: Device, C: Clock> BackoffDevice<D, C> {
+    /// The device without an active back-off. `clock` measures the time of each exchange.
     pub fn new(device: D, clock: C) -> BackoffDevice<D, C>
         ensures device { result.device ≡ device }
         ensures no_backoff { result.backoff.since ≡ None }

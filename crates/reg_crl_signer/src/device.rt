@@ -2,7 +2,7 @@
 
 ghost use Rattle.reg_crl_signer.specs.Devices.{Exchanges};
 
-/// A device gave no answer: it can't be reached, failed, timed out, closed early, sent too long an answer, or its back-off is active.
+/// A device gave no answer: it can't be reached, the connection to it failed or timed out, its answer is too long, or its back-off is active.
 #[derive(Clone, Copy, PartialEq, Eq)]
 pub struct DeviceFault;
 
@@ -36,8 +36,8 @@ pub trait Device {
     fn public_key(&self) -> &[u8]
         ensures { result.now ≡ public_key self.now };
 
-    /// Sends the whole message, and reads the answer up to its end into the beginning of `room`. Returns the answer's length,
-    /// which is less than that of `room`. Never reads more bytes than `room` has.
+    /// Sends the whole message, and reads the answer up to its end into the beginning of `room`. Returns the answer's length in bytes, perhaps 0.
+    /// [`DeviceFault`] if there is no answer, or if it is not shorter than `room`.
     fn exchange(&mut self, message: &[u8], room: &mut [u8]) -> Result<usize, DeviceFault>
         requires { length room.old ≤ 4097 }
         ensures { Exchanges public_key device_path device_answered answers fails

@@ -25,11 +25,12 @@ pub trait DeviceConnection: Read + Write {
     // The listener at the path gave this message this answer, over a connection of another type.
     ghost answered_another_caller: { List ℕ → List ℕ → List ℕ → Type 0 };
 
+    /// Connects to the listener at `path`. The errors are those of the implementation.
     fn connect(rt: &HostRuntime, path: &str) -> io::Result<Self>
         ensures ok { IfOk result (connected path.now) }
         ensures err { OnErr result (unconnected path.now) };
 
-    /// Shuts down the sending side of the connection.
+    /// Shuts down the sending side of the connection. The errors are those of shutdown(2).
     fn finish(&mut self) -> io::Result<()>
         ensures { OnOk result (finished self.old self.new) };
 }
@@ -45,7 +46,7 @@ pub struct SocketDevice<L: DeviceConnection> {
 }
 
 impl<L: DeviceConnection> SocketDevice<L> {
-    /// The device that listens at `path`. `key` has the bits of its subjectPublicKey.
+    /// The device that listens at `path`. `key` is the bits of its subjectPublicKey (RFC 5280 4.1.2.7). Nothing is sent to the device yet.
     pub fn new(rt: HostRuntime, path: String, key: Vec<u8>) -> SocketDevice<L>
         ensures path { result.path ≡ path }
         ensures key { result.key ≡ key }

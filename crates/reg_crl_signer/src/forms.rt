@@ -45,8 +45,8 @@ impl Algorithm {
     }
 }
 
-/// Whether `signature` has the form of a signature under `key` by the algorithm with this AlgorithmIdentifier. `false` if no variant of [`Algorithm`]
-/// has this identifier.
+/// Whether `signature` has the form of a signature under `key`, the bits of a subjectPublicKey, by the algorithm with this AlgorithmIdentifier in
+/// DER. `false` if no variant of [`Algorithm`] has this identifier. The signature is not verified.
 pub fn has_form(identifier: &[u8], key: &[u8], signature: &[u8]) -> bool
     ensures { OnTrue result
         (HasForm (record { algorithm = identifier.now; public_key = key.now }) signature.now) }

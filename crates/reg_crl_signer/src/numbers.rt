@@ -13,7 +13,8 @@ const SEQUENCE: u8 = 0x30;
 /// The first octet of an INTEGER that is not negative is below this (X.690 8.3.3).
 const SIGN_BIT: u8 = 0x80;
 
-/// How many octets each of two numbers has. `None` unless the bytes are a SEQUENCE of two INTEGERs above 0, and nothing else.
+/// How many octets each of two numbers has, without a zero octet for the sign. `None` unless the bytes are a SEQUENCE of two INTEGERs above 0, and
+/// nothing else.
 pub(crate) fn octets_of_pair(bytes: &[u8]) -> Option<(usize, usize)>
     ensures { MatchOption result ((first second : ℕ) → ¬ IsPair bytes.now first second)
         (λ counts. IsPairOfIntegers bytes.now counts.0 counts.1) }
@@ -49,7 +50,7 @@ fn octets_of(contents: &[u8]) -> Option<usize>
         (λ count. (number : ℕ) × (0 < number) × IsInteger contents.now number × HasOctets number count) }
 {
     match contents {
-        // DER puts a zero octet first only if the number's first bit is set (X.690 8.3.2).
+        // DER puts a zero octet first only if the next octet's highest bit is set (X.690 8.3.2).
         [first, second, ..] if *first == 0 && *second >= SIGN_BIT => Some(contents.len() - 1),
         [first, ..] if *first != 0 && *first < SIGN_BIT => Some(contents.len()),
         _ => None,

@@ -1,8 +1,8 @@
-//! A preset signature: a `DeviceSigner` takes it for the next `sign`, and doesn't ask its device, such as the process at a signer's socket.
+//! A preset signature: the next `sign` of a `DeviceSigner` returns it instead of asking the device.
 
 ghost use Rattle.std.specs.Prelude.{◌≡◌, Some, IfSome};
 
-/// The device's answer for `message`, which another caller than the `DeviceSigner` requested before; `None` if there was no answer.
+/// The device's answer to `message`, which another caller than the `DeviceSigner` has requested. `answer` is `None` if the device gave none.
 #[derive(Drop)]
 pub struct PresetSignature {
     pub message: Vec<u8>,

@@ -9,19 +9,19 @@ use crate::signer::{DeviceSigner, count_failure};
 use reg_crl::{DigestSeal, SignFault, Signer};
 use std::alloc::Global;
 
-/// The signer of a register: a key, the placeholder digest, or nobody.
+/// The signer of a register: a key, the placeholder digest, or none.
 #[derive(Drop)]
 pub enum RegisterSigner<D: Device> {
     /// The issuer's key.
     Key(DeviceSigner<D>),
     /// No key: a placeholder digest instead of a signature.
     Digest(DigestSeal),
-    /// No signer, with the digest's algorithm: each request is a failure, and counted here.
+    /// No signer, with the digest's algorithm: each `sign` fails. The number is the count of these failures.
     NoSigner(DigestSeal, u64),
 }
 
 impl<D: Device + Drop> RegisterSigner<D> {
-    /// This signer, but `NoSigner` in place of the placeholder digest.
+    /// The same signer, but `NoSigner` without failures in place of the placeholder digest.
     pub fn without_digest(self) -> RegisterSigner<D>
         ensures key { key_of D.Device result ≡ key_of D.Device self }
         ensures same_identity { register_signer_identity D.Device result

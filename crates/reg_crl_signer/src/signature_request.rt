@@ -15,8 +15,8 @@ use std::io;
 use std::io::{ErrorKind, Read, Write};
 use std::net::Shutdown;
 
-/// A non-blocking connection on which the signer at a path is asked to sign a message. It keeps the path and the message, so that its answer is
-/// used only for that signer and that message.
+/// A non-blocking connection to the signer at a path, with a request to sign a message. The connection keeps the path and the message, so that the
+/// answer is used only for that signer and that message.
 #[derive(Drop)]
 pub struct SignatureRequest {
     stream: UnixStream,
@@ -47,8 +47,8 @@ impl SignatureRequest {
     }
 }
 
-/// Reads the answer up to the end of the connection. `None` if a read fails or would block, if the answer has more than 4,096 bytes, and if out
-/// of memory.
+/// Reads the answer up to the end of the connection; it may be empty. `None` if a read fails or would block, if the answer has more than 4,096 bytes,
+/// and if out of memory.
 pub fn read_answer<R: Read>(alloc: Global, reader: &mut R) -> Option<Vec<u8>>
     ensures came { IfSome result (λ answer.
         Consumes (R.remaining reader.old) (R.remaining reader.new) answer.items) }
@@ -106,7 +106,7 @@ impl DeviceConnection for SignatureRequest {
 
     ghost answered_another_caller = { λ path message answer. Unit {0} };
 
-    /// Connects without waiting: `WouldBlock` if the socket's backlog is full.
+    /// Connects without waiting. Errors: `WouldBlock` if the socket's backlog is full; out of memory; the others of connect(2).
     fn connect(rt: &HostRuntime, path: &str) -> io::Result<SignatureRequest>
         ensures ok { IfOk result (IsSignatureRequest path.now []) }
         ensures err { Unit {0} }

@@ -5,7 +5,7 @@ ghost use Rattle.reg_crl_signer.specs.Signed.{IsCrlUnder};
 
 use reg_der::take;
 
-/// The signatureAlgorithm of a CRL (RFC 5280 5.1.1.2), an AlgorithmIdentifier. `None` only if the bytes are not a CRL.
+/// The signatureAlgorithm of a CRL (RFC 5280 5.1.1.2), an AlgorithmIdentifier in DER. For bytes that are no CRL, `None` or some part of them.
 pub fn crl_algorithm(crl: &[u8]) -> Option<&[u8]>
     ensures { MatchOption result ((algorithm : List ℕ) → ¬ IsCrlUnder crl.now algorithm)
         (λ found. (algorithm : List ℕ) → IsCrlUnder crl.now algorithm → found.now ≡ algorithm) }

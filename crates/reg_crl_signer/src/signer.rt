@@ -11,16 +11,16 @@ use crate::preset_signature::{PresetSignature, answer_to};
 use reg_crl::{SignFault, Signer};
 use std::alloc::Global;
 
+/// The most bytes of an answer that is accepted.
 pub(crate) const LONGEST_ANSWER: usize = 4_096;
 
 /// The device's public key doesn't have the form of a key of the algorithm.
 #[derive(Clone, Copy, Debug, PartialEq, Eq)]
 pub struct KeyFault;
 
-/// Has a device sign with its key, with one algorithm, and counts how often the device gave no signature.
+/// Asks a device to sign by one algorithm with the device's key, and counts the calls of `sign` that got no signature, except if out of memory.
 ///
-/// An answer of at most 4,096 bytes that has the form of a signature under the device's key is accepted as one. It is not
-/// verified.
+/// An answer of at most 4,096 bytes that has the form of a signature under the device's key is accepted as one. The signature is not verified.
 #[derive(Drop)]
 pub struct DeviceSigner<D: Device> {
     device: D,
@@ -49,8 +49,8 @@ impl<D: Device + Drop> DeviceSigner<D> {
         })
     }
 
-    /// Presets the next signature: the answer that another caller got from the device at the same path for a message, or that there was none. The
-    /// next `sign` then doesn't ask the device, and fails for any other message. `None` removes the preset.
+    /// Presets the next signature: the answer that another caller got for a message from the device at the same path. The next `sign` then doesn't
+    /// ask the device, and fails if the preset has no answer or is for another message. `None` removes the preset.
     pub fn set_preset(&mut self, preset_signature: Option<PresetSignature>)
         requires { IsPreset (D.answered_another_caller (D.device_path self.old.device)) preset_signature }
         ensures preset_signature { self.new.preset_signature ≡ preset_signature }
@@ -162,8 +162,8 @@ impl<D: Device + Drop> Signer for DeviceSigner<D> {
     }
 }
 
-/// Counts a failure of a device. Callers recognise a failed device by a count that rose. At `u64::MAX` it can't rise, so the fault is `Memory`
-/// there.
+/// Counts a failure to sign, and returns its fault. Callers recognise a failed device by a count that rose. At `u64::MAX` the count can't rise, so
+/// the fault is `Memory` there.
 pub(crate) fn count_failure(failures: &mut u64) -> SignFault
     ensures device { result ≡ SignFault.Device → failures.old < failures.new }
     ensures exhausted { failures.old ≡ u64.MAX → result ≡ SignFault.Memory }

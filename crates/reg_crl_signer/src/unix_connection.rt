@@ -63,7 +63,7 @@ impl Write for UnixConnection {
     }
 }
 
-/// No contract states what listens at a path, or what it answers.
+/// The contracts here state nothing about the listener at a path or its answers.
 impl DeviceConnection for UnixConnection {
     ghost connected = { λ path link. Unit {0} };
 
@@ -73,7 +73,8 @@ impl DeviceConnection for UnixConnection {
 
     ghost answered_another_caller = { λ path message answer. Unit {0} };
 
-    /// If the socket's backlog is full, it tries again until the ten seconds are over: then `TimedOut`.
+    /// If the socket's backlog is full, tries again every 10 ms until the ten seconds are over: then `TimedOut`. Other errors are those of connect(2)
+    /// and of the clock.
     fn connect(rt: &HostRuntime, path: &str) -> io::Result<UnixConnection>
         ensures ok { Unit {0} }
         ensures err { Unit {0} }
@@ -103,7 +104,7 @@ impl DeviceConnection for UnixConnection {
     }
 }
 
-/// The time that is left now for an exchange that began at `began`; `TimedOut` if none is left.
+/// The time that is left now for an exchange that began at `began`. `TimedOut` if none is left; other errors are those of the clock.
 fn time_left_now(rt: &HostRuntime, began: Instant) -> io::Result<Duration> {
     time_left(began, Instant::now(rt)?).ok_or(io::Error::from(ErrorKind::TimedOut))
 }

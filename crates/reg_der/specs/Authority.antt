@@ -9,7 +9,7 @@ use Rattle.reg_der.specs.Der.{IsTlv, tlv}
 use Rattle.reg_der.specs.ValueReading.{Parts, value_at}
 use Rattle.reg_der.specs.declared.identifiers.KeyIdentifier.{KeyIdentifier}
 
--- a Name: one SEQUENCE that is not empty (RFC 5280 4.1.2.4), of at most 1,024 bytes
+-- a Name (RFC 5280 4.1.2.4): one SEQUENCE that is not empty, of at most 1,024 bytes in all
 pub record IsIssuerName (name : List ℕ) : Type 0 where
   pub contents : List ℕ
   pub sequence : IsTlv name 48 contents
@@ -24,19 +24,19 @@ pub record IsKey (key : List ℕ) : Type 0 where
 
 -- ---- the stored name: the Name, and after it the key identifiers that were set, the latest first
 
--- the Name: the value at the front
+-- the Name: the value at the front; no bytes if there is none
 unfoldable pub name_in : List ℕ → List ℕ
 name_in kept = unwrap_or (option_map (λ x. tlv x.0.tag x.0.contents) (value_at kept)) []
 
--- the bytes after the Name
+-- the bytes after the Name; no bytes if there is no Name
 unfoldable pub after_name : List ℕ → List ℕ
 after_name kept = unwrap_or (option_map (λ x. x.1) (value_at kept)) []
 
--- the stored form of a key identifier of 1 to 64 octets (RFC 5280 4.2.1.2): tagged [0], the number of its first CRL in eight octets, then the identifier
+-- the stored form of a key identifier (RFC 5280 4.2.1.2): tagged [0], the number of its first CRL in eight octets, and then the identifier
 unfoldable pub identifier_value : ℕ → List ℕ → List ℕ
 identifier_value first octets = tlv 128 (bytes_high_first 8 first ++ octets)
 
--- the key identifier at the front, and the bytes after it
+-- the key identifier of 1 to 64 octets at the front, and the bytes after it
 unfoldable pub identifier_at : List ℕ → Option (KeyIdentifier × List ℕ)
 identifier_at bytes =
     value_at bytes >>= λ x.
@@ -103,7 +103,8 @@ with_identifier issuer first octets =
       key = issuer.key;
     }
 
--- with one more key identifier, the issuer has the same Name and key, the new key identifier from that CRL on, and its former ones in earlier CRLs
+-- with one more key identifier, the issuer is valid, with the same Name and key, the new key identifier from that CRL on, and its former
+-- ones in earlier CRLs
 pub record HasIdentifier (issuer : core.Issuer) (first : ℕ) (octets : List ℕ) : Type 0 where
   pub within : IsIssuer (with_identifier issuer first octets)
   pub name : name_of (with_identifier issuer first octets) ≡ name_of issuer
@@ -113,7 +114,7 @@ pub record HasIdentifier (issuer : core.Issuer) (first : ℕ) (octets : List ℕ
   pub earlier : (number : ℕ) → number < first
       → key_identifier_at (with_identifier issuer first octets) number ≡ key_identifier_at issuer number
 
--- the law of `with_identifier`
+-- for each valid issuer, number below 2^64 and key identifier of 1 to 64 octets, `with_identifier` does as `HasIdentifier` says
 abbrev pub IdentifiersFollow : Type 0
 IdentifiersFollow =
     (issuer : core.Issuer) (first : ℕ) (octets : List ℕ) → IsIssuer issuer → first < 2 ^ 64 → IsLabel octets
@@ -125,6 +126,6 @@ pub record IsPlain (issuer : core.Issuer) : Type 0 where
   pub name : name_of issuer ≡ issuer.name
   pub none : (number : ℕ) → key_identifier_at issuer number ≡ None
 
--- an issuer whose stored name is a Name has no key identifiers
+-- an issuer whose stored name is a Name and nothing else has no key identifiers that were set
 abbrev pub NamesArePlain : Type 0
 NamesArePlain = (issuer : core.Issuer) → IsIssuerName issuer.name → IsPlain issuer

@@ -15,8 +15,8 @@ length_octets size = if nat_lt size 128 then size ∷ [] else ((128 + length (fe
 unfoldable pub tlv : ℕ → List ℕ → List ℕ
 tlv tag contents = tag ∷ length_octets (length contents) ++ contents
 
--- the bytes are one value with this tag and these contents: a tag of one octet (X.690 8.1.2.4: its low five bits aren't all
--- ones), and fewer than 2^32 octets of contents
+-- the bytes are one value with this tag and these contents: a tag of one octet, so its low five bits aren't all ones (X.690 8.1.2.4),
+-- and fewer than 2^32 octets of contents
 pub record IsTlv (bytes : List ℕ) (tag : ℕ) (contents : List ℕ) : Type 0 where
   pub one_byte : tag < 256
   pub low_tag : tag % 32 < 31
@@ -31,7 +31,8 @@ NoTwoPrefixes =
     → IsTlv a tag_a contents_a → IsTlv b tag_b contents_b → a ++ rest_a ≡ b ++ rest_b
     → (a ≡ b) × (tag_a ≡ tag_b) × (contents_a ≡ contents_b) × (rest_a ≡ rest_b)
 
--- the octets encode a length in the long form, in the fewest octets or in more: 81h to FEh, which counts the digits, and the digits (X.690 8.1.3.5)
+-- the octets encode a length in the long form, in the fewest octets or in more: 80h plus the count of the digits, which is 1 to 126, and then
+-- the digits (X.690 8.1.3.5)
 pub record IsLongForm (octets : List ℕ) (size : ℕ) : Type 0 where
   pub digits : List ℕ
   pub each : IsBytes digits
@@ -44,12 +45,13 @@ pub record IsLongForm (octets : List ℕ) (size : ℕ) : Type 0 where
 abbrev pub IsLength : List ℕ → ℕ → Type 0
 IsLength octets size = ((octets ≡ size ∷ []) × (size < 128)) ⊎ IsLongForm octets size
 
--- the length octets encode the size, and any other octets that encode it are more octets (X.690 10.1)
+-- the length octets encode the size, and any other octets that encode this size are more (X.690 10.1)
 pub record HasFewest (size : ℕ) : Type 0 where
   pub spells : IsLength (length_octets size) size
   pub least : (octets : List ℕ) → IsLength octets size
       → (octets ≡ length_octets size) ⊎ (length (length_octets size) < length octets)
 
+-- the length octets of each size below 2^32 are the fewest
 abbrev pub LengthIsFewest : Type 0
 LengthIsFewest = (size : ℕ) → size < 2 ^ 32 → HasFewest size
 

@@ -5,7 +5,7 @@ use Rattle.reg_der.specs.ValueReading.{value_at}
 
 -- ---- values with an expected tag
 
--- the contents of the value at the front, which has the tag, and the bytes after it
+-- the contents of the value at the front, if it has the tag, and the bytes after the value
 unfoldable pub expect_at : ℕ → List ℕ → Option (List ℕ × List ℕ)
 expect_at tag bytes = value_at bytes >>= λ x. if x.0.tag == tag then Some (x.0.contents, x.1) else None
 
@@ -13,7 +13,7 @@ expect_at tag bytes = value_at bytes >>= λ x. if x.0.tag == tag then Some (x.0.
 unfoldable pub whole_at : ℕ → List ℕ → Option (List ℕ)
 whole_at tag bytes = expect_at tag bytes >>= λ x. if length x.1 == 0 then Some x.0 else None
 
--- the contents of the value at the front, if the first byte is the tag, and the bytes after it
+-- the contents of the value at the front, if the first byte is the tag, and the bytes after the value; else no contents, and all the bytes
 unfoldable pub optional_at : ℕ → List ℕ → Option (Option (List ℕ) × List ℕ)
 optional_at tag [] = Some (None, [])
 optional_at tag (first ∷ rest) =
@@ -27,7 +27,8 @@ last_at tag (first ∷ rest) = whole_at tag (first ∷ rest) >>= λ x. Some (Som
 
 -- ---- items up to the end
 
--- all items in the bytes, which `item` reads one by one. `fuel` bounds the recursion; it is the number of bytes, because each item has at least one.
+-- all items in the bytes, which `item` reads one by one; `None` if one can't be read. `fuel` bounds the recursion: the number of bytes is enough,
+-- because each item has at least one.
 abbrev pub items_at : {X : Type 0} → (List ℕ → Option (X × List ℕ)) → ℕ → List ℕ → Option (List X)
 items_at item fuel [] = Some []
 items_at item zero (first ∷ rest) = None

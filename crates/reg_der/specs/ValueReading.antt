@@ -4,7 +4,7 @@ use Rattle.reg_core.specs.Integer.{IsBytes, value}
 use Rattle.reg_core.specs.Sequence.{◌>>=◌}
 use Rattle.reg_der.specs.Der.{tlv, IsTlv}
 
--- the model (`view`) of what a function returned is what reading gives
+-- a function's result agrees with a definition's (`read`): both are `None`, or the model (`view`) of the first is the second
 abbrev pub AgreesWith : {X Y : Type 0} → (X → Y) → Option X → Option Y → Type 0
 AgreesWith view (Some x) read = read ≡ Some (view x)
 AgreesWith view None read = read ≡ None
@@ -14,14 +14,14 @@ pub record Parts : Type 0 where
   pub tag : ℕ
   pub contents : List ℕ
 
--- a length in the long form, in the first `count` octets, and the bytes after them
+-- a length of 128 or more in the first `count` octets, 1 to 4, without a leading zero (X.690 8.1.3.5, 10.1), and the bytes after them
 unfoldable pub long_at : ℕ → List ℕ → Option (ℕ × List ℕ)
 long_at count bytes =
     if (count == 0 || nat_lt 4 count) || nat_lt (length bytes) count then None
     else (if get_or bytes 0 0 == 0 || nat_lt (value (take count bytes)) 128 then None
     else Some (value (take count bytes), drop count bytes))
 
--- a length, and the bytes after it
+-- the length at the front (X.690 8.1.3), and the bytes after it
 unfoldable pub length_at : List ℕ → Option (ℕ × List ℕ)
 length_at [] = None
 length_at (first ∷ rest) = if nat_lt first 128 then Some (first, rest) else long_at (first - 128) rest
@@ -32,7 +32,7 @@ counted_at bytes = do
   size ← length_at bytes
   if nat_lt (length size.1) size.0 then None else Some (take size.0 size.1, drop size.0 size.1)
 
--- a value, and the bytes after it
+-- the value at the front (X.690 8.1.1), and the bytes after it
 unfoldable pub value_at : List ℕ → Option (Parts × List ℕ)
 value_at [] = None
 value_at (tag ∷ rest) =
@@ -54,7 +54,7 @@ abbrev pub ReadsValues : Type 0
 ReadsValues =
     (bytes : List ℕ) (x : Parts × List ℕ) → IsBytes bytes → value_at bytes ≡ Some x → TakesValue bytes x.0 x.1
 
--- a value at the front of the bytes is what is read
+-- each value at the front of bytes is read
 abbrev pub ReadsAgain : Type 0
 ReadsAgain =
     (tag : ℕ) (contents rest : List ℕ) → tag % 32 < 31 → length contents < 2 ^ 32

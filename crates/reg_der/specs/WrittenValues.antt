@@ -4,11 +4,11 @@ use Rattle.reg_core.specs.Integer.{integer}
 use Rattle.reg_core.specs.Calendar.{civil_of, utc_text, general_text}
 use Rattle.reg_der.specs.Der.{tlv}
 
--- the INTEGER of a number that is not negative (X.690 8.3)
+-- the INTEGER of a number below 2^160 that is not negative (X.690 8.3)
 abbrev pub integer_value : ℕ → List ℕ
 integer_value number = tlv 2 (integer number)
 
--- the BIT STRING of whole bytes: an octet for no unused bits, and the bytes (X.690 8.6.2)
+-- the BIT STRING of whole bytes: an octet 0, for no unused bits, and the bytes (X.690 8.6.2)
 abbrev pub bits_value : List ℕ → List ℕ
 bits_value bytes = tlv 3 (0 ∷ bytes)
 

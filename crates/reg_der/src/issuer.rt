@@ -20,7 +20,8 @@ const LONGEST_KEY: usize = 2_048;
 /// Why there is no [`Issuer`].
 #[derive(Clone, Copy, PartialEq, Eq)]
 pub enum IssuerFault {
-    /// The name isn't one DER SEQUENCE with contents, or has more than 1,024 bytes.
+    /// The Name isn't one DER SEQUENCE with contents, or has more than 1,024 bytes; or what follows the Name in a stored name isn't key
+    /// identifiers.
     BadName,
     /// The key has no byte, or more than 2,048.
     BadKey,
@@ -73,8 +74,8 @@ impl Issuer {
         }
     }
 
-    /// The issuer with this key and what [`stored_name`](Issuer::stored_name) gave. `BadName` if `stored_name` isn't a Name as for
-    /// [`new`](Issuer::new), and then key identifiers and nothing else; `BadKey` and `Memory` as for `new`.
+    /// The issuer with this key and these bytes, as [`stored_name`](Issuer::stored_name) gives them. `BadName` if the bytes aren't a Name as
+    /// for [`new`](Issuer::new), and then key identifiers and nothing else; `BadKey` and `Memory` as for `new`.
     pub fn of_stored(alloc: Global, stored_name: &[u8], key: &[u8]) -> Result<Issuer, IssuerFault>
         ensures ok { IfOk result (λ issuer. (issuer.name ≡ stored_name.now) × (issuer.key ≡ key.now)) }
         ensures good { OnOk result (IsStoredName stored_name.now × IsKey key.now) }
@@ -94,7 +95,7 @@ impl Issuer {
     }
 
     /// This issuer with one more key identifier: CRLs from number `first` on have it, and those with lower numbers keep theirs
-    /// (`laws::identifiers_follow`). It replaces the latest one if that has the same first CRL.
+    /// (`laws::identifiers_follow`). It replaces the latest one if that has the same first CRL. `Memory` if out of memory.
     pub fn with_key_identifier(
         &self,
         alloc: Global,

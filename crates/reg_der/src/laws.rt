@@ -9,7 +9,7 @@ pub fn no_two_prefixes()
     ensures { NoTwoPrefixes }
 {}
 
-/// The length octets of a value are the fewest that encode its length, in the short form or in the long form.
+/// The length octets of a value are the fewest that encode its length, in the short form or in the long form (X.690 8.1.3, 10.1).
 pub fn length_is_fewest()
     ensures { LengthIsFewest }
 {}

@@ -5,7 +5,7 @@ ghost use Rattle.reg_core.specs.Integer.{value};
 ghost use Rattle.reg_der.specs.Der.{IsTlv};
 ghost use Rattle.reg_der.specs.ValueReading.{AgreesWith, Parts, long_at, length_at, counted_at, value_at};
 
-/// A DER value, as slices of the bytes that it was read from.
+/// A DER value, as slices of the bytes from which it was read.
 #[derive(Clone, Copy)]
 pub struct Tlv<'a> {
     pub tag: u8,
@@ -42,7 +42,7 @@ fn long_length(count: usize, bytes: &[u8]) -> Option<(usize, &[u8])>
     }
     let (digits, rest) = bytes.split_at(count);
     let length = number(digits);
-    // With a leading zero, or a length below 128, it isn't the shortest form (X.690 10.1).
+    // A leading zero, or a length below 128 in the long form, is not the fewest octets (X.690 10.1).
     if digits[0] == 0 || length < 128 {
         return None;
     }
@@ -96,7 +96,7 @@ fn first_element(bytes: &[u8]) -> Option<(u8, &[u8], &[u8])>
 }
 
 /// The value at the front, and the bytes after it. A value is a tag of one octet, the length in the fewest octets, at most five, and the
-/// contents. `None` if no prefix of the bytes is a value. At most one prefix is one (`laws::no_two_prefixes`).
+/// contents, which are not looked into. `None` if no prefix of the bytes is a value. At most one prefix is one (`laws::no_two_prefixes`).
 pub fn take(bytes: &[u8]) -> Option<(Tlv<'_>, &[u8])>
     // The result is a whole value, and the bytes after it.
     ensures found { IfSome result

@@ -1,5 +1,5 @@
-//! Appends DER values to a vector. Each `put_` call appends exactly one value ([`put_raw`]: the bytes), or leaves the vector as it was.
-//! It allocates at most once, for the whole value, and only if the vector hasn't the capacity for it.
+//! Appends DER values to a vector. [`put`] and each `put_` function append exactly one value ([`put_raw`]: the bytes), or leave the vector as
+//! it was. A call allocates at most once, for the whole value, and only if the vector hasn't the capacity for the value.
 
 ghost use Rattle.std.specs.Prelude.{◌≡◌, ℕ, List, ◌∷◌, ◌++◌, ◌+◌, ◌≤◌, ◌<◌, ◌%◌, ◌^◌, length, OnOk, OnErr, vec_capacity};
 ghost use Rattle.reg_core.specs.Integer.{IsInteger, integer, without_zeros, with_clear_bit};
@@ -13,7 +13,7 @@ use crate::times::{general_text, utc_text};
 use reg_core::{Memory, Moment, Serial};
 use std::alloc::Global;
 
-/// A length below this is one octet. A longer one is this plus the count of its octets, in one octet, and then its octets (X.690 8.1.3).
+/// A length below 128 is one octet. A greater one begins with an octet that is 128 plus the count of the octets after it (X.690 8.1.3).
 const LONG_FORM: u8 = 128;
 
 /// The last year that is written as a UTCTime (RFC 5280 4.1.2.5).
@@ -48,6 +48,7 @@ pub fn put_raw(out: &mut Vec<u8>, bytes: &[u8]) -> Result<(), Memory>
     out.extend_from_slice(bytes).map_err(|_| Memory)
 }
 
+/// A new vector with these bytes; `Memory` if out of memory.
 pub fn copy_of(alloc: Global, bytes: &[u8]) -> Result<Vec<u8>, Memory>
     ensures { ItemsOnOk result bytes.now }
 {
@@ -165,7 +166,7 @@ fn put_with_leading_zero(out: &mut Vec<u8>, tag: u8, bytes: &[u8]) -> Result<(),
     Ok(())
 }
 
-/// Appends the tag and the length octets of a value (X.690 10.1), and reserves capacity for the contents.
+/// Appends the tag and the length octets of a value with `size` octets of contents (X.690 10.1), and reserves capacity for the contents.
 #[tactic(auto, unfolding(crate::specs::Der::length_octets, crate::specs::Der::fewest))]
 fn start_value(out: &mut Vec<u8>, tag: u8, size: usize) -> Result<(), Memory>
     requires { size < 2 ^ 32 }

@@ -23,7 +23,7 @@ pub fn expect(tag: u8, bytes: &[u8]) -> Option<(Tlv<'_>, &[u8])>
     }
 }
 
-/// The contents of the value with this tag, which is all of the bytes; else `None`.
+/// The contents of a value with this tag, if the bytes are this value and nothing else; else `None`.
 #[tactic(auto, unfolding(crate::specs::TaggedValues::whole_at))]
 pub fn whole(tag: u8, bytes: &[u8]) -> Option<&[u8]>
     ensures exact { AgreesWith (λ x. x.now) result (whole_at tag bytes.now) }
@@ -36,7 +36,8 @@ pub fn whole(tag: u8, bytes: &[u8]) -> Option<&[u8]>
     }
 }
 
-/// The contents of the value at the front, and the bytes after it; `(None, bytes)` if the first byte is not this tag. `None` if it is, but no value is there.
+/// The contents of the value at the front, and the bytes after it; `(None, bytes)` if there is no first byte, or it is not this tag. `None` if
+/// the first byte is this tag, but no value is there.
 #[tactic(auto, unfolding(crate::specs::TaggedValues::optional_at))]
 pub fn optional(tag: u8, bytes: &[u8]) -> Option<(Option<&[u8]>, &[u8])>
     ensures exact { AgreesWith (λ x. (option_copied x.0, x.1.now)) result (optional_at tag bytes.now) }
@@ -50,7 +51,7 @@ pub fn optional(tag: u8, bytes: &[u8]) -> Option<(Option<&[u8]>, &[u8])>
     }
 }
 
-/// The contents of the value with this tag, which is all of the bytes; `Some(None)` if there are no bytes; else `None`.
+/// The contents of a value with this tag, if the bytes are this value and nothing else; `Some(None)` if there are no bytes; else `None`.
 #[tactic(auto, unfolding(crate::specs::TaggedValues::last_at))]
 pub fn last(tag: u8, bytes: &[u8]) -> Option<Option<&[u8]>>
     ensures exact { AgreesWith (λ x. option_copied x) result (last_at tag bytes.now) }

@@ -9,7 +9,8 @@ use std::os::fd::AsRawFd;
 use std::process::ExitCode;
 use std::{env, io};
 
-/// Does the job of the command line. Returns the exit status of [`run_desk`]; 0 for help or the version, 2 for a wrong command line, 1 without memory.
+/// Does the job of the command line, and returns the exit status of [`run_desk`]. Without a job (help, the version or a usage error), it returns that
+/// of [`print_usage`].
 fn main(rt: HostRuntime) -> ExitCode {
     let _streams = fill_closed_streams(&rt);
     let status = match words_of(&rt) {
@@ -22,8 +23,8 @@ fn main(rt: HostRuntime) -> ExitCode {
     ExitCode::from(status)
 }
 
-/// Opens `/dev/null` with the number of each standard stream that is closed. Else a socket could get that number, and its peer what is printed. A
-/// read of such a standard input still fails, and so does a write to the others.
+/// Opens `/dev/null` in place of each standard stream that is closed, and returns these files. Otherwise a socket could get the number of a closed
+/// stream, and its peer would receive what the program prints. Reads of such a standard input still fail, and so do writes to the other two streams.
 fn fill_closed_streams(rt: &HostRuntime) -> io::Result<Vec<File>> {
     let mut filled = Vec::new(rt.alloc());
     for stream in [0, 1, 2] {
@@ -37,6 +38,7 @@ fn fill_closed_streams(rt: &HostRuntime) -> io::Result<Vec<File>> {
     Ok(filled)
 }
 
+/// The words of the command line, of which the first is the program's name. Errors: `Bad` if a word is not UTF-8; else `Memory`.
 fn words_of(rt: &HostRuntime) -> Result<Vec<String>, Usage> {
     match env::args(rt) {
         Ok(args) => args.collect(rt.alloc()).map_err(|_| Usage::Memory),
@@ -45,7 +47,8 @@ fn words_of(rt: &HostRuntime) -> Result<Vec<String>, Usage> {
     }
 }
 
-/// Prints help or the version, or why the command line can't be read. Returns the exit status: 1 if the text can't be written.
+/// Prints help or the version, or why the command line can't be read. Returns the exit status of [`Usage::status`], or 1 if the text can't be
+/// written.
 fn print_usage(rt: &HostRuntime, usage: &Usage) -> u8 {
     let printed = match usage {
         Usage::Help(text) | Usage::Version(text) => print!(rt; "{text}"),

@@ -1,4 +1,4 @@
--- What clap says of the command line as a whole.
+-- What clap's contracts state about the whole command line.
 use Rattle.std.proofs.Common.{◌≡◌, ◌⊎◌, true, List, [], Option, Some, None, Bor, refl, sym, ap, ◌∙◌, subst, inl, inr}
 use Rattle.std.specs.Prelude.{option_map}
 use Rattle.clap.specs.Words.{App, HasKind, HasMatchesOf, IsAmong, Row, Text, fault_of, is_simple, is_simple_and_free, matches_of, subcommand_of, found_of, rows_of, subcommand_name_of, subcommand_rows_of}
@@ -15,7 +15,7 @@ use Rattle.reg_desk_cli.specs.declared.job.Invocation.{Invocation}
 use Rattle.reg_desk_cli.specs.declared.job.Usage.{Usage}
 use Rattle.reg_desk_cli.specs.declared.job.Usage.TheVariants.{Help, Version, Bad, Memory}
 
--- clap's clauses are exact for this command line
+-- this command line is of the simple kind for which clap's contracts are exact
 pub simple : is_simple desk_app ≡ true
 unfolding clap_on_literals
 simple = refl
@@ -24,7 +24,7 @@ pub simple_and_free : is_simple_and_free desk_app ≡ true
 unfolding clap_on_literals
 simple_and_free = refl
 
--- what is answered for an error of clap
+-- the usage that prints an error of clap is one for these words
 pub tells_usage : (words : List Text) (kind : ErrorKind) (usage : Usage) → PrintsUsage kind usage
     → (kind ≡ OutOfMemory) ⊎ IsAmong kind (fault_of desk_app words) → IsUsageOf words usage
 tells_usage words kind (Help text) help (inl none) = cc (sym help ∙ none)
@@ -35,7 +35,7 @@ tells_usage words kind (Bad text) other (inl none) = absurd (other.2 none)
 tells_usage words kind (Bad text) other (inr among) = inl (kind, other.0, other.1, among)
 tells_usage words kind Memory none how = tt
 
--- a name and rows, told apart, are those of the subcommand
+-- a name and rows that are taken apart are those of the subcommand
 both_told : {X : Type 0} (name : X → Text) (rows : X → List Row) (found : Option X) (told : Option (Text × List Row))
     → option_map name found ≡ option_map (λ p. p.0) told → option_map rows found ≡ option_map (λ p. p.1) told
     → option_map (λ x. (name x, rows x)) found ≡ told
@@ -56,7 +56,7 @@ by_name : (m : ArgMatches) → subcommand_name_of m ≡ option_map (λ p. p.0) (
 by_name m =
     fused (λ b. (out-SubCommand (box_value b)).name.now) (λ b. rows_of (found_of (out-SubCommand (box_value b)).matches)) (out-ArgMatches m).subcommand
 
--- the name and the rows of what `subcommand` answers are those behind the command
+-- `subcommand` returns the name and the rows that clap found after the command
 pub behind : (found : Option (Bor Text × Bor ArgMatches)) (m : ArgMatches) → option_map (λ (p : Bor Text × Bor ArgMatches). p.0.now) found ≡ subcommand_name_of m
     → option_map (λ (p : Bor Text × Bor ArgMatches). rows_of (found_of p.1.now)) found ≡ option_map (λ (p : Text × List Row). p.1) (subcommand_rows_of m)
     → option_map (λ (p : Bor Text × Bor ArgMatches). (p.0.now, rows_of (found_of p.1.now))) found ≡ subcommand_rows_of m
@@ -64,7 +64,7 @@ behind found m name rows =
     both_told (λ (p : Bor Text × Bor ArgMatches). p.0.now) (λ (p : Bor Text × Bor ArgMatches). rows_of (found_of p.1.now))
     found (subcommand_rows_of m) (name ∙ by_name m) rows
 
--- what clap's clauses say of a command line that is the program's
+-- clap's contracts, applied to the program's command line
 pub accepted : (app : App) (words : List Text) → app ≡ desk_app → (is_simple_and_free app ≡ true → fault_of app words ≡ []) → ClapAccepts words
 accepted app words is clean = subst (λ a. fault_of a words ≡ []) is (clean (ap is_simple_and_free is ∙ simple_and_free))
 
@@ -72,7 +72,7 @@ pub refused : (app : App) (words : List Text) (error : Error) → app ≡ desk_a
     → HasKind (fault_of desk_app words) error
 refused app words error is fails = subst (λ a. HasKind (fault_of a words) error) is (fails (ap is_simple_and_free is ∙ simple_and_free))
 
--- what it found before the command and behind it
+-- the rows that clap found before the command and after it
 rows_before : (app : App) (words : List Text) (m : ArgMatches) → app ≡ desk_app → HasMatchesOf app words m
     → rows_of (found_of m) ≡ matches_of desk_app words
 rows_before app words m is has = (has (ap is_simple is ∙ simple)).0 ∙ ap (λ a. matches_of a words) is
@@ -81,7 +81,7 @@ rows_behind : (app : App) (words : List Text) (m : ArgMatches) → app ≡ desk_
     → subcommand_rows_of m ≡ subcommand_of desk_app words
 rows_behind app words m is has = (has (ap is_simple is ∙ simple)).1 ∙ ap (λ a. subcommand_of a words) is
 
--- so what was read of it is what the words say
+-- so the invocation is that of the words
 pub invocations : (app : App) (words : List Text) (m : ArgMatches) (invocation : Invocation) → app ≡ desk_app → (is_simple_and_free app ≡ true → fault_of app words ≡ [])
     → HasMatchesOf app words m → IsInvocationIn (rows_of (found_of m)) (subcommand_rows_of m) invocation → IsInvocationOf words invocation
 invocations app words m invocation is clean has read = (

@@ -1,2 +1,2 @@
--- The lemmas for proofs of crates above: they cite these alone.
+-- The lemmas that the proofs of other crates may cite.
 pub use Rattle.reg_desk_cli.proofs.StepTexts.{shifted}

@@ -10,7 +10,7 @@ use Rattle.reg_desk_cli.specs.WordValues.{step_of, step_from, steps_of}
 abbrev pub texts_of : List (Bor (List ℕ)) → List (List ℕ)
 texts_of texts = map (λ text. text.now) texts
 
--- the texts are these steps and what the texts from a place on are
+-- the texts up to an index are these steps
 abbrev pub SoFar : List (Bor (List ℕ)) → ℕ → List (ℕ × ℕ) → Type 0
 SoFar texts at steps = steps_of (texts_of texts) ≡ option_map (λ rest. steps ++ rest) (steps_of (texts_of (drop at texts)))
 
@@ -21,7 +21,7 @@ begins texts = same (steps_of (texts_of texts))
     same None = refl
     same (Some steps) = refl
 
--- the texts from a place on
+-- the texts from an index on
 from_here : (texts : List (Bor (List ℕ))) (at : ℕ) (d : Bor (List ℕ)) (step : Option (ℕ × ℕ)) → at < length texts
     → step ≡ step_of (get_or texts at d).now
     → steps_of (texts_of (drop at texts)) ≡ option_and_then (λ s. option_map (λ rest. s ∷ rest) (steps_of (texts_of (drop (suc at) texts)))) step
@@ -43,7 +43,7 @@ goes_on texts at d steps more step within is pushed so =
     ∙ ap (λ l. option_map (λ rest. l ++ rest) (steps_of (texts_of (drop (suc at) texts)))) (sym pushed)
     ∙ ap (λ k. option_map (λ rest. more ++ rest) (steps_of (texts_of (drop k texts)))) (sym (add-one at))
 
--- a text that is none
+-- a text that is no step
 pub breaks : (texts : List (Bor (List ℕ))) (at : ℕ) (d : Bor (List ℕ)) (steps : List (ℕ × ℕ)) → at < length texts
     → None ≡ step_of (get_or texts at d).now → SoFar texts at steps → None ≡ steps_of (texts_of texts)
 breaks texts at d steps within is so =
@@ -57,7 +57,7 @@ ends texts at steps past so =
 abbrev is_equals : ℕ → Bool
 is_equals byte = byte == 61
 
--- where there is no `=`, nothing stands behind it: no number
+-- a text without `=` is no step
 no_number : number_of [] ≡ None
 unfolding number_of
 no_number = refl
@@ -73,7 +73,7 @@ none_by text false e found =
 pub no_step : (text : List ℕ) → None ≡ position is_equals text → None ≡ step_of text
 no_step text found = none_by text _ refl found
 
--- a moment stands before it, and days behind it
+-- the moment is before the `=`, and the days after it
 place_by : (text : List ℕ) (n : ℕ) (b : Bool) → nat_lt (position_or_len is_equals text) (length text) ≡ b
     → Some n ≡ cond b (Some (position_or_len is_equals text)) None → n ≡ position_or_len is_equals text
 place_by text n true e found = cc

@@ -10,7 +10,7 @@ use Rattle.reg_desk_cli.specs.Table.{AreLocal, app_of_entry, rule_of_part, with_
 use Rattle.reg_desk_cli.specs.declared.table.CommandEntry.{CommandEntry}
 use Rattle.reg_desk_cli.specs.declared.table.Part.{Part}
 
--- one more word or option
+-- one more argument or option
 pub one_part : (app more whole : App) (parts : List Part) (at : ℕ) (d : Part) → at < length parts
     → more ≡ with_rule app (rule_of_part (get_or parts at d)) → with_rules app (map rule_of_part (drop at parts)) ≡ whole
     → with_rules more (map rule_of_part (drop (at + 1) parts)) ≡ whole
@@ -36,7 +36,7 @@ one_entry app more whole entries at d within is so =
 pub all_entries : (app whole : App) (entries : List CommandEntry) (at : ℕ) → length entries ≤ at → with_commands app (map app_of_entry (drop at entries)) ≡ whole → app ≡ whole
 all_entries app whole entries at past so = sym (ap (λ l. with_commands app (map app_of_entry l)) (drop_of_length-le entries past)) ∙ so
 
--- what clap says of an argument that is added, where none is global
+-- clap's contract about an added argument, if none is global
 pub rule_added : (old new : Command) (arg : Arg) {rule : Rule} → AddsArg old arg new → arg.global ≡ false → rule_of arg ≡ rule
     → app_of new ≡ with_rule (app_of old) rule
 rule_added old new arg added local is = added.shape local ∙ ap (with_rule (app_of old)) is
@@ -45,7 +45,7 @@ pub still_local : (old new : Command) (arg : Arg) → AddsArg old arg new → (f
     → (fields_of new).has_globals ≡ false
 still_local old new arg added before local = added.globals ∙ ap (λ b. b || arg.global) before ∙ local
 
--- one more command behind those that were made
+-- one more command after those that were made
 pub one_made : (app : App) (commands : List Command) (command : Command)
     → with_made app (commands ++ command ∷ []) ≡ with_subcommand (with_made app commands) (app_of command).top
 one_made app [] command = refl
@@ -55,7 +55,7 @@ pub one_local : (commands : List Command) (command : Command) → (fields_of com
 one_local [] command is before = (is, tt)
 one_local (first ∷ rest) command is before = (before.0, one_local rest command is before.1)
 
--- what clap says of commands that are added in turn
+-- clap's contract about commands that are added in order
 pub all_added : (old new : Command) (commands : List Command) → AddsInTurn AddsSubcommand old commands new → AreLocal commands
     → app_of new ≡ with_made (app_of old) commands
 all_added old new [] added local = sym (ap app_of added)

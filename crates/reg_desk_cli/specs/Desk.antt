@@ -1,4 +1,5 @@
--- The command line of the program in the terms of the crate `clap`: its commands, with their arguments and options. `--why` may come before a command too.
+-- The command line of the program in the terms of the crate `clap`: its commands, with their arguments and options. `--why` may come before a command
+-- too.
 use Rattle.std.specs.Prelude.{ℕ, Some, true, List, [], ◌∷◌, codes}
 use Rattle.clap.specs.Lexer.{usize_max}
 use Rattle.clap.specs.Words.{App, Rule, Text, new_app, new_rule, with_rule, with_subcommand}
@@ -16,7 +17,7 @@ may id = record (new_rule id) { value_names = 1 }
 abbrev pub needs : Text → Rule
 needs id = record (new_rule id) { long = Some id; required = true; value_names = 1 }
 
--- the same, with an older name `--older VALUE`
+-- a required option with an older name, `--older VALUE`
 abbrev pub renamed : Text → Text → Rule
 renamed id older = record (needs id) { aliases = older ∷ [] }
 
@@ -156,7 +157,7 @@ abbrev pub with_commands : App → List App → App
 with_commands app [] = app
 with_commands app (command ∷ rest) = with_commands (with_subcommand app command.top) rest
 
--- the commands that make, run and serve a register; then those that send lines to an open desk, or set, list, copy and audit what a register has
+-- the commands in the order in which help lists them: the first six, and the other ones
 abbrev pub first_command_apps : List App
 first_command_apps = init_app ∷ script_app ∷ import_app ∷ crl_app ∷ serve_app ∷ open_app ∷ []
 

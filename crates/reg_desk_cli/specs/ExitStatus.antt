@@ -1,4 +1,4 @@
--- The end of a job of the program.
+-- The line on standard error and the exit status of each failure.
 use Rattle.std.specs.Prelude.{ℕ, List, codes, Result, Ok, Err}
 use Rattle.reg_core.specs.Lines.{fault_line}
 use Rattle.reg_desk_cli.specs.declared.failure.Failure.{Failure}
@@ -26,8 +26,7 @@ failure_line failure.Broken = codes "broken"
 failure_line failure.NotACrl = codes "not-a-crl"
 failure_line failure.LacksPublished = codes "behind-crl"
 
--- the exit status: 0 if the job is done; 3 if a reply at a control socket, in a strict script or import was a refusal or a fault, if a replay
--- stopped at a line of the log, or if the last line there has no line end; else 1
+-- the exit status: 0 if the job is done; 3 for `Refused`, `NoLineEnd` and `RefusedNoLineEnd`; else 1
 abbrev pub exit_status : {T : Type 0} → Result T Failure → ℕ
 exit_status (Ok done) = 0
 exit_status (Err failure.Refused) = 3
@@ -47,7 +46,7 @@ exit_status (Err failure.Broken) = 1
 exit_status (Err failure.NotACrl) = 1
 exit_status (Err failure.LacksPublished) = 1
 
--- the end of a job whose register can't be created, opened or changed
+-- the failure of a job whose register can't be created, opened or changed
 abbrev pub store_failure : StoreFault → Failure
 store_failure stored.Memory = failure.Fault fault.Memory
 store_failure stored.Store = failure.Fault fault.Store

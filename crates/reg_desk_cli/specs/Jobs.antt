@@ -55,7 +55,7 @@ signer_of_options (Some socket) None = None
 signer_of_options None (Some name) = None
 signer_of_options None None = Some None
 
--- the same for the ids of the two options
+-- the signer, by the ids of its two options
 abbrev pub signer_by_options : Text → Text → List Row → Option (Option SignerAddress)
 signer_by_options socket algorithm rows = signer_of_options (first_of socket rows) (first_of algorithm rows)
 
@@ -87,8 +87,8 @@ abbrev pub has_own_key : ResponderChoice → Bool
 has_own_key (Issuer certificate) = false
 has_own_key (Delegate certificate address) = true
 
--- the signer of CRLs for a job that must choose one: a signer, or `--unsigned`; neither and both are errors. With a responder that has a key of
--- its own, it is a signer, or neither
+-- the signer of CRLs for `open`: a signer or `--unsigned` must be given, and not both. With a responder that has a key of its own, `--unsigned` is an
+-- error, and the signer may be left out
 abbrev pub chosen : Option SignerAddress → Bool → Bool → Option (Option SignerAddress)
 chosen (Some address) false own = Some (Some address)
 chosen (Some address) true own = None
@@ -127,7 +127,7 @@ loopback_named text =
     else if bytes_eq text (codes "[::1]") then Some V6
     else None
 
--- the same, or 127.0.0.1 if it is not given
+-- the address of `--listen`, or 127.0.0.1 if it is not given
 abbrev pub loopback_in : List Row → Option Loopback
 loopback_in rows = option_map_or loopback_named (first_of (codes "listen") rows) (Some V4)
 
@@ -236,7 +236,7 @@ order_terms_given rows =
     option_map_or (λ texts. option_map (λ terms. Some terms) (order_terms_of texts))
     (all_of (codes "orders") rows) (Some None)
 
--- lines; or the rows of a file that are to be registered, or revoked, but not both; `--orders` only with rows to be registered
+-- the job of `at`: lines; or the rows of a file that are to be registered, or revoked, but not both; `--orders` only with rows to be registered
 abbrev pub at_by : Text → Option Text → Option Text → Option OrderTerms → Option Job
 at_by control_path imported None None = Some (At control_path imported)
 at_by control_path (Some rows) None (Some terms) = Some (EachRow control_path rows (Register terms))
@@ -291,7 +291,7 @@ filter_in rows = do
   to ← moment_given (codes "to") rows
   Some (record { subscriber = subscriber; serial = serial; from = from; to = to })
 
--- the same, if the rows of the list have each field by which it selects
+-- the filter, if the rows of the list have each field by which it selects
 unfoldable pub filter_for : Cursor → List Row → Option Filter
 filter_for list rows = do
   filter ← filter_in rows

@@ -1,4 +1,4 @@
-//! Checks options before a register is opened.
+//! Checks options before a register is created or opened.
 
 ghost use Rattle.std.specs.Prelude.{◌≡◌, ◌⊎◌, IfErr, IfOk, IsErr, Ok};
 ghost use Rattle.reg_core.specs.Schedule.{IsSchedule};
@@ -13,6 +13,7 @@ use reg_core::{Fault, Label, Memory, Policy, Schedule};
 use reg_der::{Issuer, IssuerFault};
 use std::alloc::Global;
 
+/// The number of the first CRL that has the key identifier.
 const FIRST_CRL: u64 = 1;
 
 /// The issuer whose Name and key the two words have in hexadecimal. `BadIssuer` if a word is not hexadecimal, or if the
@@ -31,8 +32,8 @@ pub fn issuer_of(alloc: Global, name: &Argument<'_>, key: &Argument<'_>) -> Resu
     }
 }
 
-/// The key identifier that the word has in hexadecimal. `BadIssuer` if that is not 1 to 64 bytes in hexadecimal; otherwise the only
-/// failure is out of memory.
+/// The key identifier that the word has in hexadecimal (RFC 5280 4.2.1.2). `BadIssuer` if the word is not 1 to 64 bytes in hexadecimal;
+/// otherwise the only failure is out of memory.
 pub fn key_identifier_of(alloc: Global, key_id: &Argument<'_>) -> Result<Label, Failure>
     ensures ok { IfOk result (WritesIdentifier key_id.now) }
     ensures err { IfErr result (IsNoIdentifier key_id.now) }
@@ -44,8 +45,8 @@ pub fn key_identifier_of(alloc: Global, key_id: &Argument<'_>) -> Result<Label, 
     }
 }
 
-/// The issuer with this Name and key, and, if `key_id` is given, with this key identifier in each of its CRLs. `BadIssuer` as for
-/// the Name and the key, and then as for the key identifier.
+/// The issuer with this Name and key, and, if `key_id` is given, with this key identifier in each of its CRLs. Errors: those of
+/// [`issuer_of`], then those of [`key_identifier_of`].
 pub fn identified_issuer_of(
     alloc: Global,
     name: &Argument<'_>,
@@ -80,8 +81,8 @@ fn bytes_of(alloc: Global, word: &Argument<'_>) -> Result<Vec<u8>, Failure>
     }
 }
 
-/// The policy with one longest validity in days, the lives of CRLs and of OCSP responses in seconds, and the most rows of
-/// a table; `BadPolicy` if these make no policy.
+/// The policy with one longest validity in days, the seconds from thisUpdate to nextUpdate of CRLs and of OCSP responses, and the
+/// most rows of a table; `BadPolicy` if one of these is out of its range.
 pub fn policy_of(days: u64, crl_life: u64, ocsp_life: u64, cap: u64) -> Result<Policy, Failure>
     ensures ok { IfOk result (λ policy.
         (policy ≡ terms_of_days days crl_life ocsp_life cap) × IsPolicy policy) }
@@ -93,8 +94,7 @@ pub fn policy_of(days: u64, crl_life: u64, ocsp_life: u64, cap: u64) -> Result<P
     }
 }
 
-/// The issuer and the policy of a new register. The issuer is checked first: `BadPolicy` only if the words have a valid
-/// issuer.
+/// The issuer and the policy of a new register. Errors: those of [`identified_issuer_of`], then those of [`policy_of`].
 pub fn office_of(
     alloc: Global,
     name: &Argument<'_>,
@@ -115,7 +115,8 @@ pub fn office_of(
     Ok((issuer, policy))
 }
 
-/// The schedule with these steps; `BadPolicy` if they are no schedule.
+/// The schedule with these steps; `BadPolicy` unless they are 1 to 16 steps of 1 to 398 days, the first at 1970-01-01T00:00:00Z, with moments
+/// that ascend.
 pub fn schedule_of(steps: &Steps) -> Result<Schedule, Failure>
     ensures ok { IfOk result (λ schedule. (schedule ≡ steps.now) × IsSchedule schedule) }
     ensures err { IfErr result (IsNoSchedule steps.now) }

@@ -33,7 +33,7 @@ const DEFAULT_OCSP_LIFE: u64 = 345_600;
 /// The most rows of a table in the default policy.
 const DEFAULT_CAP: u64 = 1_000_000;
 
-/// The job of a command; `None` if a value is wrong, or if options exclude or lack each other.
+/// The job of a command; `None` if a value is malformed or out of range, or if options exclude or lack each other.
 #[tactic(auto, unfolding(crate::specs::Jobs::job_in))]
 pub(crate) fn read_command<'a>(
     alloc: Global,
@@ -55,7 +55,7 @@ pub(crate) fn read_command<'a>(
     }
 }
 
-/// As `read_command`, for `serve` and the commands after it.
+/// As `read_command`, for `serve`, `open`, `at`, `replay` and the commands of [`read_other_job`].
 #[tactic(auto, unfolding(crate::specs::Jobs::serving_job_in))]
 fn read_serving<'a>(
     alloc: Global,
@@ -77,7 +77,7 @@ fn read_serving<'a>(
     }
 }
 
-/// As `read_command`, for the commands that set, list, copy and audit what a register has.
+/// As `read_command`, for `schedule`, `key-id`, `list`, `copy` and `audit`.
 #[tactic(auto, unfolding(crate::specs::Jobs::other_job_in))]
 fn read_other_job<'a>(
     alloc: Global,
@@ -165,6 +165,7 @@ fn import_moment(given: &ArgMatches<'_>) -> Option<Option<Moment>>
     one_moment(moment_option(given, "now")?, is_set(given, "clock"))
 }
 
+/// `Some(now)` if exactly one of a moment and the clock is given.
 fn one_moment(now: Option<Moment>, is_clocked: bool) -> Option<Option<Moment>>
     ensures { result ≡ one_moment now is_clocked }
 {

@@ -65,6 +65,7 @@ fn add_command<'a>(
     Ok(())
 }
 
+/// The command line without its commands.
 fn begun<'a>(alloc: Global) -> Result<Command<'a>, AllocError>
     ensures app { IfOk result (λ made. app_of made ≡ begun_app) }
     ensures local { IfOk result (λ made. (fields_of made).has_globals ≡ false) }
@@ -72,6 +73,7 @@ fn begun<'a>(alloc: Global) -> Result<Command<'a>, AllocError>
     with_parts(alloc, bare(alloc), GLOBAL_OPTIONS)
 }
 
+/// The command line without its commands and without `--why`.
 fn bare<'a>(alloc: Global) -> Command<'a>
     ensures app { app_of result ≡ bare_app }
     ensures local { (fields_of result).has_globals ≡ false }

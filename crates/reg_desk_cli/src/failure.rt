@@ -6,13 +6,14 @@ ghost use Rattle.reg_desk_cli.specs.ExitStatus.{failure_line, exit_status};
 use reg_core::{Fault, Label};
 use reg_store_tables::{DatabaseFault, StoreFault};
 
-/// Why a job is not done.
+/// Why a job failed.
 #[derive(Clone, Copy, PartialEq, Eq)]
 pub enum Failure {
     /// A refusal of the register, or a fault of memory, store, signer, input or output.
     Fault(Fault),
-    /// The file of a new register has tables already.
+    /// The file of a new register has a table, an index or a view already.
     NotEmpty,
+    /// The file has no database yet, or its tables are not those of a register.
     NotARegister,
     /// A newer version of the program wrote the register.
     NewVersion,
@@ -20,25 +21,26 @@ pub enum Failure {
     OldVersion,
     /// The Name, the key or the key identifier is invalid.
     BadIssuer,
-    /// Days, a life, the cap or the steps of a schedule are out of range.
+    /// An option is out of its range (`--days`, `--crl-life`, `--ocsp-life` or `--cap`), or the steps are no schedule.
     BadPolicy,
     /// The clock is more than 30 days past the last accepted moment.
     BadClock,
-    /// No CRL with the algorithm may follow the latest one, the issuer's key does not fit the algorithm, or a signer is given for a register in memory.
+    /// No CRL with the signer's algorithm may follow the latest one, the issuer's key does not fit that algorithm, or a signer is given for a
+    /// register in memory.
     BadSigner,
     /// A certificate for OCSP responses can't be read, or its key is not the issuer's (`--embed`) or not of the given algorithm (`--responder`).
     BadResponder,
-    /// A reply at a control socket, in a strict script or import was a refusal or a fault, or a replay stopped at a line of the log.
+    /// A reply at a control socket, or in a strict script or import, was a refusal or a fault; or a replay stopped at a line of the log.
     Refused,
     /// The last line of the input has no line end, and did not run.
     NoLineEnd,
     /// Both: a reply was a refusal or a fault, and the last line has no line end.
     RefusedNoLineEnd,
-    /// An audit found a broken row.
+    /// An audit found a broken row, or tables that are not those of a register.
     Broken,
-    /// The file of a published CRL has no CRL with a number.
+    /// The file of a published CRL has no CRL with a number (RFC 5280 5.2.3), or the CRL has an invalid entry.
     NotACrl,
-    /// The register lacks an item of a published CRL.
+    /// The register's latest CRL has a lower number than a published one, or a serial number that the published one lists is not revoked.
     LacksPublished,
 }
 
@@ -108,8 +110,7 @@ impl From<DatabaseFault> for Failure {
     }
 }
 
-/// The exit status of a job: 0 if it is done; 3 if a reply at a control socket, in a strict script or import was a refusal or a fault, if a
-/// replay stopped at a line of the log, or if the last line there has no line end; else 1.
+/// The exit status of a job: 0 if it is done; 3 for `Refused`, `NoLineEnd` and `RefusedNoLineEnd`; else 1.
 pub fn status_of(ending: &Result<(), Failure>) -> u8
     ensures { result ≡ exit_status ending.now }
 {

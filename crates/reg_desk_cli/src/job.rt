@@ -18,11 +18,11 @@ pub struct SignerAddress<'a> {
 /// The responder to OCSP requests for a register that is served (RFC 6960 2.2).
 #[derive(Drop)]
 pub enum ResponderChoice<'a> {
-    /// The signer of its CRLs. Each response embeds the certificate, if its path is given.
+    /// The issuer: the signer of CRLs signs the responses too. Each signed response embeds the issuer's certificate, if its path is given.
     Issuer {
         certificate: Option<Argument<'a>>,
     },
-    /// A responder with its own key and signer, and the path of its certificate, which is embedded in each response (RFC 6960 4.2.2.2).
+    /// A responder with its own key and signer, and the path of its certificate, which each signed response embeds (RFC 6960 4.2.2.2).
     Delegate {
         certificate: Argument<'a>,
         address: SignerAddress<'a>,
@@ -64,12 +64,12 @@ pub struct NewRegister<'a> {
 #[derive(Drop)]
 pub struct LineScript<'a> {
     pub file: Argument<'a>,
-    /// The signer, if there is one.
+    /// Without a signer, a placeholder digest replaces each signature.
     pub signer: Option<SignerAddress<'a>>,
     pub options: ScriptOptions,
 }
 
-/// Rows to be registered.
+/// An import: certificates to be registered, one from each row of standard input.
 #[derive(Drop)]
 pub struct ImportJob<'a> {
     pub file: Argument<'a>,
@@ -105,9 +105,11 @@ pub struct ServeJob<'a> {
     pub endpoint: Endpoint,
     /// How many HTTP connections are answered, 1 to 1,000,000.
     pub requests: u32,
+    /// The signer of CRLs, which also signs responses if the responder is the issuer.
     pub signer: Option<SignerAddress<'a>>,
     pub responder: ResponderChoice<'a>,
-    /// The path of a published CRL: the register must have its number and all its entries.
+    /// The path of a published CRL. Its number must not be above that of the register's latest CRL, and each serial number that it lists must be
+    /// revoked; otherwise nothing is served.
     pub published: Option<Argument<'a>>,
 }
 
@@ -118,17 +120,18 @@ pub struct OpenJob<'a> {
     pub endpoint: Endpoint,
     /// The path of the control socket.
     pub control: Argument<'a>,
+    /// As in [`ServeJob`].
     pub signer: Option<SignerAddress<'a>>,
     pub responder: ResponderChoice<'a>,
     /// As in [`ServeJob`].
     pub published: Option<Argument<'a>>,
 }
 
-/// A list to write, from a register.
+/// A list of a register's rows, to be written to standard output.
 #[derive(Drop)]
 pub struct ListJob<'a> {
     pub file: Argument<'a>,
-    /// The list, as the cursor before its first row.
+    /// The list, named by the cursor before its first row.
     pub from: Cursor,
     /// The moment for which the list is written; `None` for that of the machine's clock.
     pub moment: Option<Moment>,
@@ -136,7 +139,7 @@ pub struct ListJob<'a> {
     pub form: Format,
 }
 
-/// The order that is entered for each certificate: the number of its subscriber, and its days.
+/// The order that is entered for each certificate: the id of its subscriber, and the longest validity in days.
 #[derive(Clone, Copy, PartialEq, Eq)]
 pub struct OrderTerms {
     pub subscriber: u64,
@@ -170,10 +173,10 @@ pub enum Job<'a> {
         file: Argument<'a>,
         number: Option<u64>,
     },
-    /// Answers a number of HTTP connections at a port. Without a signer and a responder, a placeholder digest replaces each signature.
+    /// Answers a number of HTTP connections at a port. With neither a signer nor a delegate, a placeholder digest replaces each signature.
     Serve(ServeJob<'a>),
     /// Keeps a register open until the program ends: answers requests over HTTP at a port, and lines at a control socket. The signer signs; only
-    /// with `--unsigned` a placeholder digest replaces each signature. With a responder and no signer, no CRL is signed.
+    /// with `--unsigned` a placeholder digest replaces each signature. With a delegate and no signer, no CRL is signed.
     Open(OpenJob<'a>),
     /// Sends the lines of standard input to the control socket at a path; or the rows of a CSV file, as `register` lines.
     At {
@@ -208,6 +211,7 @@ pub enum Job<'a> {
         file: Argument<'a>,
         path: Argument<'a>,
     },
+    /// Checks all rows of the register, and prints whether they are sound. No file changes.
     Audit {
         file: Argument<'a>,
     },
@@ -217,7 +221,7 @@ pub enum Job<'a> {
 #[derive(Drop)]
 pub struct Invocation<'a> {
     pub job: Job<'a>,
-    /// Whether the cause of a failure is reported, if it is known.
+    /// Whether the cause of a failure, or why a strict script's or import's registration was refused, is reported if it is known (`--why`).
     pub is_explained: bool,
     /// Whether `serve` or `open` logs each exchange on standard error.
     pub has_log: bool,

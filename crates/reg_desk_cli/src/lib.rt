@@ -1,4 +1,4 @@
-//! Parses the command line of the program `desk`.
+//! Parses the command line of the program `desk`, checks its options, and gives the line and the exit status of each failure.
 #![tactic(auto)]
 
 mod argument;

@@ -20,6 +20,7 @@ pub(crate) fn word_of<'a>(matches: &ArgMatches<'a>, id: &str) -> Option<Argument
     Some(Argument::of(text_of(matches, id)?))
 }
 
+/// The value of an argument or option, the first if it has several; `None` if it is not given.
 pub(crate) fn text_of<'a>(matches: &ArgMatches<'a>, id: &str) -> Option<&'a str>
     ensures { option_map (λ text. text.now) result ≡ first_of id.now (rows_of (found_of matches.now)) }
 {
@@ -43,7 +44,7 @@ pub(crate) fn number_or(matches: &ArgMatches<'_>, id: &str, otherwise: u64) -> O
     }
 }
 
-/// The number of an option, if it is given; `None` if its value is no number.
+/// The number of an option; `Some(None)` if the option is not given, `None` if its value is no number.
 pub(crate) fn number_option(matches: &ArgMatches<'_>, id: &str) -> Option<Option<u64>>
     ensures { result ≡ given id.now (rows_of (found_of matches.now)) }
 {
@@ -77,13 +78,14 @@ fn bounded(number: u64, least: u64, most: u64) -> Option<u64>
     }
 }
 
+/// The moment of an option; `None` if it is not given, or if its value is no moment.
 pub(crate) fn moment(matches: &ArgMatches<'_>, id: &str) -> Option<Moment>
     ensures { result ≡ option_and_then moment_of (first_of id.now (rows_of (found_of matches.now))) }
 {
     Moment::read(text_of(matches, id)?.as_bytes())
 }
 
-/// The moment of an option, if it is given; `None` if its value is no moment.
+/// The moment of an option; `Some(None)` if the option is not given, `None` if its value is no moment.
 pub(crate) fn moment_option(matches: &ArgMatches<'_>, id: &str) -> Option<Option<Moment>>
     ensures { result ≡ moment_given id.now (rows_of (found_of matches.now)) }
 {
@@ -128,7 +130,7 @@ pub(crate) fn filter_option(matches: &ArgMatches<'_>) -> Option<Filter>
     })
 }
 
-/// The text of an option, if it is given; `None` if it does not have 1 to 64 bytes.
+/// The text of an option; `Some(None)` if the option is not given, `None` if the text does not have 1 to 64 bytes.
 pub(crate) fn label_option(matches: &ArgMatches<'_>, id: &str) -> Option<Option<Label>>
     ensures { result ≡ label_given id.now (rows_of (found_of matches.now)) }
 {
@@ -138,7 +140,7 @@ pub(crate) fn label_option(matches: &ArgMatches<'_>, id: &str) -> Option<Option<
     }
 }
 
-/// The hexadecimal digits of an option, if it is given; `None` if its value is not 1 to 40 such digits.
+/// The hexadecimal digits of an option; `Some(None)` if the option is not given, `None` if its value is not 1 to 40 such digits.
 pub(crate) fn prefix_option(matches: &ArgMatches<'_>, id: &str) -> Option<Option<Label>>
     ensures { result ≡ prefix_given id.now (rows_of (found_of matches.now)) }
 {
@@ -148,7 +150,7 @@ pub(crate) fn prefix_option(matches: &ArgMatches<'_>, id: &str) -> Option<Option
     }
 }
 
-/// The signer, if one is given; `None` if only one of its two options is given, or if no algorithm has the name.
+/// The signer; `Some(None)` if neither of its two options is given, `None` if only one is, or if no algorithm has the name.
 pub(crate) fn signer_option<'a>(matches: &ArgMatches<'a>) -> Option<Option<SignerAddress<'a>>>
     ensures { result ≡ signer_in (rows_of (found_of matches.now)) }
 {
@@ -208,7 +210,8 @@ fn signer_by<'a>(
     }
 }
 
-/// The signer of CRLs for `open`, if one is given. `None` as for [`signer_option`], if `--unsigned` is given with a signer or a delegate, or if none of the three is.
+/// The signer of CRLs for `open`; `Some(None)` with `--unsigned`, or with a delegate and no signer. `None` as for [`signer_option`], if `--unsigned`
+/// is given with a signer or a delegate, or if none of the three is given.
 pub(crate) fn signer_or_unsigned<'a>(
     matches: &ArgMatches<'a>,
     responder: &ResponderChoice<'_>,
@@ -264,7 +267,7 @@ pub(crate) fn is_set(matches: &ArgMatches<'_>, id: &str) -> bool
     }
 }
 
-/// The subscriber and the days of `--orders`, if it is given; `None` if these are not two numbers.
+/// The subscriber and the days of `--orders`; `Some(None)` if it is not given, `None` if its values are not two numbers.
 pub(crate) fn order_terms_option(matches: &ArgMatches<'_>) -> Option<Option<OrderTerms>>
     ensures { result ≡ order_terms_given (rows_of (found_of matches.now)) }
 {

@@ -18,9 +18,9 @@ use std::convert::AsStr;
 
 const TEXT_WANTED: &str = "an argument is not UTF-8 text: each path and name must be UTF-8";
 
-/// Reads the words of a command line, of which the first is the program's name. Options of `init` that are not given have the values of
-/// the default policy. `Help` and `Version` if clap answers with them; `Bad` if clap finds an error, a value is malformed or
-/// out of range, or an option excludes or lacks another one, such as `open` with `--unsigned` and a signer.
+/// Reads the words of a command line, of which the first is the program's name. Options of `init` that are not given have the values of the default
+/// policy. Errors: `Help` and `Version` if clap answers with them. `Bad` if clap finds an error, if a value is malformed or out of range, or if an
+/// option excludes or lacks another one: `open` takes no `--unsigned` with a signer, for example. `Memory` if out of memory.
 pub fn read_words<'a, S: AsStr>(alloc: Global, words: &'a [S]) -> Result<Invocation<'a>, Usage>
     ensures invocation { IfOk result (IsInvocationOf (map S.text words.entry.now)) }
     ensures usage { IfErr result (IsUsageOf (map S.text words.entry.now)) }
@@ -122,7 +122,7 @@ fn bad_value(alloc: Global, desk: &mut Command<'_>, matches: &ArgMatches<'_>) ->
     }
 }
 
-/// A usage error of the desk, in the form of clap's.
+/// A usage error with this text, in the form in which clap prints its own.
 fn clap_error(alloc: Global, desk: &mut Command<'_>, kind: ErrorKind, text: &str) -> Usage
     ensures { PrintsUsage kind result }
 {

@@ -1,7 +1,7 @@
 //! The command line as a table: its commands, their arguments and options, and the help for each.
 
-/// A positional argument or an option of a command: its id (for an option also its long name), the
-/// name of its value, and its help.
+/// A positional argument or an option of a command. The texts of a variant are its id (for an option also
+/// its long name), the name of its value in `--help`, and its help.
 #[derive(Clone, Copy)]
 pub(crate) enum Part {
     RequiredArgument(&'static str, &'static str, &'static str),
@@ -9,7 +9,7 @@ pub(crate) enum Part {
     /// One or more arguments: all that are left.
     Rest(&'static str, &'static str, &'static str),
     RequiredOption(&'static str, &'static str, &'static str),
-    /// As `RequiredOption`, with an older name, which help leaves out, as its second part.
+    /// As `RequiredOption`, but the second text is an older name, which help leaves out.
     Renamed(&'static str, &'static str, &'static str, &'static str),
     OptionalOption(&'static str, &'static str, &'static str),
     /// An option that may be left out and takes several values: its id, the name of each value, and its help.
@@ -168,8 +168,8 @@ const CAUSE_ANYWHERE: &str =
 /// The options before a command.
 pub(crate) const GLOBAL_OPTIONS: &[Part] = &[Part::Flag("why", CAUSE_ANYWHERE)];
 
-/// The commands that make, run and serve a register, in the order in which help lists them. Only one small function uses this constant, because a
-/// long constant costs the prover seconds in each step. For the same reason the other commands are in `OTHER_COMMANDS`.
+/// `init`, `script`, `import`, `crl`, `serve` and `open`, in the order in which help lists them. Only one small function uses this constant, because
+/// a long constant costs the prover seconds in each step. For the same reason the other commands are in `OTHER_COMMANDS`.
 pub(crate) const FIRST_COMMANDS: &[CommandEntry] = &[
     CommandEntry {
         name: "init",
@@ -269,7 +269,7 @@ pub(crate) const FIRST_COMMANDS: &[CommandEntry] = &[
     },
 ];
 
-/// The commands that send lines to an open desk, and those that set, list, copy and audit what a register has; help lists them after `FIRST_COMMANDS`.
+/// The other commands, in the order in which help lists them, after those of `FIRST_COMMANDS`.
 pub(crate) const OTHER_COMMANDS: &[CommandEntry] = &[
     CommandEntry {
         name: "at",

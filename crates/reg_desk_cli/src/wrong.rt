@@ -15,7 +15,7 @@ pub(crate) const MOST_REQUESTS: u64 = 1_000_000;
 /// The greatest number of 18 digits.
 const MOST: u64 = 999_999_999_999_999_999;
 
-/// The options whose value is a number: its id, its name, the least and the greatest.
+/// The options whose value is a number: the id and the name of each, and its least and its greatest number.
 const NUMBERS: [(&str, &str, u64, u64); 7] = [
     ("days", "--days", 0, MOST),
     ("crl-life", "--crl-life", 0, MOST),
@@ -99,6 +99,7 @@ pub(crate) fn wrong_text(alloc: Global, matches: &ArgMatches<'_>) -> Option<Stri
     format!(in alloc; "invalid value '{value}' for '{option}': {wanted}").ok()
 }
 
+/// The rule about the options of the given command that exclude or lack each other.
 fn combination_wanted(matches: &ArgMatches<'_>) -> &'static str {
     match matches.subcommand() {
         Some((name, _)) if name == "open" => OPEN_WANTED,
@@ -109,7 +110,7 @@ fn combination_wanted(matches: &ArgMatches<'_>) -> &'static str {
     }
 }
 
-/// A wrong value of the given command: a number before a moment, and so on, in the order of these checks.
+/// The first wrong value of the given command, in the order of these checks; `None` if they find none.
 fn first_wrong<'a>(matches: &ArgMatches<'a>) -> Option<Wrong<'a>> {
     let (_, given) = matches.subcommand()?;
     if let Some(wrong) = wrong_number(given) {

@@ -7,7 +7,7 @@ abbrev pub page_bytes : Option (List ℕ) → List ℕ
 page_bytes (Some bytes) = bytes
 page_bytes None = []
 
--- the first pages of a database, in order
+-- the bytes of the first n pages of a database, in order
 abbrev pub pages_in_order : Pages → ℕ → List ℕ
 pages_in_order pages zero = []
 pages_in_order pages (suc n) = pages_in_order pages n ++ page_bytes (pages (suc n))

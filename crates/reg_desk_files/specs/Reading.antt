@@ -1,4 +1,4 @@
--- Why files can't be opened for reading.
+-- Why files can't be opened, read or created.
 use Rattle.std.specs.Prelude.{◌≡◌, ◌⊎◌, IfOk, Result}
 use Rattle.sqlite.specs.Files.{image_of}
 use Rattle.sqlite_disk.specs.declared.Disk.{Ghosts as Disk}
@@ -14,7 +14,7 @@ use Rattle.reg_desk_files.specs.declared.read_only.UnreadFile.TheVariants as unr
 abbrev pub IsFileFault : FileFault → Type 0
 IsFileFault why = (why.fault ≡ Memory) ⊎ (why.fault ≡ Store)
 
--- there is no database yet in them, or a fault
+-- there is no database in the files yet; or the fault is out of memory or of the store
 abbrev pub IsUnread : UnreadFile → Type 0
 IsUnread unread.Nothing = Unit {0}
 IsUnread (unread.Fault why) = IsFileFault why

@@ -21,17 +21,18 @@ use std::os::unix::fs::OpenOptionsExt;
 
 const PAGE: u64 = 4096;
 
-/// The fewest pages of the page cache: 8 MB.
+/// The fewest pages of the page cache, for 8 MB.
 const FEWEST_PAGES: usize = 2_000;
 
-/// The most pages of the page cache: 512 MiB.
+/// The most pages of the page cache, for 512 MiB.
 const MOST_PAGES: usize = 131_072;
 
 const OWNER_ONLY: u32 = 0o600;
 
-/// Opens the database at a path, or creates it. The crate `sqlite` checks each page and row. `start` is what contracts suppose of the file and its log.
-/// The page cache has room for twice the pages of the file (2,000 to 131,072), so a look-up in a large register seldom waits for the system, and a
-/// transaction writes each page to the log once. Errors: `Memory`; `Store`, with its cause, if the file can't be opened or is no database.
+/// Opens the database at a path for writing, or creates it. The crate `sqlite` checks each page and row. `start` is what contracts suppose of the
+/// file and its log (`-wal`). The page cache has room for twice the pages of the file, at least 2,000 and at most 131,072. So a look-up seldom reads
+/// the file, and a transaction writes each page to the log once. Errors: `Memory`; `Store`, with its cause if that is known, if the file can't be
+/// opened or is no database. `Store` too if the path is `:memory:` or begins with `file:`.
 pub fn open_file<S: Start>(
     rt: &HostRuntime,
     path: &str,
@@ -44,7 +45,7 @@ pub fn open_file<S: Start>(
     ensures idle { IfOk result (λ connection. connection.in_transaction ≡ false) }
     ensures faults { IfErr result IsFileFault }
 {
-    // A path that SQLite does not read as the name of a file is refused.
+    // SQLite does not read these paths as the names of files.
     if path == ":memory:" || path.starts_with("file:") {
         return Err(fault_with_cause(Fault::Store, None));
     }
@@ -88,12 +89,12 @@ fn pages_for(rt: &HostRuntime, path: &str) -> usize
 pub enum ClaimFault {
     /// Out of memory.
     Memory,
-    /// A file is there, or may be, or the system refused it; with the cause if it is known.
+    /// Something is at the path or at that of its log, or the system refused to look there or to create the file; with the cause if it is known.
     Taken(Option<Cause>),
 }
 
-/// Creates an empty file at a path with mode 0600. It fails if there is a file, so that of two programs at once only one succeeds. A dangling symbolic
-/// link counts as a file, at the log's path too. A log without a register counts as one: it may be all that is left of a register.
+/// Creates an empty file at a path with mode 0600. Fails if a file is at the path or at that of its log (`-wal`), which may be all that is left of a
+/// register. A dangling symbolic link counts as a file. If two programs call this at once for one path, only one of them succeeds.
 pub fn claim_file(rt: &HostRuntime, path: &str) -> Result<(), ClaimFault> {
     let Ok(log) = log_path(rt, path) else {
         return Err(ClaimFault::Memory);
@@ -124,8 +125,8 @@ fn claim_fault_of(kind: ErrorKind) -> ClaimFault
     }
 }
 
-/// Removes a database's file and its log, unless another program holds one of SQLite's locks on the file: it locks the file meanwhile. It writes
-/// nothing to the file first, so that a failing disk does not prevent the removal.
+/// Removes a database's file and its log, and holds SQLite's locks on the file meanwhile. Removes nothing if another program holds one of these
+/// locks, or if the file can't be opened for writing. Writes nothing to the file first, so that a failing disk does not prevent the removal.
 pub fn remove_file(rt: &HostRuntime, path: &str) {
     let Some(held) = lock_exclusively(rt, path) else {
         return;

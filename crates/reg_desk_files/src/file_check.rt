@@ -1,4 +1,4 @@
-//! Finds out whether files hold a database before it is opened.
+//! Finds out whether a file and its log hold a database, before it is opened.
 
 ghost use Rattle.std.specs.Prelude.{◌≡◌, ◌≢◌, ◌↔◌, false, IfErr, IsTrue};
 ghost use Rattle.sqlite.specs.Files.{HoldsDatabase, IsBlankAs, IsNothing};
@@ -17,18 +17,20 @@ use std::alloc::Global;
 
 const NEW_PAGE: usize = 4096;
 
-/// The content of files.
+/// The content of a file and its log, as far as reading their beginnings shows.
 #[derive(Clone, Copy, PartialEq, Eq)]
 pub enum FileContent {
-    /// No database yet: the file is empty, or has a part of a first page from an interrupted creation. Opening creates a database.
+    /// No database yet: the files are empty, or have a part of a first page from an interrupted creation. Opening for writing would create a
+    /// database.
     Nothing,
     /// No database, but something else.
     Other,
-    /// The beginning of a database. Opening finds out whether it is one.
+    /// The beginning of a database. Only opening finds out whether the rest is one too.
     PossibleDatabase,
 }
 
-/// Finds out, by reads only, what opening would find in files. Errors: `Memory`; `Store` if a call failed, or the log is not that of a database.
+/// Finds out, by reads alone, what opening would find in a file and its log. Errors: `Memory`; `Store` if a read failed, or if the log is not that of
+/// a database.
 pub fn probe_content<D: Disk>(alloc: Global, files: &mut Files<D>) -> Result<FileContent, FileFault>
     requires log { IsTrue (D.Disk.is_usable files.old.log) }
     requires db { IsTrue (D.Disk.is_usable files.old.db) }

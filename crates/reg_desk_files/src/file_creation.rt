@@ -19,8 +19,9 @@ const OWNER_ONLY: u32 = 0o600;
 /// The suffix of a copy's name while it is written.
 const PARTIAL_SUFFIX: &str = ".part";
 
-/// Writes all pages to a new file, and returns how many bytes it has. Fails if there is a file at its path, or at the path of its log or journal. The file
-/// is written under another name and synced; then it gets its name, in one step that replaces nothing. If writing or naming fails, the new file is removed.
+/// Writes all pages to a new file, and returns how many bytes it has. The file is written under the name with `.part` and synced. Then it gets its
+/// own name, in one step that replaces no file. If this fails, the new file is removed. Errors: `Memory`; `Store` if a page can't be read, or if the
+/// file can't be written or named. `Store` too if there is a file at its path, or at that path with `-wal`, `-journal` or `.part`.
 pub(crate) fn write_copy<D: Disk>(
     rt: &HostRuntime,
     pager: &mut Pager<D>,
@@ -51,7 +52,7 @@ fn check_all_free(rt: &HostRuntime, to: &str) -> Result<(), FileFault>
     check_free(rt, to, "-journal")
 }
 
-/// Checks that a path with this suffix has no file and no symbolic link, not even a dangling one.
+/// Checks that at the path with this suffix there is no file, and no symbolic link, not even a dangling one.
 fn check_free(rt: &HostRuntime, to: &str, suffix: &str) -> Result<(), FileFault>
     ensures { IfErr result IsFileFault }
 {
@@ -89,7 +90,8 @@ fn fill_and_name<D: Disk>(
     Ok(bytes)
 }
 
-/// Gives a complete file its name, if that is free; then removes its former name and syncs the folder. If the latter fails, removes the new name too.
+/// Gives a complete file its name, if that is free; then removes its former name and syncs the folder. If the removal or the sync fails, removes the
+/// new name too.
 fn name(rt: &HostRuntime, part_path: &str, to: &str) -> Result<(), FileFault>
     ensures { IfErr result IsFileFault }
 {

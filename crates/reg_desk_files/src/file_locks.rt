@@ -17,7 +17,8 @@ const LOCKS: u64 = 1_073_741_824;
 
 const LOCKS_LENGTH: u64 = 512;
 
-/// Locks the bytes that SQLite locks, without waiting: the fault's cause is `InUse` if another lock prevents it. The lock ends when the file is closed.
+/// Locks the bytes that SQLite locks, without waiting. The lock ends when the file is closed. Errors: `Store`, with the cause `InUse` if another lock
+/// prevents this one; `Memory`.
 pub(crate) fn lock(file: &fs::File, kind: RangeLock) -> Result<(), FileFault>
     ensures { IfErr result IsFileFault }
 {
@@ -31,8 +32,8 @@ pub(crate) fn lock(file: &fs::File, kind: RangeLock) -> Result<(), FileFault>
     }
 }
 
-/// Checks that a lock for writing is held on `file`, which the caller found at the path of a database that this program has open. If none is,
-/// another file has that path now.
+/// Checks that a lock for writing is held on `file`, which the caller found at the path of a database that this program has open. Errors: `Store`
+/// with the cause `NoFile` if none is held, because another file has that path now; else those of [`lock`].
 pub(crate) fn check_locked(file: &fs::File) -> Result<(), FileFault>
     ensures { IfErr result IsFileFault }
 {
@@ -43,6 +44,7 @@ pub(crate) fn check_locked(file: &fs::File) -> Result<(), FileFault>
     }
 }
 
+/// Opens a file for writing and locks it exclusively; `None` if either fails.
 pub(crate) fn lock_exclusively(rt: &HostRuntime, path: &str) -> Option<fs::File> {
     let mut options = OpenOptions::new();
     options.read(true).write(true);

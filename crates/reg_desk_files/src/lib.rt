@@ -1,4 +1,4 @@
-//! A register's file: opened as a database with a page cache, opened read-only, or copied.
+//! A register's file: opened as a database for writing, opened read-only, checked, created, removed or copied.
 #![tactic(auto)]
 
 mod file;

@@ -1,4 +1,4 @@
-//! Copies a register's files to one new file, which has each page as opening finds it, even if the page is only in the log.
+//! Copies a database's file and its log to one new file. It has each page as opening finds the page, even if only the log has it.
 
 ghost use Rattle.std.specs.Prelude.{◌≡◌, ◌*◌, min, IfErr, IfOk, IsTrue, OnOk};
 ghost use Rattle.std.specs.Io.KnownBytes.{Appends};
@@ -23,16 +23,18 @@ use sqlite_wal::{PageSize, probe_page_size};
 use std::alloc::Global;
 use std::io::Write;
 
-/// Copies a database that no program has open for writing, to a path without a file, and returns how many bytes the copy has. The copy, with mode 0600, gets
-/// that name once it is complete and synced. Errors: `Nothing` if there is no database yet; `Memory`; `Store` if the files can't be read, if there
-/// is a file at the other path or beside it, or if the copy can't be written. Then no copy is left.
+/// Copies a database that no program has open for writing, to a path without a file, and returns how many bytes the copy has. The copy has mode 0600,
+/// and gets that path once it is complete and synced. After an error no copy is left. Errors: `Nothing` if there is no database yet; `Memory`;
+/// `Store` if the files can't be read, or if the copy can't be written. `Store` too if there is a file at the second path, or at that path with
+/// `-wal`, `-journal` or `.part`.
 pub fn copy_closed(rt: &HostRuntime, path: &str, to: &str) -> Result<u64, UnreadFile>
     ensures { IfErr result IsUnread }
 {
     copy_locked(rt, path, OpenedBy::NoWriter, to)
 }
 
-/// As [`copy_closed`], for a database that this program has open, between two transactions; `Store` if it does not have it open.
+/// As [`copy_closed`], for a database that this program has open, between two transactions; `Store` also if no lock for writing is held on the file
+/// at the path, because it is another one now.
 pub fn copy_open(rt: &HostRuntime, path: &str, to: &str) -> Result<u64, UnreadFile>
     ensures { IfErr result IsUnread }
 {
@@ -76,8 +78,8 @@ fn copy_files<D: Disk + Drop>(
     Ok(write_copy(rt, &mut pager, to)?)
 }
 
-/// The pages that opening finds in files. Errors: `Nothing` if there is no database yet; `Memory`; `Store` if they hold something else or a call
-/// failed.
+/// A pager with the pages that opening finds in a file and its log. Errors: `Nothing` if there is no database yet; `Memory`; `Store` if the files
+/// hold something else, or if a call failed.
 pub fn recovered<D: Disk + Drop>(
     alloc: Global,
     mut files: Files<D>,
@@ -131,7 +133,7 @@ fn recovered_by<D: Disk + Drop>(
     }
 }
 
-/// Writes all pages in order, and returns how many bytes those are. Errors: `Memory`; `Store` if a page can't be read or written.
+/// Writes all pages of a database in order, and returns how many bytes those are. Errors: `Memory`; `Store` if a page can't be read or written.
 pub fn put_pages<D: Disk, W: Write>(pager: &mut Pager<D>, writer: &mut W) -> Result<u64, FileFault>
     ensures whole { IfOk result (λ bytes. IsTrue (state pager.new).is_clean
         → Appends (W.contents writer.old) (W.contents writer.new)

@@ -37,7 +37,8 @@ impl Source for ReadFile {
 /// Which program has the database open while its files are read.
 #[derive(Clone, Copy)]
 pub(crate) enum OpenedBy {
-    /// None, by its locks: a shared lock keeps `desk` and SQLite's rollback mode from writing, but not SQLite's WAL mode, which takes that lock too.
+    /// No program has it open for writing. A shared lock keeps out `desk`, and SQLite in rollback mode; but not SQLite in WAL mode, which takes only
+    /// a shared lock itself.
     NoWriter,
     /// This program, which does not write meanwhile.
     ThisProgram,
@@ -50,8 +51,9 @@ pub(crate) struct LockedFiles {
 }
 
 /// Opens the files of a database read-only, also through a symbolic link. With `NoWriter`, the database's file is locked until the result is dropped.
-/// Errors: `Memory`; `Store`. It is `Store` too if SQLite left a rollback journal beside the file, which only SQLite can play back; with `NoWriter`, if
-/// a program holds a lock for writing; and with `ThisProgram`, if none does.
+/// Errors: `Memory`; `Store` if a system call fails, or if SQLite left a rollback journal, which only SQLite can play back. `Store` with `NoWriter`
+/// if a program holds a lock for writing, and with `ThisProgram` if none does. `Store` too if the path is `:memory:` or begins with `file:`, or if a
+/// file is not a regular one or has a hard link.
 pub(crate) fn lock_files(
     rt: &HostRuntime,
     path: &str,
@@ -59,7 +61,7 @@ pub(crate) fn lock_files(
 ) -> Result<LockedFiles, FileFault>
     ensures { IfErr result IsFileFault }
 {
-    // A path that SQLite does not read as the name of a file is refused.
+    // SQLite does not read these paths as the names of files.
     if path == ":memory:" || path.starts_with("file:") {
         return Err(fault_with_cause(Fault::Store, None));
     }
@@ -88,7 +90,8 @@ fn open_log(rt: &HostRuntime, path: &str) -> Result<Option<ReadFile>, FileFault>
     }
 }
 
-/// Whether SQLite has to play back a rollback journal at the path: a file that has bytes, the first not zero; or anything but a regular file with one name.
+/// Whether SQLite has to play back a rollback journal at the path: a file that has bytes, the first not zero; or anything but a regular file with one
+/// name.
 fn has_hot_journal(rt: &HostRuntime, path: &str) -> io::Result<bool> {
     match open_regular(rt, path) {
         Ok(journal) => is_hot(&journal),
@@ -107,7 +110,8 @@ fn is_hot(journal: &ReadFile) -> io::Result<bool> {
     Ok(first[0] != 0)
 }
 
-/// Opens a regular file read-only. It must be no symbolic link, and have no second name (hard link): SQLite may have another `-wal` beside that one.
+/// Opens a regular file read-only; `Unsupported` for anything else, also a symbolic link or a file with a second name (hard link), beside which
+/// SQLite may have another `-wal`.
 fn open_regular(rt: &HostRuntime, path: &str) -> io::Result<ReadFile> {
     // A pipe is not opened: that would wait for a writer.
     if !fs::symlink_metadata(rt, path)?.is_file() {

@@ -21,15 +21,15 @@ use sqlite_disk::{Disk, Files};
 use std::alloc::{AllocError, Global};
 use std::hash::{BuildHasher, RandomState};
 
-/// Opening appends fewer bytes than this to a log.
+/// Opening appends fewer bytes than this to the copy of a log.
 const ROOM: usize = 64;
 
 /// Why files can't be read.
 #[derive(Clone, Copy, PartialEq, Eq)]
 pub enum UnreadFile {
-    /// There is no database yet: opening for writing would create one.
+    /// There is no database in them yet: opening for writing would create one.
     Nothing,
-    /// They can't be opened, because of this fault.
+    /// They can't be opened or read, because of this fault.
     Fault(FileFault),
 }
 
@@ -43,10 +43,10 @@ impl From<FileFault> for UnreadFile {
     }
 }
 
-/// The files of a database, which are only read, with the options to open it.
+/// The database's file, which is only read, a copy of its log, and the options to open the database.
 #[derive(Drop)]
 pub struct Sources<F: Source> {
-    /// The bytes of the log (`-wal`).
+    /// The bytes of the log (`-wal`); none if there is no log.
     pub log: Vec<u8>,
     pub db: F,
     /// The key of the digests by which a page that is read again is checked.
@@ -55,8 +55,10 @@ pub struct Sources<F: Source> {
     pub options: Options,
 }
 
-/// Opens the files at a path read-only, also through a symbolic link. It creates no file, and copies the log into memory. Until the result is dropped,
-/// `desk` can't open them for writing; SQLite in WAL mode can. Errors: `Memory`; `Store` if the files can't be opened, with the cause.
+/// Opens the file at a path read-only, also through a symbolic link, and copies its log into memory. Creates no file. Until the result is dropped,
+/// `desk` can't open them for writing; SQLite in WAL mode can. Errors: `Memory`; `Store`, with its cause if that is known, if the files can't be
+/// read, or if a program has locked them for writing. `Store` too if SQLite left a rollback journal, if the path is `:memory:` or begins with
+/// `file:`, or if a file is not a regular one or has a hard link.
 pub fn read_at(rt: &HostRuntime, path: &str) -> Result<Sources<ReadFile>, FileFault>
     ensures { IfErr result IsFileFault }
 {
@@ -86,8 +88,8 @@ pub(crate) fn sources_at(
     })
 }
 
-/// Checks that the files at a path, which are only read, have the beginning of a database. Errors: `Nothing` if there is no database yet; `Memory`;
-/// `Store` if the files can't be opened or hold something else, with the cause.
+/// Checks that the files at a path, which are only read, have the beginning of a database. Errors: `Nothing` if there is no database yet; those of
+/// [`read_at`]; `Store` with the cause `Damaged` if the files hold something else.
 pub fn check_database(rt: &HostRuntime, path: &str) -> Result<(), UnreadFile>
     ensures { IfErr result IsUnread }
 {
@@ -101,8 +103,8 @@ fn check_sources<F: Source + Drop>(alloc: Global, sources: Sources<F>) -> Result
     check_begun(alloc, &mut files)
 }
 
-/// Opens a database over files that have no call that writes, so no use of the connection changes them: opening writes into the copy of the
-/// log. Errors are those of [`open_begun`].
+/// Opens a database over a file that has no method that writes, and a copy of its log. So no use of the connection changes the file: opening
+/// writes only into the copy. Errors are those of [`open_begun`].
 pub fn open_sources<F: Source + Drop>(
     alloc: Global,
     sources: Sources<F>,
@@ -122,7 +124,8 @@ pub fn open_sources<F: Source + Drop>(
     open_begun(alloc, files, options)
 }
 
-/// Opens files with the beginning of a database. Errors: `Nothing` if there is none; `Memory`; `Store` if they hold something else or a call failed.
+/// Opens the database in a file and its log, and creates none. Errors: `Nothing` if there is no database yet; `Memory`; `Store` if the files hold
+/// something else, or if a call failed.
 pub fn open_begun<D: Disk + Drop>(
     alloc: Global,
     mut files: Files<D>,

@@ -2,7 +2,7 @@
 
 use std::io;
 
-/// A file that can be read at any offset. It has no call that writes, so a function that gets only such files changes none of them.
+/// A file that can be read at any offset. The trait has no method that writes, so a function that gets only such files changes none of them.
 pub trait Source {
     ghost use Rattle.std.specs.Prelude.{◌≡◌, ◌<◌, ℕ, Bool, List, length, IfOk, IsTrue, OnOk};
     ghost use Rattle.sqlite_disk.specs.Disk.{Holds};
@@ -13,11 +13,12 @@ pub trait Source {
     /// Whether each call returns these bytes. For a file of the machine no contract can state this.
     ghost is_honest: { Self → Bool };
 
-    /// How many bytes the file has. Errors: the call of the system failed.
+    /// How many bytes the file has. Errors: the system call failed.
     fn size(&self) -> io::Result<usize>
         ensures { IfOk result (λ size. IsTrue (is_honest self.now) → size ≡ length (bytes self.now)) };
 
-    /// Fills a buffer with the bytes from an offset on. Errors: the file ends before the buffer is full, or the call of the system failed.
+    /// Fills a buffer with the bytes from an offset on. Errors: `UnexpectedEof` if the file ends before the buffer is full; or the system call
+    /// failed.
     fn fill(&self, at: usize, buf: &mut [u8]) -> io::Result<()>
         ensures { OnOk result
             (IsTrue (is_honest self.now) → 0 < length buf.old → Holds (bytes self.now) at buf.new) };

@@ -1,4 +1,4 @@
--- Which requests for revocation an open desk takes over HTTP.
+-- Which requests for revocation an open desk takes over HTTP. A request for a serial number is one for its revocation, with a known ground.
 use Rattle.std.specs.Prelude.{◌≡◌, ◌⊎◌, ℕ, Bool, true, false, ◌&&◌, ◌||◌, ◌+◌, ◌-◌, ◌/◌, ◌%◌, nat_lt, nat_le, replicate, slice_set, slice_index_or, if◌then◌else◌, Some, None, Result, Ok, Err}
 use Rattle.std.specs.declared.option.Option.{Option}
 use Rattle.reg_core.specs.Records.{Records}
@@ -29,7 +29,7 @@ use Rattle.reg_desk_jobs.specs.declared.admission.RecentRequests.{RecentRequests
 abbrev pub first_admission : Admission
 first_admission = record { recent = record { moments = replicate 100 None; next = 0 }; accepted = None }
 
--- a moment is within the minute up to another
+-- there is a moment, and it is less than 60 seconds before another one, or equal to that
 abbrev pub is_recent : ℕ → Option ℕ → Bool
 is_recent now (Some at) = nat_le at now && nat_lt (now - at) 60
 is_recent now None = false
@@ -38,26 +38,26 @@ is_recent now None = false
 abbrev pub is_rate_reached : ℕ → RecentRequests → Bool
 is_rate_reached now recent = is_recent now (slice_index_or recent.moments (recent.next % 100) None)
 
--- one more request, which replaces the oldest
+-- the moments with one more request, which replaces the oldest
 abbrev pub after_one_more : ℕ → RecentRequests → RecentRequests
 after_one_more now recent =
     record { moments = slice_set recent.moments (recent.next % 100) (Some now); next = recent.next % 100 + 1 }
 
--- a request for a serial number is counted, unless there were a hundred within the minute
+-- the admission after a request for a serial number: the request is counted, unless a hundred came within the minute
 abbrev pub after_request : ℕ → Admission → Admission
 after_request now admission =
     if is_rate_reached now admission.recent then admission
     else record { recent = after_one_more now admission.recent; accepted = admission.accepted }
 
--- no other request is counted
+-- the admission after any request: only a request for a serial number may be counted
 abbrev pub after_request_if : ℕ → Option ℕ → Admission → Admission
 after_request_if now (Some serial) admission = after_request now admission
 after_request_if now None admission = admission
 
 -- ---- the limits
 
--- 503 if the clock is too far ahead, or less than a tenth of the cap is left, which only the control socket may use (RFC 9110 15.6.4);
--- 429 with three open requests for the serial number (RFC 6585 4)
+-- 503 if the clock is too far ahead, or less than a tenth of the cap is left, rounded down (RFC 9110 15.6.4); else 429 with three or more open
+-- requests for the serial number (RFC 6585 4)
 abbrev pub limit_by : RequestLoad → Bool → Option ℕ
 limit_by request_load ahead =
     if ahead || nat_lt (request_load.cap - request_load.requests) (request_load.cap / 10) then Some 503
@@ -75,7 +75,7 @@ abbrev pub IsWithin : Admission → Records → ℕ → Option ℕ → Type 0
 IsWithin admission records now None = Unit {0}
 IsWithin admission records now (Some serial) = limit_at admission records now serial ≡ None
 
--- a request for a serial number is refused: with the status of a limit, or with the fault of a store that could not be read
+-- a request for a serial number is refused: with the status of a limit; or, if the rate is not reached, as out of memory or a failure of the store
 abbrev pub RefusesSerial : Admission → Records → ℕ → ℕ → AnswerEffects → Type 0
 RefusesSerial admission records now serial it =
     ((status : ℕ) × (limit_at admission records now serial ≡ Some status)
@@ -83,6 +83,7 @@ RefusesSerial admission records now serial it =
     ⊎ ((fault : Fault) × IsOfStore fault × (is_rate_reached now admission.recent ≡ false)
     × (it ≡ fault_effects fault))
 
+-- the same for any request: one for no serial number is not refused so
 abbrev pub RefusesAtLimit : Admission → Records → ℕ → Option ℕ → AnswerEffects → Type 0
 RefusesAtLimit admission records now None it = ⊥
 RefusesAtLimit admission records now (Some serial) it = RefusesSerial admission records now serial it
@@ -93,11 +94,12 @@ MeetsLimits admission records now serial (Some answered) =
     RefusesSerial admission records now serial (answer_effects answered)
 MeetsLimits admission records now serial None = limit_at admission records now serial ≡ None
 
+-- there is an answer, which refuses with this status
 abbrev pub IsRefusedBy : ℕ → Option Answered → Type 0
 IsRefusedBy status (Some answered) = answer_effects answered ≡ plain (http_refusal status)
 IsRefusedBy status None = ⊥
 
--- the register answers a request within the limits; any other is refused, and no record changes
+-- a request is within the limits, and the register answers it; or it is refused, and no record changes
 abbrev pub AnswersAdmitted
     : Admission → Signs → ℕ → Signatory → Records → RoutedRequest → AnswerEffects → Records → Type 0
 AnswersAdmitted admission signs now signatory before what it after =
@@ -105,7 +107,7 @@ AnswersAdmitted admission signs now signatory before what it after =
     × Answers (Runs signs signatory) Asks (Replies signs signatory) GivesCrl now before what it after)
     ⊎ (RefusesAtLimit admission before now (requested_serial what) it × (after ≡ before))
 
--- the same when the answer is begun, and may be left to be signed
+-- the same for an answer that is ready, and adds at most one request; or a response is left to be signed; or out of memory, and no record changes
 abbrev pub BeginsAdmitted
     : Admission → Signs → ℕ → Signatory → Records → RoutedRequest
     → Result (ReadyOrUnsigned Answered Drafted) NoMemory
@@ -118,7 +120,7 @@ BeginsAdmitted admission signs now signatory before what (Ok (Unsigned draft)) a
     (Unsigned draft) after
 BeginsAdmitted admission signs now signatory before what (Err memory) after = after ≡ before
 
--- the admission after a request, which is counted; if memory ran out, it is counted or not
+-- the admission after a request is `counted`; if memory ran out, it is that or the one before
 abbrev pub CountsRequest : {A : Type 0} → Result A NoMemory → Admission → Admission → Admission → Type 0
 CountsRequest (Ok begun) counted admission admission' = admission' ≡ counted
 CountsRequest (Err memory) counted admission admission' = (admission' ≡ admission) ⊎ (admission' ≡ counted)

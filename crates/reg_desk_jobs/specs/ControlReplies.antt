@@ -27,7 +27,7 @@ use Rattle.reg_desk_jobs.specs.declared.control_reply.LineOutcome.TheVariants.{C
 abbrev pub IsReplyText : List ℕ → List ℕ → Type 0
 IsReplyText bytes text = (text ≡ bytes) ⊎ (text ≡ [])
 
--- the reply is the line of a fault
+-- the reply is the line of a fault or a refusal, or empty
 abbrev pub ReportsFault : Fault → List ℕ → Type 0
 ReportsFault why text = IsReplyText (fault_line why ++ 10 ∷ []) text
 
@@ -52,14 +52,14 @@ abbrev pub IsReplyWith : List ℕ → LineOutcome → List ℕ → LineOutcome �
 IsReplyWith bytes line_outcome text told =
     ((text ≡ bytes) × (told ≡ line_outcome)) ⊎ ((text ≡ []) × (told ≡ Silent))
 
--- the same of a reply with this line
+-- the same for a reply of this line and an LF
 abbrev pub IsLineReply : List ℕ → LineOutcome → ControlReply → Type 0
 IsLineReply line line_outcome reply =
     IsReplyWith (line ++ 10 ∷ []) line_outcome reply.text.items reply.line_outcome
 
 -- ---- what is counted
 
--- the kind of reply to a line that was refused, or that ended in a fault
+-- the kind of reply with a refusal or a fault
 abbrev pub kind_of_fault : Fault → LineReply
 kind_of_fault (fault.Refused refusal) = kind.Refused
 kind_of_fault other = kind.Fault
@@ -74,17 +74,17 @@ kind_of (CopyFault why) = kind_of_fault why
 kind_of Silent = kind.Fault
 kind_of other = kind.Accepted
 
--- without a signature, it failed or was not requested
+-- the outcome without a signature: it failed, or was not requested
 abbrev pub failed_if : Bool → SignatureOutcome
 failed_if signature_failed = cond signature_failed signature_outcome.Failed signature_outcome.NotRequested
 
--- the signature of a CRL, by whether a signature failed during the line
+-- the outcome of the signature of a CRL, by whether a signature failed during the line
 abbrev pub crl_outcome : Bool → LineOutcome → SignatureOutcome
 crl_outcome signature_failed (Completed (Command IssueCrl) (Ok reply)) = signature_outcome.Made
 crl_outcome signature_failed (Completed (Command IssueCrl) (Err why)) = failed_if signature_failed
 crl_outcome signature_failed other = signature_outcome.NotRequested
 
--- the signature of an OCSP response
+-- the same of the signature of an OCSP response
 abbrev pub ocsp_outcome : Bool → LineOutcome → SignatureOutcome
 ocsp_outcome signature_failed (Completed Ocsp outcome) = failed_if signature_failed
 ocsp_outcome signature_failed (Response true) = failed_if signature_failed
@@ -92,7 +92,7 @@ ocsp_outcome signature_failed (Response false) =
     cond signature_failed signature_outcome.Failed signature_outcome.Made
 ocsp_outcome signature_failed other = signature_outcome.NotRequested
 
--- the effect of a line on the store: an accepted command was written
+-- the effect of a line on the store: `Written` after an accepted command, `Failed` after the fault `Store` (not of a copy), else `Unwritten`
 abbrev pub store_effect : LineOutcome → StoreEffect
 store_effect (Completed (Command command) (Ok reply)) = effect.Written
 store_effect (Completed what (Err fault.Store)) = effect.Failed

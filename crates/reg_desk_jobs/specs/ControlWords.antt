@@ -34,8 +34,8 @@ use Rattle.reg_desk_jobs.specs.declared.words.SerialDecision.{SerialDecision}
 use Rattle.reg_desk_jobs.specs.declared.words.RowKey.{RowKey}
 use Rattle.reg_desk_jobs.specs.declared.words.RowKey.TheVariants.{Request, Certificate, Subscriber}
 
--- the meanings of a line: list the words; why the last refused line was refused; copy the register; show a row; decide a request given by number
--- and serial number; accept the clock; set a schedule with steps; else it is a command line
+-- the meanings of a line: `help`; `why`; copy the register; show a row; decide a request, given by number and serial number; accept the clock, with a
+-- moment; set a schedule, with steps; a command line
 pub data WordMeaning : Type 0 where
   helps : WordMeaning
   why : WordMeaning
@@ -56,12 +56,12 @@ row_key_by (kind ∷ named ∷ []) =
     else None
 row_key_by (kind ∷ named ∷ more ∷ rest) = None
 
--- the same after the word `show`
+-- the same for the fields after the word `show`
 abbrev pub row_key_in : List (List ℕ) → Option RowKey
 row_key_in [] = None
 row_key_in (word ∷ rest) = if bytes_eq word (codes "show") then row_key_by rest else None
 
--- the decision of a request, by its word
+-- the decision of a request, by the word `revoke` or `decline`
 abbrev pub serial_decision_by : List ℕ → ℕ → ℕ → Option SerialDecision
 serial_decision_by word request serial =
     if bytes_eq word (codes "revoke")
@@ -70,7 +70,7 @@ serial_decision_by word request serial =
     then Some (record { command = Decline request; request = request; serial = serial })
     else None
 
--- `revoke N SERIAL` or `decline N SERIAL`
+-- the decision in the fields `revoke N SERIAL` or `decline N SERIAL`
 abbrev pub serial_decision_in : List (List ℕ) → Option SerialDecision
 serial_decision_in (word ∷ request ∷ serial ∷ []) = do
   request ← number_of request
@@ -78,28 +78,28 @@ serial_decision_in (word ∷ request ∷ serial ∷ []) = do
   serial_decision_by word request serial
 serial_decision_in other = None
 
--- the moment after the word `accept-clock`
+-- the moment, if the word is `accept-clock`
 abbrev pub accepted_by_word : List ℕ → List ℕ → Option ℕ
 accepted_by_word word moment = if bytes_eq word (codes "accept-clock") then moment_of moment else None
 
--- the moment of `accept-clock MOMENT`
+-- the moment in the fields `accept-clock MOMENT`
 abbrev pub accepted_in : List (List ℕ) → Option ℕ
 accepted_in (word ∷ moment ∷ []) = accepted_by_word word moment
 accepted_in other = None
 
--- the steps of a schedule, after the word: at least one, each `MOMENT=DAYS`
+-- the steps after the word `schedule`: at least one, each `MOMENT=DAYS`
 abbrev pub steps_set : List (List ℕ) → Option (List (ℕ × ℕ))
 steps_set [] = None
 steps_set (word ∷ []) = None
 steps_set (word ∷ step ∷ rest) = if bytes_eq word (codes "schedule") then steps_of (step ∷ rest) else None
 
--- the meaning of the fields of a line
+-- the meaning of the fields of a line: the first of `show`, a decision, `accept-clock` and `schedule` that they are, else a command line
 abbrev pub meaning_by_fields : List (List ℕ) → WordMeaning
 meaning_by_fields fields =
     option_map_or shows (row_key_in fields) (option_map_or decides (serial_decision_in fields)
     (option_map_or accepts (accepted_in fields) (option_map_or schedules (steps_set fields) commands)))
 
--- the meaning of a line
+-- the meaning of a line: by its text without the line end, `help` or `why`; by its first bytes, `copy` and a space; else by its fields
 abbrev pub meaning_in : List ℕ → WordMeaning
 meaning_in line =
     if bytes_eq (line_of line) (codes "help") then helps
@@ -119,46 +119,46 @@ IsWord line (Schedule steps) = meaning_in line ≡ schedules steps
 IsWord line (Line command) = (meaning_in line ≡ commands)
     × MatchOption command (¬ IsShortCommand line) (λ text. (text.now ≡ line_of line) × IsShortCommand line)
 
--- a command line at a moment, without its end, and its reply; or there was no memory for that, and nothing ran
+-- a command line at a moment, without its line end, and its reply; or the reply is out of memory, or empty, and no record changes
 abbrev pub CommandAt : Signs → ℕ → Signatory → Records → List ℕ → List ℕ → Records → Type 0
 CommandAt signs now identity before line text after =
     Replied (ComesTo (Lines signs identity) now) before line text after
     ⊎ (ReportsFault fault.Memory text × (after ≡ before))
 
--- a command is refused, because the clock is too far past both the last accepted moment and the moment that the operator accepted
+-- the clock is too far ahead (`is_ahead`), and the reply is `bad-clock`, or empty
 abbrev pub RefusesClock : Option ℕ → ℕ → Records → List ℕ → Type 0
 RefusesClock accepted now before text =
     IsTrue (is_ahead now before.last accepted) × IsReplyText (codes "bad-clock\n") text
 
--- the fault of a store that could not read the last accepted moment
+-- the reply is out of memory or a failure of the store, or empty
 abbrev pub RepliesStoreFault : List ℕ → Type 0
 RepliesStoreFault text = (why : Fault) × IsOfStore why × ReportsFault why text
 
--- a command at a moment: it is refused if the clock is too far ahead; or it runs; or the store could not read the last accepted moment
+-- a command at a moment: it is refused if the clock is too far ahead, else it runs; or the reply is a fault of the store, and no record changes
 abbrev pub AtClock : Option ℕ → ℕ → Records → Type 0 → List ℕ → Records → Type 0
 AtClock accepted now before Runs text after =
     (RefusesClock accepted now before text × (after ≡ before))
     ⊎ (IsFalse (is_ahead now before.last accepted) × Runs)
     ⊎ (RepliesStoreFault text × (after ≡ before))
 
--- whether a command is refused before it runs
+-- no reply, if the clock is not too far ahead; or the reply that refuses a command before it runs, or is a fault of the store
 abbrev pub MeetsClock : Option ℕ → ℕ → Records → Option ControlReply → Type 0
 MeetsClock accepted now before None = IsFalse (is_ahead now before.last accepted)
 MeetsClock accepted now before (Some reply) =
     RefusesClock accepted now before reply.text.items ⊎ RepliesStoreFault reply.text.items
 
--- a line has a command, not a query
+-- a line means a command
 abbrev pub HasCommand : List ℕ → Type 0
 HasCommand line = (command : Command) × LineMeans line (means_command command)
 
--- a command line without its line end: a command is checked against the clock; a query is not
+-- a command line without its line end: a command is checked against the clock; a line of another meaning is not
 abbrev pub LineAt : Option ℕ → Signs → ℕ → Signatory → Records → List ℕ → List ℕ → Records → Type 0
 LineAt accepted signs now identity before line text after =
     (HasCommand line
     × AtClock accepted now before (CommandAt signs now identity before line text after) text after)
     ⊎ ((¬ HasCommand line) × CommandAt signs now identity before line text after)
 
--- a command line with its line end; or it has too many bytes, and nothing ran
+-- a command line with its line end; or it has too many bytes, the reply is the fault `Read`, or empty, and no record changes
 abbrev pub EntryAt : Option ℕ → Signs → ℕ → Signatory → Records → List ℕ → List ℕ → Records → Type 0
 EntryAt accepted signs now identity before line text after =
     (IsShortCommand line × LineAt accepted signs now identity before (line_of line) text after)
@@ -184,27 +184,28 @@ AnswersWord accepted signs now identity before line (schedules steps) text after
 AnswersWord accepted signs now identity before line commands text after =
     EntryAt accepted signs now identity before line text after
 
--- the moment that the operator has accepted after a line; it stays if there was no memory to read the line
+-- the moment that the operator has accepted after a line of this meaning
 abbrev pub accepted_by : WordMeaning → Option ℕ → Option ℕ
 accepted_by (accepts moment) accepted = Some moment
 accepted_by other accepted = accepted
 
+-- the same after a line; or the accepted moment stays, as if there was no memory to read the line
 abbrev pub IsAcceptedAfter : List ℕ → Option ℕ → Option ℕ → Type 0
 IsAcceptedAfter line accepted accepted' =
     (accepted' ≡ accepted_by (meaning_in line) accepted) ⊎ (accepted' ≡ accepted)
 
--- the admission after a line, which counts no request, and may set the accepted moment
+-- the admission after a line: the counted requests stay, and the accepted moment is the one after the line
 abbrev pub IsAdmissionAfter : List ℕ → Admission → Admission → Type 0
 IsAdmissionAfter line admission admission' =
     (admission'.recent ≡ admission.recent) × IsAcceptedAfter line admission.accepted admission'.accepted
 
--- a line of an open register at a moment; or there was no memory to read it: the reply says so, and no record changes
+-- a line at a moment, its reply and the records after it; or the reply is out of memory, or empty, and no record changes
 abbrev pub WordAt : Option ℕ → Signs → ℕ → Signatory → Records → List ℕ → List ℕ → Records → Type 0
 WordAt accepted signs now identity before line text after =
     AnswersWord accepted signs now identity before line (meaning_in line) text after
     ⊎ (ReportsFault fault.Memory text × (after ≡ before))
 
--- the same at a moment of the clock
+-- the same at some moment that the clock has reached
 abbrev pub Word : Option ℕ → Signs → (ℕ → Type 0) → Signatory → Records → List ℕ → List ℕ → Records → Type 0
 Word accepted signs clock_reached identity before line text after =
     (now : ℕ) × clock_reached now × WordAt accepted signs now identity before line text after

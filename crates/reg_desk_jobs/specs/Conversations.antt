@@ -45,7 +45,7 @@ NextIs input input' (next.Line line) = IsWholeLine line.items × Consumes input 
 NextIs input input' next.Cut = (left : List ℕ) × IsCutOff left × IsInput input left
 NextIs input input' next.End = IsInput input []
 
--- these lines were sent, one after the other; for each, one reply was received and written
+-- these lines were sent, one after the other; as many replies were received and written
 pub record ExchangedLines (sent sent' incoming incoming' out out' : Option (List ℕ))
     (lines replies : List (List ℕ)) : Type 0 where
   pub whole : AreWhole lines
@@ -82,7 +82,7 @@ module _ (sent sent' incoming incoming' out out' : Option (List ℕ)) where
   ExchangesNextLine input input' (Err why) = IsConversationFault why
 
   -- all lines of an input: each reply was accepted; or one was not, or a last line without its line end was not sent. If the conversation
-  -- ended early, nothing is stated about how far it got
+  -- ended early, nothing is stated about how far the job got
   abbrev pub ExchangesLines : Option (List ℕ) → Result (Unit {0}) Failure → Type 0
   ExchangesLines input (Ok done) =
       (lines replies : List (List ℕ)) × ExchangedLines sent sent' incoming incoming' out out' lines replies
@@ -92,7 +92,7 @@ module _ (sent sent' incoming incoming' out out' : Option (List ℕ)) where
       × ExchangedLines sent sent' incoming incoming' out out' lines replies
       × IsInput input (concat lines ++ left) × IsWhyBy IsAccepted replies left why)
 
--- a conversation over a connection about which nothing else is known: it ended early with nothing written, or as `ExchangesLines` states
+-- a conversation over a connection about which nothing else is known: it failed with nothing written, or as `ExchangesLines` states
 abbrev pub ExchangesLinesOver
     : Option (List ℕ) → Option (List ℕ) → Option (List ℕ) → Result (Unit {0}) Failure → Type 0
 ExchangesLinesOver input out out' result =
@@ -100,14 +100,14 @@ ExchangesLinesOver input out out' result =
     ⊎ ((sent sent' incoming incoming' : Option (List ℕ))
     × ExchangesLines sent sent' incoming incoming' out out' input result)
 
--- lines at the control socket at a path: no program listened there, or the lines were sent to it
+-- lines at a control socket: the job failed with `Read` and nothing written; or the program connected (`met`), as `ExchangesLinesOver` states
 abbrev pub AtControlSocket
     : Type 0 → Option (List ℕ) → Option (List ℕ) → Option (List ℕ) → Result (Unit {0}) Failure → Type 0
 AtControlSocket met input out out' result =
     ((result ≡ Err (failure.Fault fault.Read)) × (out' ≡ out))
     ⊎ (met × ExchangesLinesOver input out out' result)
 
--- rows at the control socket at a path: the input could not be read to its end, and nothing is sent; or the lines of its rows are sent there
+-- rows at a control socket: a fault of reading the rows, and nothing is written; or the lines of the rows, as `AtControlSocket` states
 abbrev pub RowsAtControlSocket
     : Type 0 → Type 0 → Option (List ℕ) → Option (List ℕ) → Option (List ℕ) → Option (List ℕ)
     → Result (Unit {0}) Failure → Type 0

@@ -5,7 +5,7 @@ use Rattle.reg_core.specs.Lines.{fault_line}
 use Rattle.reg_core.specs.declared.refusal.Fault.{Fault}
 use Rattle.reg_office_api.specs.LookUps.{IsOfStore}
 
--- whether a line asks for a copy: it is that word, a space and a path
+-- whether a line asks for a copy: it begins with `copy` and a space
 abbrev pub is_copy_line : List ℕ → Bool
 is_copy_line line = starts_with (λ a b. a == b) line (codes "copy ")
 

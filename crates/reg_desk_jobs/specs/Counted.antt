@@ -1,4 +1,4 @@
--- An open register counts each exchange once, when its text is made.
+-- A desk counts each exchange once, when its text is made.
 use Rattle.std.specs.Prelude.{◌≡◌, ◌⊎◌, ◌↔◌, ◌<◌, ℕ, Bool, IsTrue, List}
 use Rattle.reg_http.specs.declared.exchange.Exchange.{Exchange}
 use Rattle.reg_http.specs.declared.exchange.UnsignedResponse.{UnsignedResponse}
@@ -25,7 +25,7 @@ CountsBegun now request (begun.Unsigned left) (pending unsigned) tally tally' =
     × IsRouteOf request left.route × (tally' ≡ tally)
 CountsBegun now request begun outcome tally tally' = ⊥
 
--- the text that finishes a response, which is counted by its moment and its route
+-- this text finishes a response, and its exchange is counted at the response's moment, under its route, with any duration
 abbrev pub CountsFinished : (List ℕ → List ℕ → Type 0) → Unsigned → List ℕ → Tally → Tally → Type 0
 CountsFinished signer_answered unsigned text tally tally' =
     (it : FinishesUnsigned signer_answered unsigned text) × (it.exchange.route ≡ unsigned.route)
@@ -35,7 +35,7 @@ CountsFinished signer_answered unsigned text tally tally' =
 abbrev pub SignatureFailed : {S : Type 0} → (S → ℕ) → (S → ℕ) → S → S → Type 0
 SignatureFailed crls answers before after = (crls before < crls after) ⊎ (answers before < answers after)
 
--- a line is counted by its result, which its reply shows
+-- a line is counted at a moment by a result that its reply shows, by whether a signature failed, and with any duration
 abbrev pub CountsLine : Type 0 → ℕ → List ℕ → Tally → Tally → Type 0
 CountsLine failed now reply tally tally' =
     (micros : ℕ) × (line_outcome : LineOutcome) × (signature_failed : Bool)

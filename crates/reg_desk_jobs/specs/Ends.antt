@@ -59,12 +59,12 @@ use Rattle.reg_desk_jobs.specs.RegisterUses.{UsesRegister, NotCreatedAt, NotOpen
 use Rattle.reg_desk_jobs.specs.declared.unsigned_responses.Unsigned.{Unsigned}
 use Rattle.reg_desk_jobs.specs.declared.machine.Machine.{Ghosts as Machine}
 
--- a text is written and the job is done; or a prefix of it, if the writer fails
+-- a text is written and the job is done; or a prefix of it, and the job fails with `Write`
 abbrev pub PrintsText : List ℕ → Option (List ℕ) → Option (List ℕ) → Result (Unit {0}) Failure → Type 0
 PrintsText text out out' (Ok done) = Appends out out' text
 PrintsText text out out' (Err why) = (why ≡ failure.Fault fault.Write) × AppendsPrefix out out' text
 
--- the result is written, or its fault ends the job
+-- the result is written; or its fault ends the job, and nothing is written
 abbrev pub PrintsResult
     : {W : Type 0} → (W → Option (List ℕ)) → W → W → Result (List ℕ) Fault → Result (Unit {0}) Failure
     → Type 0
@@ -73,7 +73,7 @@ PrintsResult contents writer writer' (Ok text) result =
 PrintsResult contents writer writer' (Err why) result =
     (result ≡ Err (failure.Fault why)) × (writer' ≡ writer)
 
--- a text is written after something was set; or a fault ends the job
+-- a text is written after something was set; or out of memory or a failure of the store ends the job, and nothing is written
 abbrev pub PrintsSetResult
     : {W : Type 0} → List ℕ → (W → Option (List ℕ)) → W → W → Result (Unit {0}) Fault
     → Result (Unit {0}) Failure → Type 0
@@ -82,15 +82,15 @@ PrintsSetResult text contents writer writer' (Ok done) result =
 PrintsSetResult text contents writer writer' (Err why) result =
     (result ≡ Err (failure.Fault why)) × IsOfStore why × (writer' ≡ writer)
 
--- the text of a line is written, or there was no memory for it
+-- the text of a line is written; or there was no memory for it, and nothing is written
 abbrev pub PrintsLine
     : {W : Type 0} → List ℕ → (W → Option (List ℕ)) → W → W → Result (Unit {0}) Failure → Type 0
 PrintsLine text contents writer writer' result =
     PrintsText text (contents writer) (contents writer') result
     ⊎ ((result ≡ Err (failure.Fault fault.Memory)) × (writer' ≡ writer))
 
--- the text of an audit that found a broken row is written, and the job fails; or a prefix of it, if the writer fails; or there was no
--- memory for it
+-- the text of an audit whose result is not sound is written, and the job fails with `Broken`; or a prefix of it, and the job fails with `Write`; or
+-- there was no memory for it, and nothing is written
 abbrev pub PrintsBroken
     : {W : Type 0} → List ℕ → (W → Option (List ℕ)) → W → W → Result (Unit {0}) Failure → Type 0
 PrintsBroken text contents writer writer' result =
@@ -98,7 +98,7 @@ PrintsBroken text contents writer writer' result =
     ⊎ (((result ≡ Err (failure.Fault fault.Write)) × AppendsPrefix (contents writer) (contents writer') text)
     ⊎ ((result ≡ Err (failure.Fault fault.Memory)) × (writer' ≡ writer)))
 
--- the report of an audit
+-- the report of an audit: a register of an older version is not audited, and the job fails with `OldVersion`
 abbrev pub ReportsAuditResult
     : {W : Type 0} → (W → Option (List ℕ)) → W → W → AuditResult → Result (Unit {0}) Failure → Type 0
 ReportsAuditResult contents writer writer' (audit_result.Sound found) result =
@@ -110,7 +110,7 @@ ReportsAuditResult contents writer writer' audit_result.OtherSchema result =
 ReportsAuditResult contents writer writer' audit_result.Older result =
     (result ≡ Err failure.OldVersion) × (writer' ≡ writer)
 
--- the given moment, or else one of the clock
+-- the given moment, or else one that the clock has reached
 abbrev pub IsMomentOf : (ℕ → Type 0) → Option ℕ → ℕ → Type 0
 IsMomentOf clock (Some told) now = now ≡ told
 IsMomentOf clock None now = clock now
@@ -195,12 +195,12 @@ module _ {M O D S R W : Type 0} (machines : Machine M O D S R) (offices : Office
 module _ {M O D S R W : Type 0} (machines : Machine M O D S R) (offices : Office O)
     (contents : W → Option (List ℕ))
     (machine machine' : M) (writer writer' : W) where
-  -- a path with no file was claimed, with the machine after that; or there was a file, and the machine did not change
+  -- a path was claimed, with the machine after that; or it was taken (`Machine.taken`), and the machine did not change
   abbrev pub Claims : List ℕ → M → Type 0
   Claims path start = machines.claimed machine path start ⊎ (machines.taken machine path × (start ≡ machine))
 
-  -- what is left at the path of a new register: all stays if the job is done, if another program created a register there meanwhile, and if there
-  -- was a file before; else what was created there is removed
+  -- what is left at the path of a new register: all stays if the job is done, if the file had tables already (`NotEmpty`), and if the path was taken
+  -- before; else what was created there is removed
   abbrev pub Leaves : List ℕ → M → M → Result (Unit {0}) Failure → Type 0
   Leaves path start between (Ok done) = machine' ≡ between
   Leaves path start between (Err why) =
@@ -306,7 +306,8 @@ module _ {M O D S R E W : Type 0} (machines : Machine M O D S R) (offices : Offi
   ImportChecked is_checked is_strict path now result =
       (IsTrue is_checked × ImportRefusedAt path now result) ⊎ ImportAt is_strict path now result
 
-  -- the same at the given moment, or else at one of the clock at the start; if the clock can't be read, nothing is done
+  -- an import at the given moment, which is not checked, or else at one of the clock, which is checked unless the operator accepts it; if the clock
+  -- can't be read, nothing is done
   abbrev pub ImportAtMoment : Option ℕ → Bool → Bool → List ℕ → Result (Unit {0}) Failure → Type 0
   ImportAtMoment (Some now) accepts is_strict path result = ImportAt is_strict path now result
   ImportAtMoment None accepts is_strict path result =
@@ -342,17 +343,17 @@ module _ {M O D S R E W : Type 0} (machines : Machine M O D S R) (offices : Offi
   abbrev pub ServeAt : ServeJob → Result (Unit {0}) Failure → Type 0
   ServeAt it = AtPort it.file it.signer it.responder it.published it.endpoint None it.requests
 
-  -- requests and lines, up to 2^64 - 1 requests: the program ends before
+  -- requests, and lines at the control socket, until 2^64 - 1 requests are answered
   abbrev pub OpenAt : OpenJob → Result (Unit {0}) Failure → Type 0
   OpenAt it =
       AtPort it.file it.signer it.responder it.published it.endpoint (Some it.control) 18446744073709551615
 
-  -- a job that reads no input
+  -- a job that reads no input, and whose result is as `Done` states
   abbrev pub Writes : (Result (Unit {0}) Failure → Type 0) → Result (Unit {0}) Failure → Type 0
   Writes Done result = (reader' ≡ reader) × Done result
 
-  -- the end of a job: what it read, what it did on its machine to the register at its path and to nothing else, and what it wrote. No signer has
-  -- the key of the sample issuer in memory
+  -- the end of a job: what it read, what it did on its machine to the register at its path and to nothing else, and what it wrote. A script without
+  -- FILE and with a signer fails with `BadSigner`, because no signer has the sample issuer's key
   abbrev pub Ends : Job → Result (Unit {0}) Failure → Type 0
   Ends (job.Init it) = Writes (InitAt machines offices contents machine machine' writer writer' it)
   Ends (job.Script (Some file) signer) = ScriptAt file signer
@@ -390,7 +391,7 @@ module _ {M O D S R E W : Type 0} (machines : Machine M O D S R) (offices : Offi
       × ReplaysAt (machines.socket_connected control_path) (remaining reader) (contents writer)
       (contents writer') result
 
-  -- A job and its report: how it ended, its exit status, and what it wrote to standard error, with the cause if that is asked for.
+  -- A job and its report: how it ended, its exit status, and what it wrote to standard error, with a cause or a reason if that is asked for.
   pub record Performs (job : Job) (is_why_asked : Bool) (errors errors' : Option (List ℕ))
       (status : ℕ) : Type 0 where
     pub ending : Result (Unit {0}) Failure

@@ -35,12 +35,12 @@ dispatch true Metrics = ToMetrics
 dispatch true _ = ToRegister
 dispatch false _ = ToRegister
 
--- the admission after this part answered a request: only `ToLimits` counts one, if it is for a serial number
+-- the admission after this part answered a request: only `ToLimits` may count it, if it is for a serial number
 abbrev pub admission_by : Dispatch → ℕ → RoutedRequest → Admission → Admission
 admission_by ToLimits now what admission = after_request_if now (requested_serial what) admission
 admission_by other now what admission = admission
 
--- the same at a desk that is open or not
+-- the same at a desk that is open or not; a refused request is not counted
 abbrev pub admission_after : Bool → ℕ → Part → Admission → Admission
 admission_after is_open now (refused status) admission = admission
 admission_after is_open now (asked method target body) admission =
@@ -75,15 +75,16 @@ IsRouteOf request route =
     ⊎ ((method target body : List ℕ) × ∥ HoldsRequest request (asked method target body) ∥₁
     × (route ≡ route_at (path_of target)))
 
--- memory ran out: a whole request is counted or not
+-- the admission stays, or it is the one after the whole request with which the bytes begin
 abbrev pub MayCount : Bool → ℕ → List ℕ → Admission → Admission → Type 0
 MayCount is_open now request admission admission' =
     (admission' ≡ admission)
     ⊎ ((part : Part) × ∥ HoldsRequest request part ∥₁
     × (admission' ≡ admission_after is_open now part admission))
 
--- One HTTP exchange (RFC 9112) of a desk at a moment, over the bytes that came on a connection. Either they begin with a whole request, which the desk
--- answered and counted; or they do not, and it got none; or there was no memory for the exchange, and no record changed.
+-- One HTTP exchange (RFC 9112) of a desk at a moment, over the bytes that came on a connection. Either they begin with a whole request, which the
+-- desk answered, and the admission is the one after it; or they do not, and the text is empty; or the text is the answer if out of memory. In the
+-- last two cases no record changed, and a whole request was counted or not.
 abbrev pub IsExchange
     : Bool → Signs → ℕ → Admission → Admission → Signatory → Records → List ℕ → HttpExchange → Records
     → Type 0
@@ -94,7 +95,7 @@ IsExchange is_open signs now admission admission' signatory before request excha
     ⊎ (HasNoEffects exchange × ((∥ IsUnfinished request ∥₁ × IsEmpty exchange) ⊎ IsMemoryAnswer exchange)
     × (after ≡ before) × MayCount is_open now request admission admission')
 
--- the same for the text alone; the records gain at most one request for revocation, and no count of certificates changes
+-- the same for the text alone; the records gain at most one request for revocation, and no count of certificates by status changes
 pub record AnswersAt (is_open : Bool) (signs : Signs) (now : ℕ) (admission admission' : Admission)
     (signatory : Signatory) (before : Records) (request text : List ℕ) (after : Records) : Type 0 where
   pub exchange : HttpExchange

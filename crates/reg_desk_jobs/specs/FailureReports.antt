@@ -13,7 +13,7 @@ use Rattle.reg_desk_jobs.specs.declared.failure_cause.Location.TheVariants as lo
 use Rattle.reg_desk_jobs.specs.declared.reasons.Reason.{Reason}
 use Rattle.reg_io.specs.Put.{AppendsPrefix}
 
--- what stands behind a cause: the argument, option or stream that it is about
+-- the text after a cause: a space and, in parentheses, the argument, option or stream that it is about; nothing if that is not known
 unfoldable pub location_suffix : Option Location → List ℕ
 location_suffix None = []
 location_suffix (Some location.File) = codes " (FILE)"
@@ -33,7 +33,7 @@ location_suffix (Some location.Output) = codes " (standard output)"
 abbrev pub located_cause_line : FailureCause → List ℕ
 located_cause_line why = cause_line why.cause ++ location_suffix why.location
 
--- the bytes were written, or, if the device failed, only a prefix of them
+-- the bytes were written, or only a prefix of them
 abbrev pub IsWritten : Option (List ℕ) → Option (List ℕ) → List ℕ → Type 0
 IsWritten old new bytes = Appends old new bytes ⊎ AppendsPrefix old new bytes
 
@@ -41,17 +41,17 @@ IsWritten old new bytes = Appends old new bytes ⊎ AppendsPrefix old new bytes
 abbrev pub IsReportedLine : Option (List ℕ) → Option (List ℕ) → List ℕ → Type 0
 IsReportedLine old new line = IsWritten old new (line ++ 10 ∷ [])
 
--- what standard error gets: nothing if the job is done, else the failure's line
+-- what standard error gets: nothing if the job is done, else the failure's line or a prefix of it
 abbrev pub ReportsExit : Result (Unit {0}) Failure → Option (List ℕ) → Option (List ℕ) → Type 0
 ReportsExit (Ok done) old new = new ≡ old
 ReportsExit (Err why) old new = IsReportedLine old new (failure_line why)
 
--- nothing is written, or why a registration was refused
+-- nothing is written, or a line of two spaces and the text of a reason, or a prefix of that line
 abbrev pub ReportsReason : Option (List ℕ) → Option (List ℕ) → Type 0
 ReportsReason old new =
     (new ≡ old) ⊎ ((reason : Reason) × IsReportedLine old new (codes "  " ++ reason_text reason))
 
--- nothing more is written; or, if that is asked for, a cause for exit status 1, or why a registration was refused for exit status 3
+-- nothing more is written; or, if more is asked for, the line of a cause for exit status 1, or of a reason for exit status 3, or a prefix of it
 abbrev pub Adds : Bool → ℕ → Option (List ℕ) → Option (List ℕ) → Type 0
 Adds is_asked exit_status old new =
     (new ≡ old)

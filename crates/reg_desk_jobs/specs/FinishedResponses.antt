@@ -12,19 +12,20 @@ use Rattle.reg_ocsp.specs.Drafts.{Drafted, drafted_response}
 use Rattle.reg_crl_signer.specs.Forms.{HasForm}
 use Rattle.reg_desk_jobs.specs.declared.unsigned_responses.Unsigned.{Unsigned}
 
--- the signer gave this for the message, and it has the form of a signature by that signer; or there is none
+-- the signer gave this for the draft's message, and it has the form of a signature with the draft's algorithm and key; or there is none
 abbrev pub IsSignatureOf : (List ℕ → List ℕ → Type 0) → Drafted → Option (List ℕ) → Type 0
 IsSignatureOf signer_answered draft (Some signature) =
     signer_answered draft.message signature
     × HasForm (record { algorithm = draft.algorithm; public_key = draft.key }) signature
 IsSignatureOf signer_answered draft None = Unit {0}
 
--- whether a signature was made
+-- whether a signature was made: if there is one
 abbrev pub outcome_of_signature : Option (List ℕ) → SignatureOutcome
 outcome_of_signature (Some signature) = Made
 outcome_of_signature None = Failed
 
--- this exchange at a moment has the response with this signature, or internalError without one; or there was no memory for it
+-- this exchange at a moment has the response with this signature, or internalError without one, or the answer if out of memory; its signature was
+-- made or failed, and it changed nothing in the store
 pub record IsFinished (draft : Drafted) (moment : ℕ) (signature : Option (List ℕ))
     (exchange : Exchange) : Type 0 where
   pub given : Result (List ℕ) NoMemory
@@ -33,7 +34,7 @@ pub record IsFinished (draft : Drafted) (moment : ℕ) (signature : Option (List
   pub signature_outcome : exchange.signature ≡ outcome_of_signature signature
   pub store : exchange.store ≡ Unwritten
 
--- this text finishes a response of a moment: with a signature that the signer gave, or without one
+-- this text is that of an exchange that finishes a response of a moment, with a signature that the signer gave, or without one
 pub record FinishesAt (signer_answered : List ℕ → List ℕ → Type 0) (draft : Drafted) (moment : ℕ)
     (text : List ℕ) : Type 0 where
   pub signature : Option (List ℕ)
@@ -46,7 +47,7 @@ abbrev pub FinishesUnsigned : (List ℕ → List ℕ → Type 0) → Unsigned �
 FinishesUnsigned signer_answered unsigned text =
     FinishesAt signer_answered unsigned.draft unsigned.moment text
 
--- the outcome of a request is a text that meets `wanted`; or a response to be signed, such that any text that finishes it does
+-- the outcome of a request is a text that meets `wanted`, or a response to be signed, such that any text that finishes it does; it is not `later`
 abbrev pub Meets : {T : Type 0} → (T → List ℕ → Type 0) → (List ℕ → Type 0) → Outcome T → Type 0
 Meets finishes wanted (said text) = wanted text
 Meets finishes wanted (pending ticket) = (text : List ℕ) → finishes ticket text → wanted text

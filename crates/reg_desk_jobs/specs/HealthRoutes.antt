@@ -1,4 +1,4 @@
--- What an open register reports on itself, on the routes `/health` and `/metrics`.
+-- What an open desk reports on itself, on the routes `/health` and `/metrics`.
 use Rattle.std.specs.Prelude.{◌≡◌, ◌⊎◌, ◌↔◌, ℕ, Bool, true, false, cond, List, codes, bytes_eq, Some, None, Result, Ok, Err, IsTrue, MatchBool, option_map}
 use Rattle.std.specs.declared.option.Option.{Option}
 use Rattle.reg_core.specs.Crls.{latest}
@@ -42,7 +42,7 @@ Has query kind records now (Ok it) = answer records now query ≡ Ok (kind it)
 Has query kind records now (Err (Refused refusal)) = answer records now query ≡ Err refusal
 Has query kind records now (Err other) = Unit {0}
 
--- how many requests are overdue
+-- how many requests are overdue, by the reply to `overdue`
 abbrev pub overdue_count : Option Overdue → ℕ
 overdue_count (Some overdue) = overdue.count
 overdue_count None = 0
@@ -68,7 +68,7 @@ IsUnsigned crl is_unsigned =
 abbrev pub IsReadIn : Crl → ReadCrl → Type 0
 IsReadIn crl read = (read.number ≡ crl.number) × IsUnsigned crl.bytes read.is_unsigned
 
--- the same for the latest CRL, which has this number
+-- the same for the latest CRL, if it has this number
 abbrev pub IsReadAt : Records → ℕ → ReadCrl → Type 0
 IsReadAt records number read =
     (crl : Crl) → latest records.crls ≡ Some crl → number ≡ crl.number → IsReadIn crl read
@@ -96,13 +96,13 @@ HasDue tally records now (Ok due) = (asked : Option ℕ) × (read : Option ReadC
 HasDue tally records now (Err (Refused refusal)) = answer records now AskNextCrl ≡ Err refusal
 HasDue tally records now (Err other) = Unit {0}
 
--- the tally keeps the number and signing of the latest CRL, or does not change
+-- the tally keeps the number of the latest CRL and whether it is unsigned, or does not change
 abbrev pub KeepsRead : Tally → Records → Tally → Type 0
 KeepsRead tally records tally' =
     (tally' ≡ tally)
     ⊎ ((read : ReadCrl) × IsLatestRead tally records (Some read) × (tally' ≡ with_read read tally))
 
--- why the next CRL is due at once: the latest one has no signature
+-- the next CRL is due at once because the latest one has no signature; without a reason, the latest one does not change when it is due
 abbrev pub IsDueUnsigned : Tally → Records → Option Reason → Type 0
 IsDueUnsigned tally records (Some (Unsigned number)) =
     (read : ReadCrl) × IsLatestRead tally records (Some read) × IsTrue read.is_unsigned
@@ -128,19 +128,21 @@ HasRequests records now (Ok requests) =
     × HasOverdue records now (Ok requests.overdue)
 HasRequests records now (Err fault) = Unit {0}
 
--- the requests for revocation were counted anew, or the old count stays
+-- the requests for revocation were counted anew, or the tally stays
 abbrev pub Recounts : Records → ℕ → Tally → Tally → Type 0
 Recounts records now tally tally' =
     (tally' ≡ tally)
     ⊎ ((requests : Requests) × HasRequests records now (Ok requests) × (tally' ≡ with_counted requests tally))
 
--- the requests for revocation were counted anew, and a CRL was read, or not: the rest of the tally stays
+-- requests for revocation were counted anew, or not: the rest of the tally stays
 abbrev pub IsCounted : Tally → Tally → Type 0
 IsCounted tally tally' = (tally' ≡ tally) ⊎ ((requests : Requests) × (tally' ≡ with_counted requests tally))
 
+-- a CRL was read, or not: the rest of the tally stays
 abbrev pub IsCrlRead : Tally → Tally → Type 0
 IsCrlRead tally tally' = (tally' ≡ tally) ⊎ ((read : ReadCrl) × (tally' ≡ with_read read tally))
 
+-- the requests for revocation were counted anew or not, and then a CRL was read or not
 abbrev pub IsRecounted : Tally → Tally → Type 0
 IsRecounted tally tally' =
     (tally' ≡ tally) ⊎ ((counted : Tally) × IsCounted tally counted × IsCrlRead counted tally')
@@ -151,7 +153,7 @@ IsRecounted tally tally' =
 abbrev pub health_status : Bool → ℕ
 health_status is_well = cond is_well 200 503
 
--- the answer with the health: the body names what is not well
+-- the answer with the health: its status, and its text as JSON
 abbrev pub health_response : HealthOf → Response
 health_response health = json (health_status (is_well health)) (health_text health)
 
@@ -164,19 +166,19 @@ metrics_response text = record {
   body = text;
 }
 
--- these routes allow only GET (RFC 9110 15.5.6)
+-- GET has this answer; any other method is answered with 405 (RFC 9110 15.5.6)
 abbrev pub ByGet : List ℕ → (AnswerEffects → Type 0) → AnswerEffects → Type 0
 ByGet method Says it =
     MatchBool (bytes_eq method (codes "GET")) (Says it) (it ≡ plain (method_not_allowed (codes "GET")))
 
--- the health: from the register's numbers at a moment, the tally, and the moment that the operator accepted
+-- the health: from the register's numbers at a moment, some tally, and the moment that the operator accepted
 abbrev pub AnswersHealth : Option ℕ → ℕ → Records → AnswerEffects → Type 0
 AnswersHealth accepted now records it =
     (tally : Tally) × (found : Result Numbers Fault) × HasFound tally records now found
     × ((tally' : Tally)
     × (it ≡ plain (health_response (health_of now found tally' accepted))))
 
--- the metrics: from the register's numbers at a moment, the tally, and the totals of connections
+-- the metrics: from the register's numbers at a moment, some tally, and some totals of connections
 abbrev pub AnswersMetrics : ℕ → Records → AnswerEffects → Type 0
 AnswersMetrics now records it =
     (tally : Tally) × (found : Result Numbers Fault) × HasFound tally records now found

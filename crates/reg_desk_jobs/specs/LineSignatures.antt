@@ -8,7 +8,7 @@ use Rattle.reg_desk_jobs.specs.declared.deferred_commands.LineSignature.{LineSig
 use Rattle.reg_desk_jobs.specs.declared.deferred_commands.SignatureKind.{SignatureKind}
 use Rattle.reg_desk_jobs.specs.declared.deferred_commands.SignatureKind.TheVariants.{Crl, Answer}
 
--- the path of the signer's socket, if there is a signer
+-- the path of the socket of the signer of CRLs or of that of OCSP responses, if there is one
 abbrev pub socket_for : Option SignerAddress → ResponderChoice → SignatureKind → Option (List ℕ)
 socket_for signer responder Crl = crl_socket signer
 socket_for signer responder Answer = answer_socket signer responder
@@ -20,7 +20,7 @@ abbrev pub AnsweredBySigner
 AnsweredBySigner signer_answered signer responder wanted =
     AnsweredAtPath signer_answered (socket_for signer responder wanted)
 
--- the line is answered at a moment of the clock, with a signature of the message that the signer gave, or with none
+-- the clock has reached the moment, and the answer, if there is one, is the signer's to the message
 pub record IsLineSignature (signer_answered : List ℕ → List ℕ → Type 0) (clock_reached : ℕ → Type 0)
     (known : LineSignature) : Type 0 where
   pub line_added : clock_reached known.moment

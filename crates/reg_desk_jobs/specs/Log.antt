@@ -1,4 +1,4 @@
--- The lines of the log: one line for each exchange, whatever bytes came.
+-- The lines of the log: for an exchange, whatever bytes it has, and for a connection that ended by a fault.
 use Rattle.std.specs.Prelude.{ℕ, Bool, cond, not, ◌||◌, ◌&&◌, List, [], ◌∷◌, ◌++◌, ◌+◌, ◌/◌, ◌%◌, ◌==◌, nat_le, nat_lt, take, length, codes, decimal, Option, Some, None}
 use Rattle.std.specs.List.{flat_map, position}
 use Rattle.std.specs.Option.{option_map_or}
@@ -11,7 +11,7 @@ use Rattle.reg_http.specs.RouteNames.{before}
 abbrev pub is_plain : ℕ → Bool
 is_plain byte = not (byte == 34) && (not (byte == 92) && (nat_le 32 byte && nat_lt byte 127))
 
--- a hexadecimal digit, in lower case
+-- the hexadecimal digit, in lower case, of a number below 16
 abbrev pub digit : ℕ → ℕ
 digit number = cond (nat_lt number 10) (48 + number) (87 + number)
 
@@ -23,27 +23,27 @@ quoted_byte byte = cond (is_plain byte) (byte ∷ []) (92 ∷ 120 ∷ digit (byt
 abbrev pub ends_line : ℕ → Bool
 ends_line byte = (byte == 13) || (byte == 10)
 
--- the first line of a text
+-- the text before the first byte that ends a line, or all of it
 abbrev pub first_line : List ℕ → List ℕ
 first_line text = before (position ends_line text) text
 
--- how a text is logged: the first 256 bytes of its first line, in quotation marks
+-- how a text is logged: in quotation marks, the first 256 bytes of its first line, each as `quoted_byte` has it
 abbrev pub quoted_text : List ℕ → List ℕ
 quoted_text text = 34 ∷ flat_map quoted_byte (take 256 (first_line text)) ++ (34 ∷ [])
 
--- the end of the line of an exchange whose signature failed
+-- the end of the line of an exchange: a space and `signer` if a signature failed, else nothing
 abbrev pub unsigned_end : Bool → List ℕ
 unsigned_end signature_failed = cond signature_failed (codes " signer") []
 
--- how the line of an exchange names a request that was entered or decided: by its number and serial number, and its ground if it was entered
+-- the part of the line of an exchange that names a request, if there is one: `request`, its number, its serial number and, if it is named, its ground
 abbrev pub named_end : Option LoggedRequest → List ℕ
 named_end None = []
 named_end (Some named) =
     codes " request" ++ (32 ∷ decimal named.id) ++ (32 ∷ serial_text named.serial)
     ++ option_map_or (λ word. 32 ∷ word) named.ground []
 
--- the line of an exchange, without its LF: the moment, the client, the request and the answer, the bytes of the answer, the microseconds that it
--- took, the request for revocation that it entered or decided, and whether a signature failed
+-- the line of an exchange, without its LF: the moment, the client, the request and the answer as `quoted_text`, the length of the answer, the
+-- microseconds, the named request for revocation, and whether a signature failed
 abbrev pub exchange_line : ℕ → List ℕ → List ℕ → List ℕ → ℕ → Option LoggedRequest → Bool → List ℕ
 exchange_line now client asked answered micros named signature_failed =
     moment_text now ++ (32 ∷ client) ++ (32 ∷ quoted_text asked) ++ (32 ∷ quoted_text answered)

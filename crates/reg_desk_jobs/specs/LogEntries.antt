@@ -14,7 +14,7 @@ use Rattle.reg_desk_jobs.specs.declared.log_entries.LogMeaning.{LogMeaning}
 use Rattle.reg_desk_jobs.specs.declared.log_entries.LogMeaning.TheVariants.{Nothing, Unknown, Command}
 use Rattle.reg_desk_jobs.specs.declared.log_entries.ExchangeText.{ExchangeText}
 
--- a quotation mark; the log escapes those in a text
+-- whether a byte is a quotation mark; the log escapes those in a text
 abbrev pub is_quote : ℕ → Bool
 is_quote byte = byte == 34
 
@@ -40,7 +40,7 @@ exchange_of logged_exchange = record {
   behind = logged_exchange.behind.now;
 }
 
--- the exchange of a line of the log: the request and the answer stand in quotation marks
+-- the exchange of a line of the log: four of its parts, which its first four quotation marks separate; none if there are fewer
 unfoldable pub exchange_in : List ℕ → Option LoggedExchange
 exchange_in line = do
   client ← split_at_quote line
@@ -49,21 +49,22 @@ exchange_in line = do
   answered ← split_at_quote between.1
   Some (record { client = client.0; asked = asked.0; answered = answered.0; behind = answered.1 })
 
--- the first and the second word of a text; spaces separate words
+-- the first word of a text, of those that spaces separate; empty if there is none
 abbrev pub first_word : List ℕ → List ℕ
 first_word text = get_or (fields_of text) 0 []
 
+-- the second one
 abbrev pub second_word : List ℕ → List ℕ
 second_word text = get_or (fields_of text) 1 []
 
--- the number and serial number of a request that was decided
+-- the decision of a request with this number and serial number
 unfoldable pub decision_by : List ℕ → List ℕ → Option Entry
 decision_by number digits = do
   id ← number_of number
   serial ← serial_of digits
   Some (Decision id serial)
 
--- the same for one that was entered, with its ground
+-- the entered request with this number, serial number and ground
 unfoldable pub request_by : List ℕ → List ℕ → List ℕ → Option Entry
 request_by number digits word = do
   id ← number_of number
@@ -71,7 +72,7 @@ request_by number digits word = do
   name ← label_of word
   Some (Request id serial name)
 
--- the request that fields name
+-- the entry in the fields after `request`: two fields name a decided request, three an entered one
 unfoldable pub request_named : List (List ℕ) → Option Entry
 request_named [] = None
 request_named (number ∷ []) = None
@@ -79,7 +80,7 @@ request_named (number ∷ digits ∷ []) = decision_by number digits
 request_named (number ∷ digits ∷ word ∷ []) = request_by number digits word
 request_named (number ∷ digits ∷ word ∷ more ∷ rest) = None
 
--- the entry for the fields after the answer, of which a space makes the first one empty: bytes, microseconds, and a request; `None` if they name none
+-- the meaning of the fields after the answer, the first of which is empty: bytes, microseconds, `request` and the request; `None` if they name none
 unfoldable pub named_in : List (List ℕ) → Option LogMeaning
 named_in [] = None
 named_in (empty ∷ []) = None
@@ -89,36 +90,37 @@ named_in (empty ∷ bytes ∷ micros ∷ word ∷ rest) =
     if bytes_eq word (codes "request") then Some (option_map_or Command (request_named rest) Unknown)
     else None
 
--- the words of lines that change the register: those whose request the log names, and the others
+-- whether a word is that of a line that enters or decides a request; the log names that request
 abbrev pub is_of_request : List ℕ → Bool
 is_of_request word =
     bytes_eq word (codes "request") || bytes_eq word (codes "revoke") || bytes_eq word (codes "decline")
 
+-- whether a word is that of another line that changes the register
 abbrev pub enters : List ℕ → Bool
 enters word =
     bytes_eq word (codes "subscriber") || bytes_eq word (codes "order") || bytes_eq word (codes "register")
     || bytes_eq word (codes "crl")
     || bytes_eq word (codes "schedule")
 
--- the log has all bytes of a text unchanged: it was not cut off (it keeps 256 bytes), and no byte was escaped with a backslash
+-- a logged text has less than 256 bytes, so it was not cut off, and no backslash, so no byte was escaped
 abbrev pub is_whole : List ℕ → Bool
 is_whole text = nat_lt (length text) 256 && not (list_any (λ byte. byte == 92) text)
 
--- a reply was accepted: it begins neither with E or F, like a refusal or a fault, nor with b, like `bad-policy` and `bad-clock`
+-- a reply shows acceptance: it is not empty, and begins neither with E or F, like a refusal or a fault, nor with b, like `bad-policy` and `bad-clock`
 abbrev pub accepted : List ℕ → Bool
 accepted [] = false
 accepted (first ∷ rest) = not (first == 69) && (not (first == 70) && not (first == 98))
 
--- the log's names of the control socket: older desks wrote the second one
+-- whether a client is the control socket: `control`, or `counter`, which older desks wrote
 abbrev pub is_control : List ℕ → Bool
 is_control client = bytes_eq client (codes "control") || bytes_eq client (codes "counter")
 
--- a line at the control socket was accepted
+-- the client is the control socket, and the reply shows acceptance
 abbrev pub was_accepted : LoggedExchange → Bool
 was_accepted logged_exchange =
     is_control (second_word logged_exchange.client) && accepted logged_exchange.answered
 
--- the entry for an exchange that names no request: it has a command only if it was at the control socket
+-- the meaning of an exchange that names no request: a command only if the control socket accepted it, it changes the register, and it is whole
 unfoldable pub unnamed : LoggedExchange → LogMeaning
 unnamed logged_exchange =
     if not (was_accepted logged_exchange) then Nothing
@@ -127,23 +129,25 @@ unnamed logged_exchange =
     else if is_whole logged_exchange.asked then Command Line
     else Unknown
 
--- the meaning of a logged exchange; one with another quotation mark is made of two lines, of which the first was not written whole
+-- the meaning of a logged exchange: `Unknown` if a quotation mark follows (of two lines, the first not whole); else by `named_in` or `unnamed`
 unfoldable pub logged_of : LoggedExchange → LogMeaning
 logged_of logged_exchange =
     if has_quote logged_exchange.behind then Unknown
     else unwrap_or (named_in (fields_of logged_exchange.behind)) (unnamed logged_exchange)
 
--- a line of the log has no accepted command; or only a part of one; or one, with its exchange
+-- a line of the log has no quotation mark, or it has an exchange that means `Nothing`
 abbrev pub LogsNothing : List ℕ → Type 0
 LogsNothing line = ((exchange_in (line_of line) ≡ None) × IsFalse (has_quote (line_of line)))
     ⊎ ((logged_exchange : LoggedExchange) × (exchange_in (line_of line) ≡ Some logged_exchange)
     × (logged_of logged_exchange ≡ Nothing))
 
+-- a line of the log has a quotation mark but no exchange, or an exchange that means `Unknown`
 abbrev pub LogsPart : List ℕ → Type 0
 LogsPart line = ((exchange_in (line_of line) ≡ None) × IsTrue (has_quote (line_of line)))
     ⊎ ((logged_exchange : LoggedExchange) × (exchange_in (line_of line) ≡ Some logged_exchange)
     × (logged_of logged_exchange ≡ Unknown))
 
+-- a line of the log has this exchange, which means this command
 abbrev pub LogsEntry : List ℕ → LoggedExchange → Entry → Type 0
 LogsEntry line logged_exchange entry =
     (exchange_in (line_of line) ≡ Some logged_exchange) × (logged_of logged_exchange ≡ Command entry)

@@ -22,15 +22,15 @@ Decides line id =
     ⊎ (LineMeans (line_of line) (means_command (Revoke id))
     ⊎ LineMeans (line_of line) (means_command (Decline id)))
 
--- a request that a line decides is named by its number, and by its serial number in the records
+-- a line decides the named request; the records have it, with the named serial number; no ground is named
 abbrev pub NamesDecided : Records → List ℕ → LoggedRequest → Type 0
 NamesDecided records line named =
     Decides line named.id
     × IsSomeAnd (request_in records.requests named.id) (λ request. request.serial ≡ named.serial)
     × (named.ground ≡ None)
 
--- the request of an accepted command is named: one that was entered by its number, serial number and ground; one that was decided as it was
--- looked up before; other commands have none
+-- the request that is named for an accepted command: one that was entered, by the reply's number and the command's serial number and ground; one
+-- that was decided, as it was looked up before, or none; for another command none
 abbrev pub NamesAccepted : Command → Reply → Option LoggedRequest → Option LoggedRequest → Type 0
 NamesAccepted (Request serial word) (replied.Request id due) before named =
     IsSomeAnd named (λ it. (it.id ≡ id) × (it.serial ≡ serial) × (it.ground ≡ Some word))
@@ -38,7 +38,7 @@ NamesAccepted (Revoke request) reply before named = named ≡ before
 NamesAccepted (Decline request) reply before named = named ≡ before
 NamesAccepted other reply before named = named ≡ None
 
--- the request that is named for the result of a line
+-- the request that is named for the result of a line: that of an accepted command; for another result none
 abbrev pub NamesRequest : LineOutcome → Option LoggedRequest → Option LoggedRequest → Type 0
 NamesRequest (Completed (asked.Command command) (Ok reply)) before named =
     NamesAccepted command reply before named

@@ -19,12 +19,12 @@ abbrev pub latest_number : Option CrlRow → ℕ
 latest_number None = 0
 latest_number (Some crl) = crl.number
 
--- the line for a published CRL with a higher number
+-- the line for a published CRL with a higher number than the latest CRL; nothing for another number
 abbrev pub missing_crl : Option CrlRow → ℕ → List ℕ
 missing_crl latest number =
     cond (nat_lt (latest_number latest) number) (codes "missing crl " ++ decimal number ++ 10 ∷ []) []
 
--- the line for a listed serial number that is not revoked
+-- the line for a listed serial number that is not revoked; nothing if it is
 abbrev pub missing_revocation : Bool → ℕ → List ℕ
 missing_revocation is_revoked serial =
     cond is_revoked [] (codes "missing revocation " ++ serial_text serial ++ 10 ∷ [])
@@ -33,19 +33,19 @@ missing_revocation is_revoked serial =
 abbrev pub missing_at : Records → ℕ → ℕ → List ℕ
 missing_at records moment serial = missing_revocation (is_revoked (status records serial moment)) serial
 
--- a line for each item of a published CRL that the records lack at their last moment
+-- a line for each item of a published CRL that the records lack at their last moment, the last accepted one
 abbrev pub missing_text : Records → ℕ → List ℕ → List ℕ
 missing_text records number serials =
     missing_crl (option_map row_of (latest records.crls)) number
     ++ flat_map (missing_at records records.last) serials
 
--- nothing is found, because this is no CRL, or because of a fault
+-- why nothing is found: `NotACrl`, and `NoCrl` holds; or any fault
 abbrev pub FindsNothing : Type 0 → Failure → Type 0
 FindsNothing NoCrl failure.NotACrl = NoCrl
 FindsNothing NoCrl (failure.Fault why) = Unit {0}
 FindsNothing NoCrl other = ⊥
 
--- the lines for the serial numbers of entries were added
+-- the lines for the missing serial numbers of entries were appended; or nothing was found, such as if the bytes are not entries
 abbrev pub AppendsMissing : Records → ℕ → List ℕ → List ℕ → List ℕ → Result (Unit {0}) Failure → Type 0
 AppendsMissing records moment entries old new (Ok done) =
     (serials : List ℕ) × AreEntries entries serials []
@@ -53,7 +53,7 @@ AppendsMissing records moment entries old new (Ok done) =
 AppendsMissing records moment entries old new (Err why) =
     FindsNothing ((serials : List ℕ) → ¬ AreEntries entries serials []) why
 
--- the lines for the items of the CRL in these bytes that the records lack
+-- the lines for the items of the CRL in these bytes that the records lack; or nothing was found, such as if the bytes are no CRL
 abbrev pub FindsMissing : Records → List ℕ → Result (List ℕ) Failure → Type 0
 FindsMissing records bytes (Ok lines) =
     (number : ℕ) × (serials : List ℕ) × IsCrlWith bytes number serials
@@ -65,7 +65,7 @@ FindsMissing records bytes (Err why) =
 abbrev pub FindsIn : Records → Option (List ℕ) → Result (List ℕ) Failure → Type 0
 FindsIn records input found = (bytes : List ℕ) × IsInput input bytes × FindsMissing records bytes found
 
--- the records have all of the CRL in an input: a latest CRL with its number or a higher one, and each serial number that it lists is revoked
+-- the records have all of the CRL in an input: a latest CRL with its number or a higher one; each serial number in it is revoked at `records.last`
 abbrev pub HasAll : Records → Option (List ℕ) → Type 0
 HasAll records input =
     (bytes : List ℕ) × (number : ℕ) × (serials : List ℕ) × IsInput input bytes
@@ -73,8 +73,8 @@ HasAll records input =
     × (number ≤ latest_number (option_map row_of (latest records.crls)))
     × AllByRecursion (λ serial. IsTrue (is_revoked (status records serial records.last))) serials
 
--- nothing is missing, and nothing is written; or what is missing is written, and the job fails with `LacksPublished`; or a prefix of that, if the
--- writer fails; or nothing was found
+-- no line was found, and nothing is written; or the lines are written, and the job fails with `LacksPublished`; or a prefix of them, and it fails
+-- with `Write`; or nothing could be compared, nothing is written, and the job fails for that reason
 abbrev pub ReportsMissing
     : Option (List ℕ) → Option (List ℕ) → Result (List ℕ) Failure → Result (Unit {0}) Failure → Type 0
 ReportsMissing out out' (Ok []) result = (result ≡ Ok tt) × (out' ≡ out)

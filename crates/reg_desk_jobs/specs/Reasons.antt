@@ -1,4 +1,4 @@
--- Why a command was refused, as the reply to `why` has it.
+-- The text of a reason, as the reply to `why` and `--why` have it.
 use Rattle.std.specs.Prelude.{◌≡◌, ℕ, ◌+◌, ◌-◌, ◌*◌, List, [], ◌∷◌, ◌++◌, codes, decimal, Option, Some, None}
 use Rattle.reg_core.specs.Calendar.{moment_text}
 use Rattle.reg_core.specs.Serial.{serial_text}
@@ -6,7 +6,7 @@ use Rattle.reg_desk_jobs.specs.declared.reasons.Reason.{Reason}
 use Rattle.reg_desk_jobs.specs.declared.reasons.Reason.TheVariants.{NoOrder, Filled, Latest, OtherSerial, ClockAhead, Unsigned, Wrong}
 use Rattle.reg_desk_jobs.specs.Syntax.{wrong_text}
 
--- the reply to `why`: the kept reason, or that there is none
+-- the reply to `why`: the word, and the kept reason or `nothing`
 unfoldable pub kept_reason_text : List ℕ → List ℕ
 kept_reason_text [] = codes "why nothing\n"
 kept_reason_text (first ∷ rest) = codes "why " ++ first ∷ rest
@@ -23,11 +23,11 @@ latest_text at = codes "notAfter at most " ++ moment_text at
 unfoldable pub ahead_text : ℕ → List ℕ
 ahead_text last = codes "the clock is more than 30 days past " ++ moment_text last
 
--- a reason with the number of an order or a CRL
+-- a text with a number, such as that of an order or a CRL
 abbrev pub order_text : List ℕ → ℕ → List ℕ → List ℕ
 order_text prefix order end = prefix ++ decimal order ++ end
 
--- the reason if a request is for another serial number
+-- the reason if a request is for another serial number than the line's: that number
 abbrev pub other_text : ℕ → ℕ → List ℕ
 other_text request serial = codes "request " ++ decimal request ++ codes " is for " ++ serial_text serial
 
@@ -42,7 +42,7 @@ reason_text (Wrong wrong) = wrong_text wrong
 reason_text (Unsigned number) =
     order_text (codes "CRL ") number (codes " has a placeholder digest: the next one is due at once")
 
--- a prefix, the text of a reason, and an LF
+-- the line is a prefix, the text of a reason, and an LF; without a reason there is no line
 abbrev pub IsReasonLine : List ℕ → Option Reason → List ℕ → Type 0
 IsReasonLine prefix (Some reason) line = line ≡ prefix ++ reason_text reason ++ 10 ∷ []
 IsReasonLine prefix None line = ⊥

@@ -18,7 +18,7 @@ IsOpenFailure failure.BadSigner = Unit {0}
 IsOpenFailure failure.BadResponder = Unit {0}
 IsOpenFailure other = ⊥
 
--- of a file that is looked at or copied: such a fault, or a file that holds no register
+-- to check or copy a file: such a fault, or a file that holds no register
 abbrev pub IsReadFailure : Failure → Type 0
 IsReadFailure (failure.Fault fault) = IsOfStore fault
 IsReadFailure failure.NotARegister = Unit {0}

@@ -49,13 +49,13 @@ module _ {M O D S R : Type 0} (machines : Machine M O D S R) (offices : Office O
     pub closed : machines.closed between path register machine'
 
 module _ {M O D S R : Type 0} (machines : Machine M O D S R) (machine machine' : M) where
-  -- the register at a path could not be opened, and that is how the job ends
+  -- the register at a path could not be opened, and the job ends with that failure
   abbrev pub NotOpened : List ℕ → Signing → Result (Unit {0}) Failure → Type 0
   NotOpened path signing result =
       (why : Failure) × (result ≡ Err why) × Unopened machines machine path signing why machine'
       × IsOpenFailure why
 
-  -- no register could be created at a path, and that is how the job ends
+  -- no register could be created at a path, and the job ends with that failure
   abbrev pub NotCreatedAt : List ℕ → Result (Unit {0}) Failure → Type 0
   NotCreatedAt path result =
       (why : Failure) × (result ≡ Err why) × NotCreated machines machine path why machine'

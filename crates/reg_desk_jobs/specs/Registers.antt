@@ -19,21 +19,21 @@ module _ {M O D S R : Type 0} (machines : Machine M O D S R) (machine : M) (path
     pub connects : Connects database machine'
     pub opened : machines.opened database signing.0 responder office
 
-  -- It was not opened, for this reason: a certificate, which is read first, could not be used; the files at the path could not be read, or not
-  -- be opened as a database; or the database has no register for which these signers may sign.
+  -- The register was not opened, for this reason: a certificate, which is read first, could not be used; the files at the path could not be read, or
+  -- not be opened as a database; or the database has no register for which these signers may sign.
   abbrev pub Unopened : Signing → Failure → M → Type 0
   Unopened signing why machine' =
       ((HasCertificate signing.1 ⊎ machines.read_failed machine path why) × (machine' ≡ machine))
       ⊎ (machines.connect_failed machine path why machine' ⊎ ((database : D) × Connects database machine'))
 
-  -- A register was created in a file at a path: it is this office.
+  -- A register was created in a file at a path, and this is the office over it.
   pub record Created (office : O) (machine' : M) : Type 0 where
     pub database : D
     pub taken : machines.taken machine path
     pub connects : Connects database machine'
     pub made : machines.made database office
 
-  -- None was created, for this reason: there is no file at the path, the file could not be opened as a database, or no register could be
+  -- No register was created, for this reason: there is no file at the path, the file could not be opened as a database, or no register could be
   -- created in it.
   abbrev pub NotCreated : Failure → M → Type 0
   NotCreated why machine' =
@@ -46,6 +46,6 @@ module _ {M O D S R : Type 0} (machines : Machine M O D S R) (machine : M) (path
     pub read : machines.read machine path sources
     pub audited : machines.audited sources audit_result
 
-  -- It was not audited, for this reason: the files at the path, or the database in them, could not be read.
+  -- The register was not audited, for this reason: the files at the path, or the database in them, could not be read.
   abbrev pub Unaudited : Failure → Type 0
   Unaudited why = machines.read_failed machine path why ⊎ ((sources : S) × machines.read machine path sources)

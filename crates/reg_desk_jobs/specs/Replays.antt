@@ -22,8 +22,8 @@ abbrev pub number_now : List Renumbered → ℕ → ℕ
 number_now numbers logged =
     fold (λ number one. if one.logged == logged then one.given else number) logged numbers
 
--- the text that is sent: the logged line; a request with its serial number and ground; a decision with its word, the number that the request has now, and
--- its serial number
+-- the text that is sent: the logged line; a request with its serial number and ground; a decision with its word, the number that the request has
+-- now, and its serial number
 abbrev pub text_to_send : List Renumbered → LoggedExchange → Entry → List ℕ
 text_to_send numbers logged_exchange Line = logged_exchange.asked
 text_to_send numbers logged_exchange (Request id serial name) =
@@ -35,7 +35,7 @@ abbrev pub line_to_send : List Renumbered → LoggedExchange → Entry → List 
 line_to_send numbers logged_exchange entry = text_to_send numbers logged_exchange entry ++ 10 ∷ []
 
 -- whether a reply agrees with that of the log: in its first two words; for a decision, which may be late now, in the first one; for a request, which
--- may have come over HTTP, it must say that it was entered
+-- may have come over HTTP, its first word is `request`
 abbrev pub agrees : LoggedExchange → Entry → List ℕ → Bool
 agrees logged_exchange Line reply =
     bytes_eq (first_word reply) (first_word logged_exchange.answered)
@@ -44,7 +44,7 @@ agrees logged_exchange (Request id serial name) reply = bytes_eq (first_word rep
 agrees logged_exchange (Decision id serial) reply =
     bytes_eq (first_word reply) (first_word logged_exchange.answered)
 
--- the number that a reply gives to a request
+-- the number that a reply gives to an entered request, with its number in the log; none for another entry, or if the reply has no number
 abbrev pub renumbered : Entry → List ℕ → List Renumbered
 renumbered Line reply = []
 renumbered (Request id serial name) reply =
@@ -53,7 +53,7 @@ renumbered (Decision id serial) reply = []
 
 -- ---- a replay
 
--- the line of the log at which a replay stops is written
+-- a replay stops: with `Refused` after this line of the log was written, or with a fault
 abbrev pub StopsWith : Option (List ℕ) → List ℕ → Option (List ℕ) → Result (Unit {0}) Failure → Type 0
 StopsWith out line out' (Ok done) = ⊥
 StopsWith out line out' (Err why) =
@@ -100,7 +100,7 @@ LineReplayed s line t =
     ⊎ ((logged_exchange : LoggedExchange) × (entry : Entry) × LogsEntry line logged_exchange entry
     × ReplyAgrees s logged_exchange entry t)
 
--- a replay stops at a line of the log, which is written: it has only a part of a command, and nothing is sent; or the reply differs
+-- a replay stops at a line of the log, which is written: it names a command only in part, and nothing is sent; or the reply differs
 abbrev pub LineStops : ReplayState → List ℕ → ReplayState → Type 0
 LineStops s line t =
     (LogsPart line × (t.sent ≡ s.sent) × (t.incoming ≡ s.incoming) × Appends s.out t.out line)
@@ -124,7 +124,7 @@ Stops s left t why =
     × LineStops s line t)
     ⊎ ((why ≡ failure.NoLineEnd) × IsCutOff left × (t ≡ s))
 
--- a log is replayed: each of its lines; or those before the one at which it stops. After a fault, nothing is stated about how far it got
+-- a log is replayed: each of its lines; or those before the one at which it stops. After a fault, nothing is stated about how far the job got
 abbrev pub ReplaysLog : Option (List ℕ) → ReplayState → ReplayState → Result (Unit {0}) Failure → Type 0
 ReplaysLog input s t (Ok done) =
     (log : List (List ℕ)) × AreWhole log × IsInput input (concat log) × Replayed s log t
@@ -141,7 +141,7 @@ Replays input sent sent' incoming incoming' out out' result =
     (numbers : List Renumbered)
     × ReplaysLog input (state_of sent incoming out []) (state_of sent' incoming' out' numbers) result
 
--- over a connection about which nothing else is known: it ended early with nothing written, or as `Replays` states
+-- over a connection about which nothing else is known: the job failed with nothing written, or as `Replays` states
 abbrev pub ReplaysOver
     : Option (List ℕ) → Option (List ℕ) → Option (List ℕ) → Result (Unit {0}) Failure → Type 0
 ReplaysOver input out out' result =
@@ -149,7 +149,7 @@ ReplaysOver input out out' result =
     ⊎ ((sent sent' incoming incoming' : Option (List ℕ))
     × Replays input sent sent' incoming incoming' out out' result)
 
--- at the control socket at a path: no program listened there, or the log was replayed to the one that did
+-- at a control socket: the job failed with `Read` and nothing written; or the program connected (`met`), as `ReplaysOver` states
 abbrev pub ReplaysAt
     : Type 0 → Option (List ℕ) → Option (List ℕ) → Option (List ℕ) → Result (Unit {0}) Failure → Type 0
 ReplaysAt met input out out' result =

@@ -27,7 +27,7 @@ abbrev pub ready_of : Result Answered NoMemory → Result (ReadyOrUnsigned Answe
 ready_of (Ok answered) = Ok (Ready answered)
 ready_of (Err memory) = Err memory
 
--- only the register leaves a response to be signed, also for a request that an open desk first compares with its limits
+-- only the register may leave a response to be signed, also for a request that an open desk first compares with its limits
 abbrev pub MayNeedSignature : Dispatch → Type 0
 MayNeedSignature ToRegister = Unit {0}
 MayNeedSignature ToLimits = Unit {0}

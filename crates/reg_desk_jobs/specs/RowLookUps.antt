@@ -1,4 +1,4 @@
--- What the control socket shows: rows of the register, and its words.
+-- The replies to `show` and `help` at the control socket: a row of the register, and the lines that the socket takes.
 use Rattle.std.specs.Prelude.{◌≡◌, ℕ, Bool, false, ◌==◌, List, [], ◌∷◌, ◌++◌, bytes_eq, codes, option_and_then, option_map, Option, Some, None, Result, Ok, Err, IfOk}
 use Rattle.reg_core.specs.Checks.{clock_checks, first_refusal}
 use Rattle.reg_core.specs.Lines.{fault_line}
@@ -33,7 +33,7 @@ row_with_key records now (Certificate serial) =
 row_with_key records now (Subscriber name) =
     option_map (λ row. kind.Subscriber row) (subscriber_named records.subscribers name)
 
--- the refusal if there is none
+-- the refusal if there is no such row
 abbrev pub refusal_of : RowKey → Refusal
 refusal_of (Request id) = NoRequest
 refusal_of (Certificate serial) = UnknownSerial
@@ -48,30 +48,30 @@ FailsAt records now Signer = ⊥
 FailsAt records now Read = ⊥
 FailsAt records now Write = ⊥
 
--- a look-up gives what the records have, if its moment is allowed; or it fails
+-- a look-up gives the known value, and its moment passes the checks of the clock; or it fails
 abbrev pub IsLookedUp : {A : Type 0} → Records → ℕ → A → Result A Fault → Type 0
 IsLookedUp records now known (Ok found) =
     (first_refusal (clock_checks now records.last) ≡ None) × (found ≡ known)
 IsLookedUp records now known (Err why) = FailsAt records now why
 
--- the same over sound records
+-- the same, and if the look-up gives a value, the records are sound
 abbrev pub IsSoundLookUp : {A : Type 0} → Records → ℕ → A → Result A Fault → Type 0
 IsSoundLookUp records now known result =
     IfOk result (λ found. SoundRows records) × IsLookedUp records now known result
 
--- the reply to a look-up: the row in the form of `list --json`, that there is none, or why it failed
+-- the reply to a look-up: the row in the form of `list --json`, the refusal if there is none, or the fault
 abbrev pub found_text : RowKey → Result (Option Row) Fault → List ℕ
 found_text shown (Ok (Some row)) = row_text Json row
 found_text shown (Ok None) = fault_line (Refused (refusal_of shown)) ++ 10 ∷ []
 found_text shown (Err why) = fault_line why ++ 10 ∷ []
 
--- the reply to `show`
+-- the reply to `show`, or an empty one
 abbrev pub AnswersShow : Records → ℕ → RowKey → List ℕ → Type 0
 AnswersShow records now shown text =
     (found : Result (Option Row) Fault) × IsLookedUp records now (row_with_key records now shown) found
     × IsReplyText (found_text shown found) text
 
--- the words of the control socket, in one line
+-- the lines that the control socket takes, in one line without its LF
 unfoldable pub help_text : List ℕ
 help_text =
     codes "help: subscriber NAME | order SUBSCRIBER DAYS | register ORDER SERIAL NOTBEFORE NOTAFTER | request SERIAL GROUND | decline REQUEST [SERIAL] | revoke REQUEST [SERIAL] | crl | status SERIAL | counts | listing SERIAL | overdue | next-crl | ocsp HEX | show request REQUEST | show SERIAL | show subscriber NAME | why | accept-clock MOMENT | schedule MOMENT=DAYS .. | copy PATH | help"

@@ -21,12 +21,12 @@ use Rattle.reg_desk_jobs.specs.declared.row_job.RevocationRow.{RevocationRow}
 
 -- ---- a row
 
--- the header of a file
+-- the header of a file for a task
 abbrev pub header_of : RowTask → List ℕ
 header_of (Register terms) = codes "serial,notBefore,notAfter"
 header_of Revoke = codes "serial,ground"
 
--- a line that is no row: an empty line, or the header
+-- whether a text is no row: it is empty, or the header
 abbrev pub is_skipped : RowTask → List ℕ → Bool
 is_skipped task text = bytes_eq text [] || bytes_eq text (header_of task)
 
@@ -55,21 +55,24 @@ registration_row_in text = do
 
 -- ---- the lines that are sent for a row
 
--- the request of a row, and its revocation with the request's number from the reply
+-- the line that requests the revocation of a row's certificate
 abbrev pub row_request : RevocationRow → List ℕ
 row_request row = codes "request" ++ (32 ∷ serial_text row.serial) ++ (32 ∷ row.word) ++ 10 ∷ []
 
+-- the line that revokes it, with the second word of the reply, the request's number
 abbrev pub row_revocation : RevocationRow → List ℕ → List ℕ
 row_revocation row reply =
     codes "revoke" ++ (32 ∷ second_word (line_of reply)) ++ (32 ∷ serial_text row.serial) ++ 10 ∷ []
 
--- the query of a row's status, its order, and its registration with the order's number from the reply
+-- the line that asks for the status of a row's certificate
 abbrev pub row_status : RegistrationRow → List ℕ
 row_status row = codes "status" ++ (32 ∷ serial_text row.serial) ++ 10 ∷ []
 
+-- the line that enters an order
 abbrev pub row_order : OrderTerms → List ℕ
 row_order terms = codes "order" ++ (32 ∷ decimal terms.subscriber) ++ (32 ∷ decimal terms.days) ++ 10 ∷ []
 
+-- the line that registers a row's certificate, with the second word of the reply, the order's number
 abbrev pub row_registration : RegistrationRow → List ℕ → List ℕ
 row_registration row reply =
     codes "register" ++ (32 ∷ second_word (line_of reply)) ++ (32 ∷ serial_text row.serial)
@@ -92,29 +95,29 @@ Exchange = Link → Link → List ℕ → Type 0
 abbrev pub Sends : List ℕ → Exchange
 Sends line s t reply = Appends s.sent t.sent line × Consumes s.incoming t.incoming reply
 
--- whether a reply begins with a word
+-- whether the first word of a reply is this word
 abbrev pub has_first_word : List ℕ → List ℕ → Bool
 has_first_word reply word = bytes_eq (first_word (line_of reply)) word
 
--- a line is sent, and more if its reply begins with the word
+-- a line is sent; if the first word of its reply is this word, `Next` follows
 abbrev pub SendsThen : List ℕ → List ℕ → (List ℕ → Exchange) → Exchange
 SendsThen line word Next s t reply =
     (Sends line s t reply × IsFalse (has_first_word reply word))
     ⊎ ((m : Link) × (first : List ℕ) × Sends line s m first × IsTrue (has_first_word first word)
     × Next first m t reply)
 
--- a row's request, and its revocation if the request is entered; a line that is no row is sent as `request` alone
+-- a row's request, and its revocation if the first word of the reply is `request`; without a row, `request` alone
 abbrev pub RevokesRow : Option RevocationRow → Exchange
 RevokesRow None = Sends (codes "request\n")
 RevokesRow (Some row) =
     SendsThen (row_request row) (codes "request") (λ entered. Sends (row_revocation row entered))
 
--- a row's order, and its registration if the order is entered
+-- an order, and the row's registration if the first word of the reply is `order`
 abbrev pub OrdersRow : OrderTerms → RegistrationRow → Exchange
 OrdersRow terms row =
     SendsThen (row_order terms) (codes "order") (λ ordered. Sends (row_registration row ordered))
 
--- a row's status, and its order if no certificate has the serial number; a line that is no row is sent as `register` alone
+-- a row's status, and then as `OrdersRow` states if the first word of the reply is `unknown`; without a row, `register` alone
 abbrev pub RegistersRow : OrderTerms → Option RegistrationRow → Exchange
 RegistersRow terms None = Sends (codes "register\n")
 RegistersRow terms (Some row) = SendsThen (row_status row) (codes "unknown") (λ unknown. OrdersRow terms row)
@@ -123,7 +126,7 @@ abbrev pub AnswersRow : RowTask → List ℕ → Exchange
 AnswersRow (Register terms) text = RegistersRow terms (registration_row_in text)
 AnswersRow Revoke text = RevokesRow (revocation_row_in text)
 
--- the reply to a row that is done: no refusal and no fault, or E19: the certificate is already revoked
+-- the reply to a row that is done: it is no refusal and no fault, or its first word is E19 (the certificate is already revoked)
 abbrev pub IsRowDone : List ℕ → Type 0
 IsRowDone reply = IsAccepted reply ⊎ (first_word (line_of reply) ≡ codes "E19")
 
@@ -131,7 +134,7 @@ IsRowDone reply = IsAccepted reply ⊎ (first_word (line_of reply) ≡ codes "E1
 
 -- The task for each row.
 module _ (task : RowTask) where
-  -- the reply to a line of the file; a line that is skipped has none
+  -- the last reply to a line of the file; for a skipped line, nothing is sent, and the reply is empty
   abbrev pub LineAnswered : Link → Link → List ℕ → List ℕ → Type 0
   LineAnswered s t line reply = (IsTrue (is_skipped task (line_of line)) × (reply ≡ []) × (t ≡ s))
       ⊎ (IsFalse (is_skipped task (line_of line)) × AnswersRow task (line_of line) s t reply)
@@ -158,7 +161,7 @@ module _ (task : RowTask) where
     pub wrote : Appends out out' (concat replies)
 
   -- the rows of an input: each is done; or one is not, or a last line without its line end is left, for which nothing was sent. If the connection,
-  -- the input or the output failed, nothing is stated about how far it got
+  -- the input or the output failed, or out of memory, nothing is stated about how far the job got
   abbrev pub SendsRows
       : Option (List ℕ) → Link → Link → Option (List ℕ) → Option (List ℕ) → Result (Unit {0}) Failure → Type 0
   SendsRows input s t out out' (Ok done) =
@@ -168,14 +171,14 @@ module _ (task : RowTask) where
       ⊎ ((lines replies : List (List ℕ)) × (left : List ℕ) × RepliesWritten s t out out' lines replies
       × IsInput input (concat lines ++ left) × IsWhyBy IsRowDone replies left why)
 
-  -- over a connection about which nothing else is known: it ended early with nothing written, or as `SendsRows` states
+  -- over a connection about which nothing else is known: the job failed with nothing written, or as `SendsRows` states
   abbrev pub SendsRowsOver
       : Option (List ℕ) → Option (List ℕ) → Option (List ℕ) → Result (Unit {0}) Failure → Type 0
   SendsRowsOver input out out' result =
       ((why : Failure) × (result ≡ Err why) × IsConversationFault why × (out' ≡ out))
       ⊎ ((s t : Link) × SendsRows input s t out out' result)
 
-  -- at the control socket at a path: no program listened there, or the rows were sent to the one that did
+  -- at a control socket: the job failed with `Read` and nothing written; or the program connected (`met`), as `SendsRowsOver` states
   abbrev pub SendsRowsAt
       : Type 0 → Option (List ℕ) → Option (List ℕ) → Option (List ℕ) → Result (Unit {0}) Failure → Type 0
   SendsRowsAt met input out out' result =

@@ -9,14 +9,14 @@ use Rattle.reg_core.specs.declared.refusal.Fault.{Fault}
 use Rattle.reg_office_api.specs.Settings.{ReplacesSchedule}
 use Rattle.reg_desk_jobs.specs.RegisterUses.{exit_of}
 
--- steps are set as the schedule; if they are no schedule, they are refused, and no record changes
+-- the steps are no schedule, they are refused, and no record changes; or they are one, and the result is that of setting it
 abbrev pub SetsSteps : List (ℕ × ℕ) → Result (Unit {0}) Failure → Records → Records → Type 0
 SetsSteps steps result before after =
     ((why : Failure) × (result ≡ Err why) × IsNoSchedule steps why × (after ≡ before))
     ⊎ (IsSchedule steps × (set : Result (Unit {0}) Fault) × (result ≡ exit_of set)
     × ReplacesSchedule steps set before after)
 
--- its reply, without its LF
+-- the reply to a line that sets a schedule, without its LF
 abbrev pub set_line : Result (Unit {0}) Failure → List ℕ
 set_line (Ok done) = codes "schedule set"
 set_line (Err why) = failure_line why

@@ -29,7 +29,7 @@ IsForOther records serial_decision =
     IsSomeAnd (request_in records.requests serial_decision.request) (λ request.
     request.serial ≢ serial_decision.serial)
 
--- a command and its reply; or there was no memory for that, and nothing ran
+-- a command ran, and this is its reply; or the reply is out of memory, or empty, and no record changes
 abbrev pub RunsAt : Signs → ℕ → Signatory → Records → Command → List ℕ → Records → Type 0
 RunsAt signs now identity before command text after =
     ((answered : Answered)
@@ -37,7 +37,7 @@ RunsAt signs now identity before command text after =
     × (text ≡ reply_of answered))
     ⊎ (ReportsFault Memory text × (after ≡ before))
 
--- a decision and its reply: that there is no such request, if it is for another serial number; else that of the command; or why the look-up failed
+-- a decision and its reply: the refusal `NoRequest` if the request is for another serial number, else that of the command; or why the look-up failed
 abbrev pub DecidesAt : Signs → ℕ → Signatory → Records → SerialDecision → List ℕ → Records → Type 0
 DecidesAt signs now identity before serial_decision text after =
     (IsForOther before serial_decision × ReportsFault (Refused NoRequest) text × (after ≡ before))

@@ -81,13 +81,14 @@ loopback V6 = 0 ∷ 0 ∷ 0 ∷ 0 ∷ 0 ∷ 0 ∷ 0 ∷ 0 ∷ 0 ∷ 0 ∷ 0 ∷ 
 abbrev pub listening : ℕ → List ℕ
 listening port = codes "listening " ++ (decimal port ++ 10 ∷ [])
 
--- nothing was answered: the port could not be bound, the control socket could not be created, they could not be polled, or out of memory
+-- nothing was answered, and the job failed with `Read` or `Memory`: the port could not be bound, the control socket could not be created, they could
+-- not be polled, or out of memory
 abbrev pub Unbound : List Input → Result (Unit {0}) Failure → Type 0
 Unbound inputs result =
     (inputs ≡ []) × ((result ≡ Err (failure.Fault fault.Read)) ⊎ (result ≡ Err (failure.Fault fault.Memory)))
 
--- Serving ended after these inputs were answered: it is done after all requests. `Read` means that it ended early; `Write`, that the line
--- with the port was not written whole.
+-- Serving ended after these inputs were answered. The job is done after all requests. It fails with `Read` if serving ended early, and with `Write`
+-- if the line with the port was not written whole: then nothing was answered.
 abbrev pub Served
     : ℕ → ℕ → Type 0 → List Input → Option (List ℕ) → Option (List ℕ) → Result (Unit {0}) Failure → Type 0
 Served port requests Early inputs out out' (Ok done) =

@@ -1,4 +1,4 @@
--- The messages that a signer at a path was asked to sign, and its answers.
+-- The answers of a signer at a path to the messages that it was asked to sign.
 use Rattle.std.specs.Prelude.{◌≡◌, ℕ, List, Option, Some}
 
 -- there is a path, and `Holds` is true of it
@@ -9,7 +9,7 @@ AtGivenPath given_path Holds = (path : List ℕ) × (given_path ≡ Some path) �
 abbrev pub AnsweredAtSomePath : (List ℕ → List ℕ → List ℕ → Type 0) → List ℕ → List ℕ → Type 0
 AnsweredAtSomePath signer_answered message answer = (path : List ℕ) × signer_answered path message answer
 
--- the signer at the given path gave it
+-- a path is given, and the signer at it gave this answer for this message
 abbrev pub AnsweredAtPath : (List ℕ → List ℕ → List ℕ → Type 0) → Option (List ℕ) → List ℕ → List ℕ → Type 0
 AnsweredAtPath signer_answered given_path message answer =
     AtGivenPath given_path (λ path. signer_answered path message answer)

@@ -44,11 +44,11 @@ HasCertificate (Issuer None) = ⊥
 HasCertificate (Issuer (Some path)) = Unit {0}
 HasCertificate (Delegate path address) = Unit {0}
 
--- the path of the signer of CRLs, if there is one
+-- the path of the socket of the signer of CRLs, if there is one
 abbrev pub crl_socket : Option SignerAddress → Option (List ℕ)
 crl_socket signer = option_map (λ address. address.socket) signer
 
--- the path of the signer of OCSP responses, if there is one: the responder's, or that of the signer of CRLs
+-- the path of the socket of the signer of OCSP responses, if there is one: the delegated responder's, or that of the signer of CRLs
 abbrev pub answer_socket : Option SignerAddress → ResponderChoice → Option (List ℕ)
 answer_socket signer (Issuer certificate) = crl_socket signer
 answer_socket signer (Delegate certificate address) = Some address.socket
@@ -64,7 +64,7 @@ abbrev pub identity_of_signer : Option SignerAddress → List ℕ → Identity
 identity_of_signer None key = digest
 identity_of_signer (Some address) key = identity_of address.algorithm key
 
--- the signer of CRLs of an open register: the given one; if nothing is to be signed, any that could be given
+-- the signer of CRLs with which a register is opened: the given one, or the placeholder digest; with `NoSigner`, any that could be given
 abbrev pub IsSigning : CrlSigner → List ℕ → Identity → Type 0
 IsSigning NoSigner key identity = (signer : Option SignerAddress) × (identity ≡ identity_of_signer signer key)
 IsSigning Digest key identity = identity ≡ identity_of_signer None key
@@ -94,7 +94,7 @@ IsAnswering (Issuer (Some path)) signatory =
     })
 IsAnswering (Delegate path address) signatory = IsDelegate address signatory.answers
 
--- a certificate in OCSP responses that the issuer's key signs has that key
+-- a certificate in OCSP responses that the signer of CRLs signs has this key, the issuer's
 abbrev pub EmbeddedKeyFits : List ℕ → Responder → Type 0
 EmbeddedKeyFits key responder =
     MatchOption responder.own_key
@@ -107,7 +107,7 @@ EmbeddedKeyFits key responder =
 abbrev pub MayFollow : List ℕ → List ℕ → Type 0
 MayFollow algorithm earlier = (earlier ≡ algorithm) ⊎ (earlier ≡ digest.algorithm)
 
--- there is no CRL yet, or a CRL with this algorithm may follow the latest one
+-- if there is a latest CRL, a CRL with this algorithm may follow it
 abbrev pub Follows : Records → List ℕ → Type 0
 Follows records algorithm =
     (crl : Crl) → latest records.crls ≡ Some crl → (other : List ℕ) → IsCrlUnder crl.bytes other

@@ -9,7 +9,7 @@ use Rattle.reg_desk_jobs.specs.declared.syntax.Field.TheVariants.{Name, Subscrib
 use Rattle.reg_desk_jobs.specs.declared.syntax.WrongField.{WrongField}
 use Rattle.reg_desk_jobs.specs.declared.syntax.WrongField.TheVariants.{Malformed, Missing, TooMany}
 
--- the fields of a command, by its word; in `revoke` and `decline` the serial number is optional
+-- the fields of a command or query, by its word; the optional serial number of `revoke` and `decline` is among them
 abbrev pub fields_wanted : List ℕ → Option (List Field)
 fields_wanted word =
     if bytes_eq word (codes "subscriber") then Some (Name ∷ [])
@@ -33,7 +33,7 @@ is_written Serial text = is_some (serial_of text)
 is_written NotBefore text = is_some (moment_of text)
 is_written NotAfter text = is_some (moment_of text)
 
--- the first field that is missing, malformed, or one too many
+-- the first field that is missing or malformed, or that there is one too many; none if the fields are as wanted
 abbrev pub first_wrong : List Field → List (List ℕ) → Option WrongField
 first_wrong [] [] = None
 first_wrong [] (text ∷ rest) = Some TooMany
@@ -41,11 +41,12 @@ first_wrong (field ∷ wanted) [] = Some (Missing field)
 first_wrong (field ∷ wanted) (text ∷ rest) =
     if is_written field text then first_wrong wanted rest else Some (Malformed field)
 
+-- the same for the fields of a line, of which the first is its word; none for a word that is not known
 abbrev pub wrong_in : List (List ℕ) → Option WrongField
 wrong_in [] = None
 wrong_in (word ∷ fields) = option_and_then (λ wanted. first_wrong wanted fields) (fields_wanted word)
 
--- the name of a field
+-- the name of a field in `help`
 abbrev pub name_text : Field → List ℕ
 name_text Name = codes "NAME"
 name_text Subscriber = codes "SUBSCRIBER"

@@ -1,5 +1,5 @@
-//! Which requests for revocation an open desk takes over HTTP. Commands at the control socket have no such limits, so that the
-//! operator can revoke while clients flood the port.
+//! The limits for requests for revocation that an open desk takes over HTTP. Of these, only the clock's applies to commands at the control socket, so
+//! the operator can revoke while clients flood the port.
 
 ghost use Rattle.std.specs.Prelude.{◌≡◌, IfOk, None, replicate};
 ghost use Rattle.reg_office_api.specs.Calls.{LeadsIn, LooksIn};
@@ -17,15 +17,15 @@ use reg_ocsp::Draft;
 use reg_office_api::{Office, RequestLoad};
 use std::alloc::Global;
 
-/// The greatest number of open requests for one serial number.
+/// With this many open requests for its serial number, a request over HTTP is refused.
 const MOST_OPEN: u64 = 3;
 
-/// The greatest number of requests within a minute.
+/// The greatest number of requests for revocation over HTTP within a minute.
 const MOST_RECENT: usize = 100;
 
 const MINUTE: u64 = 60;
 
-/// The moments of the last hundred requests for revocation over HTTP within the rate limit, as a ring: the oldest is at `next`.
+/// The moments of the last hundred requests for revocation over HTTP within the rate limit, as a ring: the oldest is at `next` modulo 100.
 #[derive(Clone, Copy)]
 pub(crate) struct RecentRequests {
     pub(crate) moments: [Option<Moment>; MOST_RECENT],
@@ -74,8 +74,8 @@ impl Admission {
     }
 }
 
-/// Answers a `POST /requests`, or any other request at that route. One for revocation beyond the limits is refused with 429 or 503, and not
-/// entered.
+/// Answers a `POST /requests`, or any other request at that route. A request for revocation with a known ground that is beyond the limits is refused
+/// with 429 (RFC 6585 4) or 503 (RFC 9110 15.6.4), and not entered. If the store fails during the check, the answer reports that fault.
 pub(crate) fn begin_admitted<M: Machine>(
     alloc: Global,
     office: &mut M::Office,

@@ -38,8 +38,8 @@ enum Step {
     End,
 }
 
-/// Sends each line of standard input to the control socket at a path, and writes its reply. Errors: `Read` if it can't connect
-/// there; else those of [`exchange_lines`].
+/// Sends each line of standard input to the control socket at a path, and writes its reply. Errors: `Read` if it can't connect there; `Memory` if out
+/// of memory for the buffers; else those of [`exchange_lines`].
 pub fn at<M: Machine, R: Read, W: Write>(
     alloc: Global,
     machine: &M,
@@ -56,7 +56,7 @@ pub fn at<M: Machine, R: Read, W: Write>(
     }
 }
 
-/// Sends each row of a CSV file in the same way, as a `register` line. Nothing is sent if the file can't be read to its end.
+/// Sends each row of a CSV file in the same way, as a `register` line. `Read`, and nothing is sent, if the file can't be read or has over 16 MiB.
 pub fn at_rows<M: Machine, R: Source, W: Write>(
     alloc: Global,
     machine: &M,
@@ -95,8 +95,8 @@ fn exchange_lines_over<R: Read, W: Write>(
 
 /// Sends each line of the input to a control socket through `outgoing`, once the reply to the line before has come from `incoming`, and writes each
 /// reply to `writer`. A last line without its line end is not sent. Errors: after all lines were sent, `Refused` if a reply was a refusal or a
-/// fault, `NoLineEnd` if a last line without its line end is left, and `RefusedNoLineEnd` for both. `Read` if the input fails, or the connection
-/// fails or ends before the end of a reply; `Write` if a line can't be sent, or a reply can't be written; `Memory`.
+/// fault, `NoLineEnd` if a last line without its line end is left, and `RefusedNoLineEnd` for both. `Read` if the input fails, the connection fails
+/// or ends before the end of a reply, or out of memory for a line or a reply; `Write` if a line can't be sent, or a reply can't be written.
 pub fn exchange_lines<R: BufRead, W: Write, C: BufRead, S: Write>(
     alloc: Global,
     input: &mut R,
@@ -211,7 +211,7 @@ pub(crate) fn request_reply<C: BufRead, S: Write>(
     next_reply(alloc, incoming)
 }
 
-/// Reads the next line of an input; `Read` if the input fails.
+/// Reads the next line of an input; `Read` if the input fails, or out of memory for the line.
 pub(crate) fn next_line<R: BufRead>(alloc: Global, input: &mut R) -> Result<Next, Failure>
     ensures ok { IfOk result (NextIs (R.remaining input.old) (R.remaining input.new)) }
     ensures err { IfErr result IsConversationFault }

@@ -131,7 +131,7 @@ fn accept_clock(alloc: Global, clock: AcceptedClock, accepted: &mut Option<Momen
     ControlReply::line(alloc, b"clock accepted", LineOutcome::Done)
 }
 
-/// The refusal of a command because the clock is too far ahead, or a fault if that can't be found out; `None` if the command may run.
+/// The refusal of a command because the clock is too far ahead, or the fault of reading the last accepted moment; `None` if the command may run.
 fn refusal_by_clock<M: Machine>(
     alloc: Global,
     office: &mut M::Office,

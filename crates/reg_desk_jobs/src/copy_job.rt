@@ -16,11 +16,11 @@ use reg_desk_cli::Failure;
 use std::alloc::{AllocError, Global};
 use std::io::Write;
 
-/// Why no copy was created: the fault, and its cause if it is known.
+/// Why no copy was created.
 #[derive(Clone, Copy, PartialEq, Eq)]
 pub struct CopyFault {
     pub fault: Fault,
-    /// The cause of the call that failed.
+    /// The cause of the failed call; `None` if it is not known.
     pub cause: Option<Cause>,
 }
 
@@ -31,7 +31,7 @@ pub(crate) fn is_copy_line(line: &[u8]) -> bool
 }
 
 /// Copies the open register, whose file is `file`, to another path, and replies. Other clients wait meanwhile. If no copy is created, keeps the
-/// reason for `why`. No record changes.
+/// cause for `why`, or the reply if the cause is not known. No record changes.
 pub(crate) fn answer_copy<M: Machine>(
     alloc: Global,
     machine: &M,
@@ -106,7 +106,8 @@ fn cause_text(alloc: Global, cause: Option<Cause>) -> Option<Vec<u8>> {
     prefix_and_end(alloc, b"", line.as_bytes().strip_prefix(b"  ")?).ok()
 }
 
-/// Copies the register at a path, which no other program has open, to another path, and reports it. It only reads the register's files.
+/// Copies the register at a path to another path, and writes how many bytes the copy has and how many milliseconds it took. The job only reads the
+/// register's files. Errors: those of [`Machine::copy`]; `Write`.
 pub fn copy<M: Machine, W: Write>(
     alloc: Global,
     machine: &mut M,

@@ -12,7 +12,7 @@ pub enum CrlSigner<'a> {
     NoSigner,
     /// CRLs get a placeholder digest instead of a signature.
     Digest,
-    /// The signer with the issuer's key.
+    /// The signer with the issuer's key, at this address.
     KeyAt(SignerAddress<'a>),
 }
 

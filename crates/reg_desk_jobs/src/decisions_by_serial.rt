@@ -23,7 +23,7 @@ use reg_lines::{
 use reg_office_api::Office;
 use std::alloc::Global;
 
-/// Revokes or declines a request. If the request is for another serial number, the line is refused as [`Refusal::NoRequest`].
+/// Revokes or declines a request. If it is for another serial number, the line is refused as [`Refusal::NoRequest`], and `why` gives that number.
 pub(crate) fn answer_serial_decision<M: Machine>(
     alloc: Global,
     office: &mut M::Office,
@@ -107,8 +107,7 @@ fn request_of_row(found: Option<Row>) -> Option<RequestRow>
     }
 }
 
-/// The number and the serial number, for the log, of the request that a line is to decide; `None` without a log,
-/// or if there is no such request.
+/// The number and the serial number, for the log, of the request that a line decides. `None` without a log, without a decision or such a request.
 pub(crate) fn decided_request<M: Machine>(
     alloc: Global,
     office: &mut M::Office,

@@ -32,7 +32,6 @@ pub enum SignatureKind {
 /// The desk's record of a line whose signature is being made.
 #[derive(Clone, Copy)]
 pub struct LineTicket {
-    /// The kind of the signature that the line needs.
     pub(crate) wanted: SignatureKind,
     /// The moment for which the message was made.
     pub(crate) moment: Moment,
@@ -49,7 +48,7 @@ pub(crate) struct LineSignature {
     pub(crate) preset_signature: PresetSignature,
 }
 
-/// How many milliseconds after the desk began a line its signer counts as timed out. The event loop's ten seconds begin a little before the line does.
+/// A line's signer that gave no answer in this many milliseconds after `began` has timed out. The event loop's ten seconds begin a little earlier.
 const TIMEOUT: u64 = 9_500;
 
 fn signature_kind_by(command_line: &ParsedLine<'_>) -> Option<SignatureKind> {
@@ -128,9 +127,9 @@ fn crl_signer_socket<'w>(signer: &Option<SignerAddress<'w>>) -> Option<&'w str>
     Some(signer.as_ref()?.socket.as_str())
 }
 
-/// The signature for a line, and the moment at which the line is to run. With a connection to the signer, that is the moment of the message. Without
-/// one, there is no signature, and the moment is the clock's, or [`EventLoopFault`] if the clock can't be read. `None` if a later command was accepted
-/// meanwhile, so that the message would be another one, or if the clock is now behind the moment of the message or, with a connection, can't be read.
+/// The signature for a line, and the moment at which the line is to run. Without a connection to the signer there is no signature, and the moment is
+/// the clock's: [`EventLoopFault`] if the clock can't be read. With a connection, the moment is that of the message. Then the result is `None` if a
+/// command was accepted at a later moment meanwhile, and if the clock is now behind the moment of the message or can't be read.
 pub(crate) fn line_signature_of<M: Machine>(
     alloc: Global,
     office: &mut M::Office,
@@ -167,7 +166,7 @@ pub(crate) fn line_signature_of<M: Machine>(
     ))
 }
 
-/// The signer's answer, with the moment for which the message was made; `None` if a later command was accepted, or the clock is behind that moment.
+/// The signer's answer, with the moment of the message. `None` if a command was accepted later, or the clock is behind the moment or can't be read.
 fn signature_if_current<M: Machine>(
     alloc: Global,
     office: &mut M::Office,
@@ -213,7 +212,8 @@ fn is_past<O: Office>(office: &mut O, moment: Moment) -> bool
 }
 
 impl<'a, 'w, M: Machine> Desk<'a, 'w, M> {
-    /// The message to sign before a line can be answered, empty in a back-off; `None` if there is none, or no signer for it.
+    /// The message to sign before a line can be answered, empty in a back-off. `None` if nothing is to be signed for the line, if no signer has the
+    /// key, if the clock can't be read or is too far ahead for `crl`, and if the message can't be made: then the line is answered at once.
     pub(crate) fn deferred_line(
         &mut self,
         command_line: &ParsedLine<'_>,
@@ -266,7 +266,7 @@ impl<'a, 'w, M: Machine> Desk<'a, 'w, M> {
         }
     }
 
-    /// The OCSP signer's back-off after this line: cleared if it answered or failed before the timeout, set if it timed out, kept if it was not asked.
+    /// The back-off after this line: cleared if the OCSP signer answered or failed before the timeout, set if it timed out, kept if it was not asked.
     pub(crate) fn backoff_after(&self, ticket: LineTicket, has_arrived: bool) -> Backoff {
         let ocsp_socket = socket_of(self.signer, self.responder, SignatureKind::Answer);
         let asked_socket = socket_of(self.signer, self.responder, ticket.wanted);

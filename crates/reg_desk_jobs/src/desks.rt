@@ -1,4 +1,4 @@
-//! A desk, as it answers clients: HTTP requests, and lines at the control socket.
+//! The handler of `desk serve` and `desk open`: it answers HTTP requests, and lines at the control socket.
 
 ghost use Rattle.std.specs.Prelude.{◌≡◌, IfOk, MatchOption, OnErr};
 

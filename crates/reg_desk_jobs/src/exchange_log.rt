@@ -75,7 +75,7 @@ pub(crate) fn log_line<M: Machine>(
     );
 }
 
-/// Logs that a connection ended by a fault. Without a client's address, it was one to the control socket.
+/// Logs that a connection ended by a fault. `client` is `None` for a connection to the control socket.
 pub(crate) fn log_lost<M: Machine>(
     alloc: Global,
     machine: &M,

@@ -1,4 +1,4 @@
-//! Why a job failed, and what that is about.
+//! The cause of a failed call, and the argument, option or stream that the call was about.
 
 ghost use Rattle.std.specs.Prelude.{◌≡◌, IfOk, IfSome, option_map};
 ghost use Rattle.reg_desk_jobs.specs.FailureReports.{located_cause_line, location_suffix};
@@ -6,7 +6,7 @@ ghost use Rattle.reg_desk_jobs.specs.FailureReports.{located_cause_line, locatio
 use reg_core::Cause;
 use std::alloc::{AllocError, Global};
 
-/// What a failed call was about: an argument or an option, as `--help` names it, or a standard stream.
+/// The subject of a failed call: an argument or option of `--help`, or standard output. `Log` is the argument LOG, and `LogFile` is `--log-file`.
 #[derive(Clone, Copy, PartialEq, Eq)]
 pub enum Location {
     File,

@@ -37,7 +37,8 @@ use std::alloc::Global;
 
 const PROMETHEUS: &str = "text/plain; version=0.0.4; charset=utf-8";
 
-/// Answers `/health` at a moment: whether all is well. `accepted` is the moment that the operator accepted with `accept-clock`.
+/// Answers `/health` at a moment: 200 if all is well, else 503 (RFC 9110 15.6.4); 405 for another method than GET. `accepted` is the moment that the
+/// operator accepted with `accept-clock`.
 pub(crate) fn answer_health<M: Machine>(
     alloc: Global,
     office: &mut M::Office,
@@ -75,7 +76,8 @@ fn health_at<M: Machine>(
     health_answer(alloc, &Health::of(now, &found, tally, accepted))
 }
 
-/// Answers `/metrics` at a moment. The requests for revocation are counted anew if the last count is a minute old.
+/// Answers `/metrics` at a moment with 200; with 405 for another method than GET. The requests for revocation are counted anew if the last count is a
+/// minute old, or is of a later moment.
 pub(crate) fn answer_metrics<M: Machine>(
     alloc: Global,
     office: &mut M::Office,
@@ -221,7 +223,7 @@ fn read_latest<M: Machine>(
     }
 }
 
-/// Whether a CRL has a placeholder digest instead of a signature.
+/// Whether a CRL has a placeholder digest instead of a signature; `false` if its algorithm can't be read.
 fn is_unsigned(crl: &[u8]) -> bool
     ensures { IsUnsigned crl.now result }
 {
@@ -238,7 +240,7 @@ fn is_digest(algorithm: &[u8]) -> bool
     algorithm == digest.algorithm()
 }
 
-/// After a query `next-crl`: if a signer has the key and the latest CRL has no signature, keeps for `why` that the next one is due at once.
+/// After an answered `next-crl`: if a signer has the key and the latest CRL a placeholder digest, keeps for `why` that the next CRL is due at once.
 pub(crate) fn keep_due_reason<M: Machine>(
     alloc: Global,
     office: &mut M::Office,
@@ -259,7 +261,7 @@ pub(crate) fn keep_due_reason<M: Machine>(
     }
 }
 
-/// The reason if the next CRL is due at once because the latest one has no signature.
+/// The reason why the next CRL is due at once, if the latest one has a placeholder digest and a signer has the key.
 fn why_at_once<M: Machine>(
     alloc: Global,
     office: &mut M::Office,
@@ -328,7 +330,7 @@ fn overdue_count_of(overdue: Option<Overdue>) -> u64
     }
 }
 
-/// Counts the requests for revocation anew, unless they were counted less than a minute before.
+/// Counts the requests for revocation anew, unless they were counted less than a minute before. If that fails, the old count stays.
 fn recount<M: Machine>(alloc: Global, office: &mut M::Office, now: Moment, tally: &mut Tally)
     ensures moves { LooksIn M.Office.Office (λ records. Recounts records now tally.old tally.new)
         office.old office.new }
@@ -401,7 +403,7 @@ fn metrics_answer(
     }
 }
 
-/// notAfter of the responder's certificate; `None` if the responder has none of its own, or if it can't be read.
+/// notAfter of a delegated responder's certificate (RFC 5280 4.1.2.5). `None` if the issuer responds, and if the certificate can't be read.
 pub(crate) fn responder_end<M: Machine>(
     machine: &M,
     responder: &ResponderChoice<'_>,

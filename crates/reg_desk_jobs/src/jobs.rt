@@ -42,7 +42,8 @@ pub fn ended(ran: Result<(), Fault>) -> Result<(), Failure>
 }
 
 /// Creates a register at a path. The issuer and the policy are checked first. If the job fails and claimed a free path, it removes what it created
-/// there, except a register that another program created there meanwhile.
+/// there, except a register that another program created there meanwhile. Errors: `BadIssuer`; `BadPolicy`; `NotEmpty` if the file has tables;
+/// `Memory`; `Store`; `Write`.
 pub fn init<M: Machine, W: Write>(
     alloc: Global,
     machine: &mut M,
@@ -96,7 +97,8 @@ fn make_at<M: Machine, W: Write>(
     print_text(writer, b"created\n")
 }
 
-/// Runs the script of standard input over the register at a path. If the register's CRL 1 gets a placeholder digest, it warns on standard error.
+/// Runs the script of standard input over the register at a path. If the register's CRL 1 gets a placeholder digest, the job warns on standard
+/// error. Errors: those of [`Machine::check_database`], [`Machine::open_in`] and [`reg_lines::run_script`].
 pub fn script<M: Machine, R: Source, W: Sink>(
     alloc: Global,
     machine: &mut M,
@@ -116,9 +118,10 @@ pub fn script<M: Machine, R: Source, W: Sink>(
     ended(ran)
 }
 
-/// Imports standard input into the register at a path, at one moment: the given one, or that of the clock at the start. The clock's moment is
-/// refused if it is too far ahead, unless the operator accepts that. A strict import ends at the first refusal or fault, and runs no last row
-/// without its line end. If it ends at E08, E09 or E12, the reason is kept.
+/// Imports standard input into the register at a path, at one moment: the given one, or that of the clock at the start. The clock's moment is refused
+/// if it is more than 30 days past the last accepted moment (`BadClock`), unless the operator accepts that. A strict import ends at the first refusal
+/// or fault (`Refused`), and runs no last row without its line end (`NoLineEnd`). If it ends at E08, E09 or E12, the reason is kept in `reason`.
+/// Other errors: `Read` if the clock can't be read; those of [`Machine::check_database`], [`Machine::open_in`] and [`import`].
 pub fn import_rows<M: Machine, R: Source, W: Sink>(
     alloc: Global,
     machine: &mut M,
@@ -180,7 +183,7 @@ fn import_at<M: Machine, R: Source, W: Sink>(
     ended(imported)
 }
 
-/// Whether the moment of an import is to be checked and is too far ahead.
+/// Whether the moment of an import is to be checked, and is too far past the last accepted one.
 fn refuses_import<M: Machine>(office: &mut M::Office, now: Moment, is_checked: bool) -> bool
     ensures checked { IsTrue result → IsTrue is_checked }
     ensures looks { LooksIn M.Office.Office
@@ -222,7 +225,8 @@ pub(crate) fn run_ended(ran: Result<Ended, Fault>) -> Result<(), Failure>
     }
 }
 
-/// Writes the DER of the CRL with a number, or of the latest one, of the register at a path.
+/// Writes the DER of the CRL with a number, or of the latest one, of the register at a path. Errors: those of [`Machine::check_database`],
+/// [`Machine::open_in`] and [`Office::crl_bytes`]; `Write`.
 pub fn crl<M: Machine, W: Write>(
     alloc: Global,
     machine: &mut M,
@@ -240,7 +244,6 @@ pub fn crl<M: Machine, W: Write>(
     print_result(writer, outcome)
 }
 
-/// Writes the bytes, or fails with their fault.
 pub(crate) fn print_result<W: Write>(
     writer: &mut W,
     outcome: Result<Vec<u8>, Fault>,
@@ -253,7 +256,8 @@ pub(crate) fn print_result<W: Write>(
     }
 }
 
-/// Sets another schedule for the register at a path. The schedule is checked before the path is opened.
+/// Sets another schedule for the register at a path. Invalid steps are refused before the path is opened (`BadPolicy`). Other errors: those of
+/// [`Machine::check_database`] and [`Machine::open_in`]; `Write`.
 pub fn schedule<M: Machine, W: Write>(
     alloc: Global,
     machine: &mut M,
@@ -272,8 +276,8 @@ pub fn schedule<M: Machine, W: Write>(
     print_set_result(writer, b"schedule set\n", set)
 }
 
-/// Sets the key identifier of the issuer of the register at a path, for CRLs from the next one on (RFC 5280 5.2.1). Its hexadecimal is
-/// checked before the path is opened.
+/// Sets the key identifier of the issuer of the register at a path, for CRLs from the next one on (RFC 5280 5.2.1). Invalid hexadecimal, or not 1 to
+/// 64 bytes of it, is refused before the path is opened (`BadIssuer`). Other errors: as of [`schedule`].
 pub fn key_identifier<M: Machine, W: Write>(
     alloc: Global,
     machine: &mut M,
@@ -306,7 +310,8 @@ fn print_set_result<W: Write>(
     }
 }
 
-/// Audits the register at a path, and reports what was found. It only reads, so no file changes.
+/// Audits the register at a path, and writes the result. The audit only reads, so no file changes. Errors: `Broken` if a row is broken or the
+/// database has another schema; `OldVersion`; those of [`Machine::read`] and [`Machine::audit_in`]; `Write`.
 pub fn audit<M: Machine, W: Write>(
     alloc: Global,
     machine: &M,

@@ -54,9 +54,10 @@ impl<'a, M: Machine> Host for ScriptHost<'a, M> {
     }
 }
 
-/// Runs the script of standard input over the register at a path, line by line. A strict one ends at the first refusal or fault, and runs no last
-/// line without its line end. If its last line was a refused registration, the reason is kept. If the register's first CRL gets a placeholder
-/// digest, it warns on standard error. With `--clock`, no line runs if the clock is too far ahead, unless the operator accepts that.
+/// Runs the script of standard input over the register at a path, line by line. A strict script ends at the first refusal or fault (`Refused`), and
+/// runs no last line without its line end (`NoLineEnd`). If it ends at a registration with E08, E09 or E12, the reason is kept in `reason`. If the
+/// register's CRL 1 gets a placeholder digest, the job warns on standard error. With `--clock`, no line runs if the clock is more than 30 days past
+/// the last accepted moment (`BadClock`), unless the operator accepts that. Other errors: as of [`script`](crate::script).
 pub fn script_by_lines<M: Machine, R: Source, W: Sink>(
     alloc: Global,
     machine: &mut M,
@@ -90,7 +91,7 @@ pub fn script_by_lines<M: Machine, R: Source, W: Sink>(
     run_ended(ran)
 }
 
-/// Whether the lines run at the machine's clock, which is too far ahead, and the operator does not accept that.
+/// Whether the lines run at the machine's clock, which is too far ahead, and the operator does not accept that. `false` if the clock can't be read.
 fn refuses_clock<M: Machine>(machine: &M, office: &mut M::Office, options: ScriptOptions) -> bool
     ensures { LooksIn M.Office.Office
         (λ records. IsTrue result → IsClockRefused options M.clock_reached records)

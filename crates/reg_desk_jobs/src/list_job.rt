@@ -21,8 +21,8 @@ use std::io::Write;
 /// How many rows of a list are read in one call.
 const MOST_ROWS: u64 = 1_000;
 
-/// Writes a list of the register at a path, at the given moment, or else at that of the clock. Nothing is written unless
-/// the whole list was read.
+/// Writes a list of the register at a path, at the given moment, or else at that of the clock. Nothing is written unless the whole list was read.
+/// Errors: `Read` if the clock can't be read; those of [`Machine::check_database`], [`Machine::open_in`] and [`Office::page`]; `Write`.
 pub fn list<M: Machine, W: Write>(
     alloc: Global,
     machine: &mut M,

@@ -17,7 +17,7 @@ pub(crate) struct ExchangeText<'a> {
     pub(crate) client: &'a [u8],
     pub(crate) asked: &'a [u8],
     pub(crate) answered: &'a [u8],
-    /// A space, and the fields after the answer: size, time, and perhaps `request ..` or `signer`. So their first field is empty.
+    /// After a space, which makes the first field empty: the answer's bytes, the microseconds, and perhaps `request ..` or `signer`.
     pub(crate) behind: &'a [u8],
 }
 
@@ -42,7 +42,7 @@ pub(crate) enum Entry {
 /// The meaning of a line of the log for `replay`.
 #[derive(Clone, Copy)]
 pub(crate) enum LogMeaning {
-    /// No accepted command.
+    /// The exchange has no accepted command that changes the register.
     Nothing,
     /// A command of which the log has only a part, or whose request it does not name.
     Unknown,
@@ -88,7 +88,7 @@ pub(crate) fn has_quote(text: &[u8]) -> bool
     text.contains(&b'"')
 }
 
-/// The meaning of an exchange; `Unknown` if another quotation mark follows, because a line before it was not written whole.
+/// The meaning of an exchange. `Unknown` if another quotation mark follows: then the line begins with an earlier line that was not written whole.
 #[tactic(auto, unfolding(crate::specs::LogEntries::logged_of))]
 pub(crate) fn logged_of(logged_exchange: &ExchangeText<'_>) -> LogMeaning
     ensures { result ≡ logged_of (exchange_of logged_exchange.now) }
@@ -102,7 +102,7 @@ pub(crate) fn logged_of(logged_exchange: &ExchangeText<'_>) -> LogMeaning
     }
 }
 
-/// The entry for `replay` of a log line that names a request, after the size and the time of the answer; `None` if it names none.
+/// The meaning of an exchange that names a request, in the fields after the answer's bytes and time; `None` if they name none.
 #[tactic(auto, unfolding(crate::specs::LogEntries::named_in))]
 fn named_in(behind: &[u8]) -> Option<LogMeaning>
     ensures { result ≡ named_in (fields_of behind.now) }
@@ -152,7 +152,7 @@ fn request_by(id: &[u8], serial: &[u8], word: &[u8]) -> Option<Entry>
     Some(Entry::Request { id, serial, ground })
 }
 
-/// The entry for `replay` of a log line that names no request: a command only if it was accepted at the control socket and changes the register.
+/// The meaning of an exchange that names no request: a command if the control socket accepted it, it changes the register, and the log has all of it.
 #[tactic(auto, unfolding(crate::specs::LogEntries::unnamed))]
 fn unnamed(logged_exchange: &ExchangeText<'_>) -> LogMeaning
     ensures { result ≡ unnamed (exchange_of logged_exchange.now) }
@@ -207,7 +207,7 @@ fn enters(word: &[u8]) -> bool
         || word == b"schedule".as_slice()
 }
 
-/// Whether the log has all of a text as it came: it was not cut off, and has no escaped byte.
+/// Whether the log surely has all of a text as it came: it has less than 256 bytes, so it was not cut off, and has no escaped byte.
 fn is_whole(text: &[u8]) -> bool
     ensures { result ≡ is_whole text.now }
 {

@@ -8,12 +8,12 @@ use reg_core::{Decimal, Moment};
 use reg_http::LoggedRequest;
 use std::alloc::{AllocError, Global};
 
-/// The most bytes of the first line of a request or an answer that the log keeps.
+/// The most bytes of the first line of a request or an answer that the log has, before they are escaped.
 pub(crate) const MOST_QUOTED: usize = 256;
 
-/// The line of an exchange, without its LF. `client_text`, an address and port or `control`, is copied as it is. The request and the answer are escaped: they put no
-/// control character and no byte outside ASCII into the log, so that no client can forge a line. A request for revocation that was entered or decided is named by
-/// number and serial number; one that was entered, also by its ground. If a signature failed, the last word is `signer`.
+/// The line of an exchange, without its LF. `client_text`, an address and port or `control`, is copied as it is. The request and the answer are
+/// escaped: they put no control character and no byte outside ASCII into the log, so no client can forge a line. A request for revocation that was
+/// entered or decided is named by number and serial number; an entered one also by its ground. If a signature failed, the last word is `signer`.
 pub(crate) fn exchange_line(
     alloc: Global,
     now: Moment,

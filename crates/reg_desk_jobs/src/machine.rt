@@ -22,9 +22,10 @@ use std::time::Duration;
 
 /// The machine that a job runs on. A job reaches a register's files only by these methods, and by the office that they open. The methods that create,
 /// open for writing or remove such files take `&mut self`, except `copy_open`. So a clause that relates the machine before a job to that after it
-/// excludes such a call at another path. Each method is one action of the system. Its relation, such as `claimed`, states that the action was
-/// performed; no proof covers what the system does. A function that takes several actions is written over any machine
-/// ([`registers`](crate::registers), [`control_socket`](crate::control_socket)). If the comment of a method names no errors, they are the system's.
+/// excludes such a call at another path. A method's relation, such as `claimed`, states what the method did; no proof covers what the system does.
+/// Most methods are one action of the system. Functions that combine several are written over any machine ([`registers`](crate::registers),
+/// [`control_socket`](crate::control_socket)). Errors that a comment does not name: the system's; in a [`Failure`] or [`CopyFault`], `Memory` and
+/// `Store`.
 pub trait Machine {
     ghost use Rattle.std.specs.Prelude.{◌≡◌, ◌≤◌, ◌+◌, ◌⊎◌, ℕ, List, [], IsTrue, IsFalse, MatchBool, OnOk, OnErr, IfOk, IfErr, IfSome, length};
     ghost use Rattle.reg_office_api.specs.Calls.{KeepsIn};
@@ -59,7 +60,7 @@ pub trait Machine {
 
     // ---- files; a relation over two machines relates the one before the action to the one after it
 
-    /// Something lies at the path, or no file can be created there.
+    /// Something lies at the path, a WAL lies beside it, or no file can be created there.
     ghost taken: { Self → List ℕ → Type 0 };
     /// Nothing is found at the path.
     ghost absent: { Self → List ℕ → Type 0 };
@@ -81,7 +82,7 @@ pub trait Machine {
     ghost certified: { Answering → Self.Responder → Type 0 };
     /// The register of the database was opened as this office, with this signer of CRLs and this responder.
     ghost opened: { Self.Database → SignsCrls → Self.Responder → Self.Office → Type 0 };
-    /// A register was made in the database, and is this office.
+    /// A register was created in the database, and this is the office over it.
     ghost made: { Self.Database → Self.Office → Type 0 };
     /// The office whose file lies at the path was closed.
     ghost closed: { Self → List ℕ → Self.Office → Self → Type 0 };
@@ -112,7 +113,7 @@ pub trait Machine {
     ghost bound: { List ℕ → ℕ → Type 0 };
     /// A socket was created at this path.
     ghost socket_created: { List ℕ → Type 0 };
-    /// What lies at this path was given this mode.
+    /// The file at this path was given this mode.
     ghost has_mode: { List ℕ → ℕ → Type 0 };
     /// This file, as long as it is open, holds the lock of the folder of this path: no other desk, `desk-signer` or `signer.py` holds it meanwhile.
     ghost locked: { OpenFile → List ℕ → Type 0 };
@@ -130,7 +131,7 @@ pub trait Machine {
     ghost warned: { List ℕ → Type 0 };
 
     /// Creates an empty file, for its owner alone, at a path where there is neither a file nor its WAL, in one step: if two programs try at once,
-    /// one succeeds. `false` if something is there, even a dangling link, or if no file can be created there.
+    /// one succeeds. `false` if there is a file or a WAL, even as a dangling link, or if no file can be created there.
     fn claim(&mut self, path: &str) -> Result<bool, Memory>
         ensures ours { IfOk result (λ is_ours. IsTrue is_ours → claimed self.old path.now self.new) }
         ensures taken { IfOk result (λ is_ours. IsFalse is_ours → taken self.old path.now) }
@@ -212,16 +213,15 @@ pub trait Machine {
         ensures audited { IfOk result (audited sources) }
         ensures faults { IfErr result IsOpenFailure };
 
-    /// Copies the register at a path, which no program has open and which is only read, to a path at which nothing lies, and returns how many bytes
-    /// the copy has. The copy is for its owner alone, and is synced with its folder. It gets its name once it is whole. `Store` also if there is
-    /// something at the second path, or at that path with `-wal`, `-journal` or `.part`.
+    /// Copies the register at a path, which is only read, to a path at which nothing lies, and returns how many bytes the copy has. The copy is for
+    /// its owner alone, and is synced with its folder. It gets its name once it is whole. `NotARegister` if there is no database yet; `Store` also if
+    /// a program has locked the register for writing, or if something lies at the second path, or there with `-wal`, `-journal` or `.part`.
     fn copy(&mut self, path: &str, to: &str) -> Result<u64, Failure>
         ensures ok { IfOk result (λ bytes. copied self.old path.now to.now bytes self.new) }
         ensures err { IfErr result (λ why. copy_failed self.old path.now to.now why self.new) }
         ensures faults { IfErr result IsReadFailure };
 
-    /// In the same way, copies the register that this program has open, between two transactions. A fault of the store also if the file at the path
-    /// is not the open one.
+    /// In the same way, copies the register that this program has open, between two transactions. `Store` also if another file lies at the path.
     fn copy_open(&self, path: &str, to: &str) -> Result<u64, CopyFault>
         ensures ok { IfOk result (copied_open path.now) }
         ensures err { IfErr result (λ why. IsOfStore why.fault) };
@@ -244,7 +244,8 @@ pub trait Machine {
         ensures ok { OnOk result ((count : ℕ) → waited count → waited (count + 1)) }
         ensures fails { OnErr result failed };
 
-    /// Accepts a connection. Errors are those of accept(2): no connection waits, a signal came, the client is gone, or the system failed.
+    /// Accepts a connection. Errors are those of accept(2): no connection waits, a signal came, the client is gone, no file descriptor is left,
+    /// or the system failed.
     fn accept(&self, listener: &TcpListener) -> io::Result<(TcpStream, SocketAddr)>
         ensures { IfErr result (AcceptFails failed) };
 
@@ -304,8 +305,8 @@ pub trait Machine {
             → signer_answered path message answer.items) }
         ensures short { IfSome result (λ answer. length answer.items ≤ 4096) };
 
-    /// Presets the next signature of an office: a signer's answer to a message, or that there is none. The office then doesn't ask the signer.
-    /// `None` removes the preset.
+    /// Presets the next signature of an office: a signer's answer to a message, or that there is none. For that signature the office doesn't ask the
+    /// signer, and a signature of another message fails. `None` removes the preset.
     fn set_preset(
         office: &mut Self::Office,
         wanted: SignatureKind,
@@ -316,23 +317,23 @@ pub trait Machine {
             AnsweredAtSomePath signer_answered known.message.items answer.items)) }
         ensures { KeepsIn Self.Office.Office office.old office.new };
 
-    /// Whether exchanges are logged.
+    /// Whether there is a log, for exchanges and lost connections.
     fn has_log(&self) -> bool;
 
-    /// Puts a line with its LF into the log. A line that can't be put there is left out.
+    /// Appends a line with its LF to the log. If writing fails, the log has none or only a part of the line.
     fn log(&self, line: &[u8]);
 
-    /// Writes a line with its LF to standard error, for the operator. A line that can't be written there is left out.
+    /// Writes a line with its LF to standard error, for the operator. A failed write is ignored.
     fn warn(&self, line: &[u8])
         ensures { warned line.now };
 
-    /// Keeps the cause of a failed call, and the location that it is about, if they are known.
+    /// Keeps the cause of a failed call, with the location if that is known. `None` as the cause drops the one that was kept before.
     fn keep_cause(&self, location: Option<Location>, cause: Option<Cause>);
 
-    /// The last cause of a failed call, if one is known.
+    /// The cause that was kept last, if it was known.
     fn last_cause(&self) -> Option<FailureCause>;
 
-    /// The moment of the clock, or the last possible moment if the clock is past it; `Read` if it can't be read.
+    /// The moment of the clock, or the last possible moment if the clock is past it; `Read` if the clock can't be read.
     final fn moment(&self) -> Result<Moment, Fault>
         ensures told { IfOk result clock_reached }
         ensures exact { IfOk result (IsClockMoment clock_read) }

@@ -79,7 +79,7 @@ fn put<W: Write>(errors: &mut W, text: &[u8])
     }
 }
 
-/// With `--why` (`is_asked`), writes a line: for exit status 1 the cause, for 3 why a registration was refused, if that is known.
+/// With `--why` (`is_asked`), writes a line if the cause (exit status 1) or the reason (status 3) is known.
 fn explain<W: Write>(
     alloc: Global,
     errors: &mut W,

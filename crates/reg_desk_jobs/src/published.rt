@@ -19,8 +19,9 @@ use std::alloc::{AllocError, Global};
 use std::io::{ErrorKind, Read, Write};
 
 /// Compares the published CRL in a reader with the register, and writes a line for each item that the register lacks: the CRL number, if it is above
-/// that of the register's latest CRL, and each listed serial number that is not revoked. No record changes. Errors: `LacksPublished` if lines were
-/// written; `NotACrl` if the bytes are no CRL with a number, or it has an invalid entry; those of a query, of reading and of writing.
+/// that of the register's latest CRL, and each listed serial number that is not revoked. The CRL's issuer and signature are not verified. No record
+/// changes. Errors: `LacksPublished` if lines were written; `NotACrl` if the bytes are no CRL with a number, or an entry is invalid; `Read`;
+/// `Write`; `Memory`; `Store`.
 pub(crate) fn check_published<O: Office, R: Read, W: Write>(
     alloc: Global,
     office: &mut O,
@@ -111,7 +112,6 @@ fn put_missing_revocations<O: Office>(
     Ok(())
 }
 
-/// Adds a line for a serial number that is not revoked.
 fn put_missing_revocation<O: Office>(
     alloc: Global,
     office: &mut O,
@@ -136,7 +136,7 @@ fn put_unless_revoked(lines: &mut Vec<u8>, revoked: bool, serial: Serial) -> Res
     put_line(lines, b"missing revocation ", &serial.text())
 }
 
-/// Whether a serial number is revoked at the last accepted moment; at any other one it is the same.
+/// Whether a serial number is revoked. The query is as of the last accepted moment, but its moment does not change whether a number is revoked.
 fn is_revoked<O: Office>(
     alloc: Global,
     office: &mut O,

@@ -16,18 +16,18 @@ use std::cell::Cell;
 
 const DAY: u64 = 86_400;
 
-/// Why a line was refused, in more detail than its reply; `Unsigned` is why the next CRL is due at once.
+/// Why a line or a row was refused, in more detail than its reply; only `Unsigned` is why the next CRL is due at once.
 #[derive(Clone, Copy, PartialEq, Eq)]
 pub enum Reason {
     /// There is no order with this number.
     NoOrder(u64),
     /// The order with this number already has a certificate.
     Filled(u64),
-    /// The order and the schedule allow no later notAfter than this.
+    /// The order and the schedule allow the line's notBefore no later notAfter than this (RFC 5280 4.1.2.5).
     Latest(Moment),
     /// The request with this number is for this serial number, and not for the one in the line.
     OtherSerial(u64, Serial),
-    /// The clock is more than 30 days past this last accepted moment.
+    /// The clock is more than 30 days past this last accepted moment, and past the moment that the operator accepted, if any.
     ClockAhead(Moment),
     /// The line can't be read, because of this field.
     Wrong(WrongField),
@@ -83,7 +83,7 @@ pub(crate) fn keep_reason_text(text: Option<Vec<u8>>, reply: &[u8], last_reason:
     }
 }
 
-/// Keeps which field of a line is wrong, instead of the reply, if the line can't be read.
+/// Keeps which field of a line is wrong, if the line can't be read. If no wrong field is found, keeps the reply.
 pub(crate) fn keep_syntax_reason(
     alloc: Global,
     line: &[u8],
@@ -103,7 +103,6 @@ fn wrong_field_reason(line: &[u8]) -> Option<Reason> {
     Some(Reason::Wrong(wrong_field(line)?))
 }
 
-/// Keeps a reply as the last reason.
 pub(crate) fn keep_reply_reason(reply: &[u8], last_reason: &mut Vec<u8>) {
     last_reason.clear();
     let _ = last_reason.extend_from_slice(reply);
@@ -139,7 +138,7 @@ fn latest_of<M: Machine>(office: &mut M::Office, order: u64, not_before: Moment)
     }
 }
 
-/// Keeps why the last command of a run was refused, if the run ended there and the command is a registration.
+/// Keeps why a run ended at a refused registration ([`reason_of`]); `None` after any other run.
 pub(crate) fn keep_reason<M: Machine>(
     office: &mut M::Office,
     run_result: &Result<Ended, Fault>,
@@ -169,7 +168,6 @@ pub(crate) fn reason_line(alloc: Global, prefix: &[u8], reason: Option<Reason>) 
     prefix_and_end(alloc, prefix, &words).ok()
 }
 
-/// A prefix, words and an LF.
 pub(crate) fn prefix_and_end(
     alloc: Global,
     prefix: &[u8],

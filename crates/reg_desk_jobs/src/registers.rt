@@ -73,8 +73,8 @@ pub(crate) fn create_register<M: Machine>(
     ensures err { IfErr result (λ why. NotCreated M.Machine machine.old path.now why machine.new) }
     ensures faults { IfErr result IsCreateFailure }
 {
-    // The job has called `Machine::claim`. It failed if there still is no file: the path is a dangling symbolic link, it has a log without a register,
-    // or no file can be created there. The machine kept the cause, if it is known.
+    // The job has called `Machine::claim`. If there still is no file, the call returned `false`: the path is a dangling symbolic link, a WAL without
+    // a register lies beside it, or no file can be created there. The machine kept the cause, if it is known.
     if !machine.is_there(path) {
         return Err(Failure::Fault(Fault::Store));
     }

@@ -27,8 +27,8 @@ struct Renumbered {
 
 /// Sends each accepted command of a log to the control socket at a path, in the log's order, and writes the replies. A request is revoked or
 /// declined by its serial number and by the number that it has now. Errors: `Refused` at the first reply that does not agree ([`agrees`]), or at
-/// a command of which the log has only a part: then that line of the log is written last; `NoLineEnd` at a last line without its line end; else
-/// those of [`at`](crate::at).
+/// a command of which the log has only a part, or not the request that it is about: then that line of the log is written last; `NoLineEnd` at a last
+/// line without its line end; `Read` if it can't connect, or the log or the connection fails; `Write` if a line can't be sent or written; `Memory`.
 pub fn replay<M: Machine, R: Read, W: Write>(
     alloc: Global,
     machine: &M,
@@ -140,7 +140,6 @@ fn replay_line<W: Write, C: BufRead, S: Write>(
     }
 }
 
-/// Sends the command of an entry of the log.
 fn replay_entry<W: Write, C: BufRead, S: Write>(
     alloc: Global,
     line: &[u8],
@@ -180,7 +179,6 @@ fn stop<W: Write>(writer: &mut W, line: &[u8]) -> Result<(), Failure>
     Err(Failure::Refused)
 }
 
-/// The line that is sent for an entry.
 fn line_to_send(
     alloc: Global,
     numbers: &[Renumbered],

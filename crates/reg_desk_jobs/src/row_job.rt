@@ -32,9 +32,9 @@ struct RegistrationRow {
     not_after: Moment,
 }
 
-/// Does a task with the certificate of each row at the control socket at a path, in the rows' order, and writes one reply for each: that to the
-/// last line sent for it. A row is `SERIAL,GROUND` to revoke, and `SERIAL,NOTBEFORE,NOTAFTER` to register. Empty lines and a header are
-/// skipped. Errors: those of [`at`](crate::at), except that E19, for a certificate that is already revoked, does not count as a refusal.
+/// Does a task with the certificate of each row at the control socket at a path, in the rows' order, and writes one reply for each: that to the last
+/// line sent for it. A row is `SERIAL,GROUND` to revoke, and `SERIAL,NOTBEFORE,NOTAFTER` to register. Empty lines and lines equal to the header are
+/// skipped. Errors: those of [`at`](crate::at), by the written replies. E19, for a certificate that is already revoked, counts as accepted.
 pub fn each_row<M: Machine, R: Read, W: Write>(
     alloc: Global,
     machine: &M,
@@ -99,7 +99,7 @@ fn send_each<R: BufRead, W: Write, C: BufRead, S: Write>(
     Err(Failure::Fault(Fault::Read))
 }
 
-/// Does the task with the certificate of a line that is not skipped, and writes the last reply. Returns whether the row is done ([`is_done`]).
+/// Does the task with the certificate of a line, and writes the last reply. Returns whether the row is done ([`is_done`]); `true` for a skipped line.
 fn send_line<W: Write, C: BufRead, S: Write>(
     alloc: Global,
     task: RowTask,

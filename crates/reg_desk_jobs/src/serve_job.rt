@@ -35,8 +35,10 @@ const LOOPBACK: [u8; 4] = [127, 0, 0, 1];
 
 const LOOPBACK_V6: [u8; 16] = [0, 0, 0, 0, 0, 0, 0, 0, 0, 0, 0, 0, 0, 0, 0, 1];
 
-/// Answers as many HTTP connections as the job says, over a register, which is opened before the port is bound. If a published CRL is given,
-/// `reader` has its bytes, and a register that lacks any of it is not served.
+/// Answers as many HTTP connections as the job says, each once, over a register, which is opened before the port is bound. If a published
+/// CRL is given, `reader` has its bytes, and a register that lacks any of it is not served. Errors: as of [`Machine::read_responder`],
+/// [`check_published`], [`Machine::check_database`] and [`Machine::open_in`]; `Read` if the port can't be bound, or serving ends early; `Memory`;
+/// `Write`.
 pub fn serve<M: Machine, R: Source, W: Sink>(
     rt: &HostRuntime,
     machine: &mut M,

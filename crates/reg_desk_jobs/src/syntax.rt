@@ -1,4 +1,4 @@
-//! Finds what is wrong with a line that can't be read, for `why`: a field that is missing, malformed, or one too many.
+//! Finds the first wrong field of a line that can't be read, for `why`: a field that is missing or malformed, or one too many.
 
 ghost use Rattle.std.specs.Prelude.{◌≡◌, ◌++◌, [], IfOk, is_some, option_map};
 ghost use Rattle.reg_core.specs.Calendar.{moment_of};
@@ -10,7 +10,7 @@ use reg_core::{Label, Moment, Serial, read_number};
 use reg_lines::Fields;
 use std::alloc::{AllocError, Global};
 
-/// A field of a command, by its name in `help`.
+/// A field of a command or query, by its name in `help`.
 #[derive(Clone, Copy, PartialEq, Eq)]
 pub enum Field {
     Name,
@@ -24,7 +24,7 @@ pub enum Field {
     Request,
 }
 
-/// What is wrong with the fields of a command.
+/// The error in the fields of a command.
 #[derive(Clone, Copy, PartialEq, Eq)]
 pub enum WrongField {
     /// This field is malformed.
@@ -52,7 +52,7 @@ const DECISION: &[Field] = &[Field::Request, Field::Serial];
 
 const STATUS: &[Field] = &[Field::Serial];
 
-/// What is wrong with the fields of a line that can't be read; `None` if its word is no command with fields, or no field is wrong.
+/// The first wrong field of a line that can't be read. `None` if its word is no command or query that this function knows, or if no field is wrong.
 pub(crate) fn wrong_field(line: &[u8]) -> Option<WrongField>
     ensures { result ≡ wrong_in (fields_of line.now) }
 {
@@ -61,7 +61,7 @@ pub(crate) fn wrong_field(line: &[u8]) -> Option<WrongField>
     first_wrong(fields_by_word(word)?, fields)
 }
 
-/// The fields of a command, by its word.
+/// The fields of a command or query, by its word; `None` for other words, such as `ocsp`.
 fn fields_by_word(word: &[u8]) -> Option<&'static [Field]>
     ensures { option_map (λ wanted. wanted.now) result ≡ fields_wanted word.now }
 {

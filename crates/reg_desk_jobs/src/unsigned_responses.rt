@@ -23,7 +23,7 @@ use std::net::SocketAddr;
 /// How many bytes of the request are kept for the log: as many as the log keeps of a text.
 const MOST_KEPT: usize = 256;
 
-/// An OCSP response that is to be signed, with what the tally and the log need.
+/// An OCSP response that is to be signed, with the data that the tally and the log need.
 #[derive(Drop)]
 pub struct Unsigned {
     /// The message to sign, and the rest of the response.
@@ -32,15 +32,13 @@ pub struct Unsigned {
     pub(crate) moment: Moment,
     /// The route of the request, for the tally.
     pub(crate) route: Route,
-    /// When the desk began to answer, in microseconds.
+    /// When the desk began to answer, in microseconds of the monotonic clock.
     pub(crate) began: u64,
-    /// The client's address.
     pub(crate) client: SocketAddr,
     /// The first bytes of the request; empty if there is no log.
     pub(crate) asked: Vec<u8>,
 }
 
-/// A response that is to be signed, with its moment, and with what the tally and the log need.
 pub(crate) fn unsigned_of<M: Machine>(
     alloc: Global,
     machine: &M,
@@ -133,7 +131,8 @@ fn signature_of<M: Machine>(
     }
 }
 
-/// The signer's answer, if this is the connection on which it was asked to sign this message.
+/// The signer's answer on a connection. `None` without a signer or a connection, if the connection is not for this signer and this message, and if
+/// the answer is incomplete or too long ([`Machine::receive_answer`]).
 pub(crate) fn received_answer<M: Machine>(
     alloc: Global,
     signer: &Option<SignerAddress<'_>>,

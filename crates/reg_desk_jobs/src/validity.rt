@@ -10,7 +10,7 @@ use reg_der::tags::{GENERALIZED_TIME, INTEGER, SEQUENCE, TAGGED_0, UTC_TIME};
 use reg_der::take;
 use reg_der::values::{expect, optional, whole};
 
-/// notAfter of a certificate in DER. `None` for other bytes, and if it is no [`Moment`].
+/// notAfter of a certificate in DER. `None` if the fields up to validity can't be read, and if notAfter is no [`Moment`]. Later fields are not read.
 pub(crate) fn not_after(certificate: &[u8]) -> Option<Moment>
     ensures found { IfSome result (λ at. not_after_at certificate.now ≡ Some (moment_text at)) }
     ensures none { IfNone result
@@ -22,7 +22,7 @@ pub(crate) fn not_after(certificate: &[u8]) -> Option<Moment>
     }
 }
 
-/// notAfter, in the form `2026-01-01T00:00:00Z`.
+/// notAfter of a certificate, in the form `2026-01-01T00:00:00Z`.
 #[tactic(auto, unfolding(crate::specs::Validities::not_after_at))]
 fn not_after_text(certificate: &[u8]) -> Option<[u8; 20]>
     ensures { result ≡ not_after_at certificate.now }

@@ -14,19 +14,19 @@ use std::alloc::{AllocError, Global};
 /// The meaning of a line at the control socket.
 #[derive(Drop)]
 pub(crate) enum ControlWord<'a> {
-    /// `help`: it lists the words.
+    /// `help`: the reply lists the lines that the control socket takes.
     Help,
-    /// `why`: its reply is the reason that was kept last on the connection, mostly for a refused line.
+    /// `why`: the reply is the reason that the desk kept last for the connection, mostly for a refused line.
     Why,
-    /// `copy`: it copies the register to this path; `None` if that is not UTF-8.
+    /// `copy`: the desk copies the register to this path; `None` if the path is not UTF-8.
     Copy(Option<&'a str>),
-    /// `show`: it shows a row.
+    /// `show`: the reply shows a row.
     Show(RowKey),
-    /// It revokes or declines a request, given by number and serial number.
+    /// `revoke` or `decline` with two fields: the desk decides a request, given by number and serial number.
     Decide(SerialDecision),
     /// `accept-clock`: the operator accepts the clock.
     AcceptClock(AcceptedClock),
-    /// `schedule`: it sets another schedule, with these steps.
+    /// `schedule`: the desk sets another schedule, with these steps.
     Schedule(Steps),
     /// Any other line, without its line end; `None` if it has too many bytes.
     Line(Option<&'a [u8]>),
@@ -57,7 +57,6 @@ pub(crate) struct SerialDecision {
     pub(crate) serial: Serial,
 }
 
-/// Reads the meaning of a line.
 pub(crate) fn read_word(alloc: Global, line: &[u8]) -> Result<ControlWord<'_>, AllocError>
     ensures { IfOk result (IsWord line.now) }
 {

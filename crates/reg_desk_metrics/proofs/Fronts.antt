@@ -1,4 +1,4 @@
--- One place more of the answers, and of the ranges.
+-- Lemmas about texts with one more part: of the answers, the routes and the buckets.
 use Rattle.std.proofs.Common.{◌≡◌, ◌∙◌, ℕ, ◌+◌, ◌-◌, List, ◌++◌, min, refl, sym, ap, add-one, append-nil, append_assoc}
 use Rattle.std.specs.Prelude.{slice_index_or}
 use Rattle.reg_core.specs.declared.rows.CrlRow.{CrlRow}
@@ -8,11 +8,11 @@ use Rattle.reg_desk_metrics.specs.declared.series_names.TheConstants.{CRL_AGE, C
 use Rattle.reg_desk_metrics.specs.Tallies.{greatest}
 use Rattle.reg_desk_metrics.specs.declared.tally.Tally.{Tally}
 
--- behind a text and a front, one part more
+-- one more part after a text and a prefix
 one_more : (before front text part more : List ℕ) → text ≡ before ++ front → more ≡ text ++ part → more ≡ before ++ (front ++ part)
 one_more before front text part more is added = added ∙ ap (λ (it : List ℕ). it ++ part) is ∙ append_assoc before front part
 
--- ---- so many parts, one behind the other
+-- ---- several parts, one after the other
 
 pub further : (text before part more : List ℕ) → text ≡ before → more ≡ text ++ part → more ≡ before ++ part
 further text before part more is added = added ∙ ap (λ (it : List ℕ). it ++ part) is
@@ -33,7 +33,7 @@ pub parts_6 : (t0 t1 t2 t3 t4 t5 t6 a b c d e f : List ℕ) → t1 ≡ t0 ++ a �
 parts_6 t0 t1 t2 t3 t4 t5 t6 a b c d e f one two three four five six =
     one_more t0 ((((a ++ b) ++ c) ++ d) ++ e) t5 f t6 (parts_5 t0 t1 t2 t3 t4 t5 a b c d e one two three four five) six
 
--- the latest CRL, by the numbers that were told
+-- the text of the latest CRL, by its four numbers
 pub issued_is : (t0 t1 t2 t3 t4 : List ℕ) (now : ℕ) (crl : CrlRow) (life at next age : ℕ) → t1 ≡ t0 ++ sample CRL_NUMBER.now crl.number
     → t2 ≡ t1 ++ sample THIS_UPDATE.now at → t3 ≡ t2 ++ sample NEXT_UPDATE.now next → t4 ≡ t3 ++ sample CRL_AGE.now age
     → at ≡ crl.this_update → next ≡ min (at + life) greatest → age ≡ now - at → t4 ≡ t0 ++ issued_text now crl life
@@ -70,7 +70,7 @@ pub routes_begin : (text : List ℕ) (tally : Tally) → text ≡ text ++ routes
 unfolding routes_front
 routes_begin text tally = sym (append-nil text)
 
--- what a route puts there
+-- the text of a route
 abbrev route_at : Tally → List ℕ → ℕ → List ℕ
 route_at tally name index = route_text name (slice_index_or tally.route_micros index 0) (slice_index_or tally.route_counts index 0)
 
@@ -85,7 +85,7 @@ routes_more before text more name tally index is added named =
     ∙ ap (λ (it : List ℕ). before ++ (routes_front tally index ++ route_at tally it index)) named
     ∙ ap (λ (it : List ℕ). before ++ it) (sym (routes_next tally index))
 
--- ---- ranges
+-- ---- buckets
 
 pub sum_begin : (buckets : List ℕ) → 0 ≡ sum_of buckets 0
 unfolding sum_of

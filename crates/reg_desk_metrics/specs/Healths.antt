@@ -18,14 +18,15 @@ abbrev pub is_none : Option ℕ → Bool
 is_none (Some at) = false
 is_none None = true
 
--- the moment of the last command, if the clock is behind it; now, if the clock is too far ahead, or at or past `clock_end`
+-- the moment of the last command, if the clock is behind it; now, if the clock is too far ahead, or if the register refuses for another reason
+-- (the clock is at or past `clock_end`)
 abbrev pub clock_of : ℕ → Result Numbers Fault → Option ℕ → Option ℕ
 clock_of now (Ok numbers) accepted = cond (is_ahead now numbers.summary.last accepted) (Some now) None
 clock_of now (Err (Refused (ClockBack last))) accepted = Some last
 clock_of now (Err (Refused other)) accepted = Some now
 clock_of now other accepted = None
 
--- whether the next CRL is due at once: there is none yet, or the latest one has a placeholder digest and the desk has a signer
+-- whether the next CRL is due at once, by the register's numbers
 abbrev pub is_crl_due_at_once : Result Numbers Fault → Bool
 is_crl_due_at_once (Ok numbers) = is_none numbers.due
 is_crl_due_at_once (Err fault) = false
@@ -35,7 +36,7 @@ abbrev pub if_past : ℕ → Option ℕ → Option ℕ
 if_past now (Some at) = cond (nat_lt at now) (Some at) None
 if_past now None = None
 
--- since when the next CRL is late
+-- since when the next CRL is due, if that moment is past
 abbrev pub crl_since : ℕ → Result Numbers Fault → Option ℕ
 crl_since now (Ok numbers) = if_past now numbers.due
 crl_since now (Err fault) = None
@@ -53,7 +54,7 @@ abbrev pub rows_since : ℕ → Result Numbers Fault → Option ℕ
 rows_since now (Ok numbers) = cond (is_filling numbers.summary) (Some now) None
 rows_since now (Err fault) = None
 
--- since when the store fails: by the tally, or else now if the register can't be read
+-- since when the store fails: by the tally; if it does not say so, now if the register fails and does not refuse
 abbrev pub store_since_at : ℕ → Result Numbers Fault → Option ℕ → Option ℕ
 store_since_at now (Ok numbers) since = since
 store_since_at now (Err (Refused why)) since = since
@@ -71,7 +72,7 @@ health_of now found tally accepted = record {
   store = store_since_at now found tally.store_failing_since;
 }
 
--- all is well: the clock is neither behind nor too far ahead, no CRL is due at once or late, signers and the store don't fail, and each table has room
+-- all is well: each moment of the health is None, and no CRL is due at once
 abbrev pub is_well : Health → Bool
 is_well health =
     is_none health.clock
@@ -89,7 +90,7 @@ since_text None = codes "null"
 abbrev pub member : List ℕ → Option ℕ → List ℕ
 member name since = name ++ since_text since
 
--- the member of the CRL: since when it is late, or that it is due at once
+-- the member of the CRL: `"at-once"` if it is due at once, and otherwise since when it is due
 unfoldable pub crl_text : Bool → Option ℕ → List ℕ
 crl_text is_crl_due_at_once crl =
     codes ",\"crl\":" ++ cond is_crl_due_at_once (codes "\"at-once\"") (since_text crl)
@@ -98,7 +99,7 @@ crl_text is_crl_due_at_once crl =
 unfoldable pub signers_text : Option ℕ → Option ℕ → List ℕ
 signers_text crl ocsp = member (codes ",\"crl_signer\":") crl ++ member (codes ",\"ocsp_signer\":") ocsp
 
--- the member `status`, and the name of the last member
+-- the member `status`, and the name `store` of the last member
 unfoldable pub health_member : Bool → List ℕ
 health_member is_well =
     cond is_well (codes ",\"status\":\"ok\",\"store\":") (codes ",\"status\":\"failing\",\"store\":")

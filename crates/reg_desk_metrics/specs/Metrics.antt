@@ -1,5 +1,5 @@
--- The metrics of an open register, in the text form of Prometheus, version 0.0.4. The HELP and TYPE lines of a family are in the constant that names its
--- first series.
+-- The metrics of an open register, in the text format of Prometheus, version 0.0.4. The HELP and TYPE lines of a family are at the front of the
+-- constant that names its first series, or alone in a constant (ANSWERED, SECONDS, ROUTE_SECONDS).
 use Rattle.std.specs.Prelude.{ℕ, zero, suc, ◌==◌, ◌+◌, ◌-◌, ◌/◌, ◌%◌, ◌^◌, min, List, [], ◌∷◌, ◌++◌, codes, slice_index_or, if◌then◌else◌, Some, None, Result, Ok, Err}
 use Rattle.std.specs.declared.option.Option.{Option}
 use Rattle.reg_core.specs.declared.command.Counts.{Counts}
@@ -17,7 +17,7 @@ use Rattle.reg_desk_metrics.specs.declared.numbers.Requests.{Requests}
 use Rattle.reg_desk_metrics.specs.declared.signature_outcomes.Signing.{Signing}
 use Rattle.reg_desk_metrics.specs.declared.tally.Tally.{Tally}
 
--- how many seconds the clock is behind the last command
+-- how many seconds the clock is behind the last command; 0 if the register doesn't refuse for that reason
 abbrev pub seconds_behind : ℕ → Result Numbers Fault → ℕ
 seconds_behind now (Err (Refused (ClockBack last))) = last - now
 seconds_behind now other = 0
@@ -26,7 +26,7 @@ seconds_behind now other = 0
 unfoldable pub build_text : List ℕ → List ℕ
 build_text version = BUILD.now ++ version ++ sample LABEL_END.now 1
 
--- the clock
+-- the clock, and how many seconds it is behind the last command
 unfoldable pub clock_text : ℕ → Result Numbers Fault → List ℕ
 clock_text now found = sample CLOCK.now now ++ sample BEHIND.now (seconds_behind now found)
 
@@ -47,7 +47,7 @@ abbrev pub crl_text : ℕ → Option CrlRow → ℕ → List ℕ
 crl_text now (Some crl) life = issued_text now crl life
 crl_text now None life = sample CRL_NUMBER.now 0
 
--- how many rows each table has, and may have
+-- how many rows each table has, and the cap
 unfoldable pub rows_text : Rows → ℕ → List ℕ
 rows_text rows cap =
     sample SUBSCRIBER_ROWS.now rows.subscribers ++ sample ORDER_ROWS.now rows.orders
@@ -74,7 +74,7 @@ requests_text None = []
 requests_text (Some counted) =
     sample OPEN.now counted.waiting ++ sample OVERDUE.now counted.overdue ++ sample COUNTED.now counted.at
 
--- the label of a route, and of a status, by its index
+-- the label of a route, by its index
 unfoldable pub route_name : ℕ → List ℕ
 route_name index =
     if index == 0 then codes "/ocsp"
@@ -89,6 +89,7 @@ route_name index =
     else if index == 9 then codes "/metrics"
     else codes "other"
 
+-- the label of a status, by its index; `none` for any other status, and for no answer
 unfoldable pub code_name : ℕ → List ℕ
 code_name index =
     if index == 0 then codes "200"
@@ -111,7 +112,7 @@ answer_text index count =
     else ANSWER.now ++ route_name (index / 12) ++ ANSWER_CODE.now ++ code_name (index % 12)
     ++ sample LABEL_END.now count
 
--- the same for the first indexes, in ascending order
+-- the same for the first indexes, as many as given, in ascending order
 unfoldable pub answers_prefix : List ℕ → ℕ → List ℕ
 answers_prefix answers zero = []
 answers_prefix answers (suc index) =
@@ -147,12 +148,13 @@ signers_text tally =
     ++ sample OCSP_FAILING.now (moment_or_none tally.ocsp.failing_since)
     ++ sample STORE_FAILING.now (moment_or_none tally.store_failing_since)
 
--- the connections: open and accepted ones; then lost ones, by cause
+-- the open connections, and the accepted ones
 unfoldable pub connections_text : ConnectionTotals → List ℕ
 connections_text connection_totals =
     sample OPEN_HTTP.now connection_totals.open_http ++ sample OPEN_CONTROL.now connection_totals.open_control
     ++ sample ACCEPTED.now connection_totals.accepted
 
+-- the lost connections, by cause
 unfoldable pub lost_text : ConnectionTotals → List ℕ
 lost_text connection_totals =
     sample BROKEN.now connection_totals.broken ++ sample LATE.now connection_totals.late
@@ -209,10 +211,11 @@ routes_front tally (suc index) =
     ++ route_text (route_name index) (slice_index_or tally.route_micros index 0)
     (slice_index_or tally.route_counts index 0)
 
+-- all routes
 abbrev pub routes_text : Tally → List ℕ
 routes_text tally = ROUTE_SECONDS.now ++ routes_front tally 11
 
--- the OCSP responses that were internalError
+-- the OCSP responses that were internalError, by cause
 unfoldable pub failures_text : Tally → List ℕ
 failures_text tally =
     sample OCSP_BY_SIGNER.now tally.ocsp_signer_failures ++ sample OCSP_BY_STORE.now tally.ocsp_store_failures

@@ -2,7 +2,7 @@
 use Rattle.std.specs.Prelude.{ℕ, ◌+◌, ◌/◌, ◌%◌, List, [], ◌∷◌, ◌++◌, decimal, Some, None}
 use Rattle.std.specs.declared.option.Option.{Option}
 
--- a sample: its series with a space after it, its value and an LF
+-- a sample: its series (which ends with a space), its value and an LF
 abbrev pub sample : List ℕ → ℕ → List ℕ
 sample series value = series ++ decimal value ++ 10 ∷ []
 
@@ -11,7 +11,7 @@ abbrev pub moment_or_none : Option ℕ → ℕ
 moment_or_none (Some at) = at
 moment_or_none None = 0
 
--- the decimal digit of a number for a power of ten
+-- the ASCII code of a number's decimal digit at the place of `unit`, a power of ten
 abbrev pub digit_at : ℕ → ℕ → ℕ
 digit_at number unit = 48 + number / unit % 10
 

@@ -1,4 +1,4 @@
--- The tally: it counts each HTTP exchange and each line once, and its sums stop at the greatest number of 64 bits.
+-- The tally: the counters of HTTP exchanges and of lines. Counts and sums stop at the greatest number of 64 bits.
 use Rattle.std.specs.Prelude.{◌≡◌, ℕ, Bool, true, false, cond, ◌&&◌, ◌||◌, ◌==◌, ◌+◌, ◌-◌, ◌*◌, ◌^◌, min, nat_lt, nat_le, List, replicate, slice_set, slice_index_or, if◌then◌else◌, Some, None}
 use Rattle.std.specs.Option.{option_or}
 use Rattle.std.specs.declared.option.Option.{Option}
@@ -27,15 +27,15 @@ greatest = 2 ^ 64 - 1
 abbrev pub one_more : ℕ → ℕ
 one_more count = min (count + 1) greatest
 
--- one more at an index
+-- one more at an index, up to the greatest number
 abbrev pub bumped : List ℕ → ℕ → List ℕ
 bumped counts index = slice_set counts index (one_more (slice_index_or counts index 0))
 
--- an amount more at an index
+-- an amount more at an index, up to the greatest number
 abbrev pub with_amount : List ℕ → ℕ → ℕ → List ℕ
 with_amount sums index amount = slice_set sums index (min (slice_index_or sums index 0 + amount) greatest)
 
--- the index of a route, and of a status
+-- the index of a route
 abbrev pub route_number : Route → ℕ
 route_number routes.Ocsp = 0
 route_number routes.OcspRest = 1
@@ -49,7 +49,7 @@ route_number routes.Health = 8
 route_number routes.Metrics = 9
 route_number routes.Other = 10
 
--- the last index is for no answer, and for any other status
+-- the index of a status; the last one is for no answer, and for any other status
 unfoldable pub code_number : Option ℕ → ℕ
 code_number None = 11
 code_number (Some code) =
@@ -66,7 +66,7 @@ code_number (Some code) =
     else if code == 503 then 10
     else 11
 
--- the index of the bucket for a time in microseconds: the first bucket whose upper bound is not below it
+-- the index of the bucket for a time in microseconds: the first bucket whose upper bound is not below the time
 unfoldable pub bucket_of : ℕ → ℕ
 bucket_of micros =
     if nat_le micros 100 then 0
@@ -86,8 +86,8 @@ bucket_of micros =
 abbrev pub nothing_signed : Signing
 nothing_signed = record { received = 0; failed = 0; last = None; last_failed = None; failing_since = None }
 
--- signatures of one kind after an exchange at a moment: one was received, and they no longer fail; or one failed, and they fail since then, or since
--- the first failure after the last one that was received
+-- Signatures of one kind after an outcome at a moment. None was requested: nothing changes. One was received: they no longer fail. One failed: they
+-- fail since this moment, unless they failed already.
 abbrev pub signing_after : SignatureOutcome → ℕ → Signing → Signing
 signing_after signature.NotRequested now before = before
 signing_after signature.Made now before =
@@ -98,7 +98,8 @@ signing_after signature.Failed now before = record before {
   failing_since = option_or before.failing_since (Some now);
 }
 
--- since when the store fails, after an exchange or a line at a moment; an accepted command ends the failure
+-- since when the store fails, after an effect at a moment: nothing changes; a written command ends the failure; or it fails since this moment, unless
+-- it failed already
 abbrev pub store_after : StoreEffect → ℕ → Option ℕ → Option ℕ
 store_after store.Unwritten now since = since
 store_after store.Written now since = None
@@ -122,7 +123,7 @@ with_seconds micros tally = record tally {
   micros = min (tally.micros + micros) greatest;
 }
 
--- one more line, by the kind of its reply
+-- one more line with this kind of reply
 abbrev pub with_reply_to_line : LineReply → Tally → Tally
 with_reply_to_line Accepted tally = record tally { accepted = one_more tally.accepted }
 with_reply_to_line Refused tally = record tally { refused = one_more tally.refused }
@@ -146,10 +147,12 @@ abbrev pub response_by : Route → Option ℕ → Bool
 response_by route None = false
 response_by route (Some code) = (code == 200) && is_ocsp_line route
 
+-- the same for the route and the status of an exchange
 abbrev pub has_response : Exchange → Bool
 has_response exchange = response_by exchange.route exchange.status
 
--- an OCSP response that was internalError (RFC 6960 2.3), because the signer failed, or because the store failed
+-- one more OCSP response that was internalError (RFC 6960 2.3), because the signer failed, or else because the store failed; otherwise nothing
+-- changes
 abbrev pub with_cause : SignatureOutcome → StoreEffect → Tally → Tally
 with_cause signature.Failed effect tally =
     record tally { ocsp_signer_failures = one_more tally.ocsp_signer_failures }
@@ -157,6 +160,7 @@ with_cause other store.Failed tally =
     record tally { ocsp_store_failures = one_more tally.ocsp_store_failures }
 with_cause other effect tally = tally
 
+-- the same for an exchange, if it had an OCSP response
 abbrev pub with_failure : Exchange → Tally → Tally
 with_failure exchange tally =
     cond (has_response exchange) (with_cause exchange.signature exchange.store tally) tally
@@ -166,7 +170,7 @@ abbrev pub counted_crl_outcome : CrlSigning → SignatureOutcome → SignatureOu
 counted_crl_outcome NoSigner signature_outcome = signature.NotRequested
 counted_crl_outcome other signature_outcome = signature_outcome
 
--- the effects of an exchange or a line on the signatures of CRLs and of OCSP responses, and on the store
+-- the tally after the outcomes for the signatures of a CRL and of an OCSP response, and the effect on the store
 abbrev pub outcomes_counted : ℕ → SignatureOutcome → SignatureOutcome → StoreEffect → Tally → Tally
 outcomes_counted now crl ocsp effect tally = record tally {
   crls = signing_after (counted_crl_outcome tally.crl_signing crl) now tally.crls;
@@ -174,7 +178,7 @@ outcomes_counted now crl ocsp effect tally = record tally {
   store_failing_since = store_after effect now tally.store_failing_since;
 }
 
--- one more answer of a route with a status
+-- one more answer of a route with a status, and its time
 abbrev pub with_answer : Route → Option ℕ → ℕ → Tally → Tally
 with_answer route status micros tally =
     with_seconds micros
@@ -193,7 +197,7 @@ with_line now line micros tally =
     outcomes_counted now line.crl line.ocsp line.store
     (with_seconds micros (with_reply_to_line line.reply tally))
 
--- the requests for revocation were counted
+-- the count of the requests for revocation is kept
 abbrev pub with_counted : Requests → Tally → Tally
 with_counted requests tally = record tally { requests = Some requests }
 
@@ -203,6 +207,7 @@ is_key Key = true
 is_key Digest = false
 is_key NoSigner = false
 
+-- whether the desk's CRLs are signed with a key
 abbrev pub has_crl_key : Tally → Bool
 has_crl_key tally = is_key tally.crl_signing
 
@@ -211,6 +216,7 @@ abbrev pub read_with : ℕ → Option ReadCrl → Option ReadCrl
 read_with number None = None
 read_with number (Some read) = if read.number == number then Some read else None
 
+-- the same for the CRL that the tally keeps
 abbrev pub read_of : ℕ → Tally → Option ReadCrl
 read_of number tally = read_with number tally.read
 
@@ -218,7 +224,7 @@ read_of number tally = read_with number tally.read
 abbrev pub with_read : ReadCrl → Tally → Tally
 with_read read tally = record tally { read = Some read }
 
--- whether the requests for revocation are to be counted at a moment: they were not yet, or at least a minute before it, or at a later moment
+-- whether the requests for revocation are to be counted at a moment: they were not yet, or were at least a minute before, or at a later moment
 abbrev pub wants_requests : ℕ → Option Requests → Bool
 wants_requests now None = true
 wants_requests now (Some counted) = nat_lt now counted.at || nat_le 60 (now - counted.at)

@@ -8,8 +8,8 @@ use reg_core::Moment;
 /// 30 days, in seconds.
 const MOST_AHEAD: u64 = 2_592_000;
 
-/// Whether the clock is more than 30 days past the last accepted moment, and also more than 30 days past the moment that the operator accepted, if any.
-/// `false` for a register without an accepted moment: there is nothing to compare the clock with.
+/// Whether the clock, `now`, is more than 30 days past the moment of the last accepted command, `last`, and also more than 30 days past the moment
+/// that the operator accepted with `accept-clock`, if any. `false` if `last` is 0: without a command there is nothing to compare the clock with.
 pub fn is_ahead(now: Moment, last: Moment, accepted: Option<Moment>) -> bool
     ensures { result ≡ ahead now last accepted }
 {

@@ -10,14 +10,14 @@ use reg_core::{Fault, Moment, Refusal};
 use reg_office_api::{RegisterSummary, Rows};
 use std::alloc::{AllocError, Global};
 
-/// What is not well with an open register. All is well if each is `None`, and `is_crl_due_at_once` is false.
+/// The failures of an open register. All is well if each moment is `None`, and `is_crl_due_at_once` is false.
 #[derive(Clone, Copy, PartialEq, Eq)]
 pub struct Health {
-    /// The moment of the last command, if the clock is behind it; now, if the clock is too far ahead, or at or past `CLOCK_END`.
+    /// The moment of the last command, if the clock is behind it; now, if the clock is too far ahead (`is_ahead`), or at or past `Moment::CLOCK_END`.
     pub(crate) clock: Option<Moment>,
-    /// The next CRL is due at once: there is none yet, or the latest one has a placeholder digest and the desk has a signer.
+    /// The next CRL is due at once: there is none yet, or the latest one has a placeholder digest and a key now signs the CRLs.
     pub(crate) is_crl_due_at_once: bool,
-    /// Since when the next CRL is late.
+    /// Since when the next CRL is due, if that moment is past.
     pub(crate) crl: Option<Moment>,
     /// Since when signatures of CRLs fail.
     pub(crate) crl_signer: Option<Moment>,
@@ -30,7 +30,7 @@ pub struct Health {
 }
 
 impl Health {
-    /// The health of a register at a moment, by its numbers, the desk's tally, and the moment that the last `accept-clock` gave.
+    /// The health of a register at the moment `now`, by the register's numbers, the desk's tally, and the moment of the last `accept-clock` line.
     pub fn of(now: Moment, found: &NumbersResult, tally: &Tally, accepted: Option<Moment>) -> Health
         ensures { result ≡ health_of now found.now tally.now accepted }
     {
@@ -45,7 +45,7 @@ impl Health {
         }
     }
 
-    /// Whether all is well.
+    /// Whether nothing fails: then `GET /health` has status 200, else 503.
     pub fn is_well(&self) -> bool
         ensures { result ≡ all_well self.now }
     {

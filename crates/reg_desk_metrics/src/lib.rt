@@ -1,4 +1,4 @@
-//! What an open register reports on itself: its tally, its health, and its metrics.
+//! The counters of an open desk (its tally), its health, and its metrics.
 #![tactic(auto)]
 
 mod ahead;

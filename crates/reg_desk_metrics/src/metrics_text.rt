@@ -1,4 +1,4 @@
-//! The metrics of an open register, in the text form of Prometheus, version 0.0.4.
+//! The metrics of an open register, in the text format of Prometheus, version 0.0.4.
 
 ghost use Rattle.std.specs.Prelude.{◌≡◌, ◌++◌, IfOk, OnOk};
 ghost use Rattle.reg_desk_metrics.specs.Metrics.{answer_text, answers_text, seconds_behind as behind_spec, bucket_name as bucket_named, bucket_text, buckets_text, certificates_text, clock_text, code_name as code_named, connections_text, crl_text as crl_text_spec, issued_text, last_text, lines_text, lost_text, metrics_text, numbers_text, register_text, requests_text, rows_text, route_name as route_named, route_text, routes_text, build_text, failures_text, responder_text, seconds_text, signers_text, signed_text, sum_of};
@@ -24,7 +24,7 @@ use std::alloc::{AllocError, Global};
 /// The bytes that are reserved for the text.
 const ROOM: usize = 12_288;
 
-/// The metrics of an open register at a moment: the program's version, the register's numbers, what the desk counted, and its connections.
+/// The metrics of an open register at a moment: the program's version, the register's numbers, the desk's counters, and its connections.
 ///
 /// # Errors
 ///
@@ -68,7 +68,7 @@ fn put_build(text: &mut Vec<u8>, version: &str) -> Result<(), AllocError>
     put_sample(text, LABEL_END, 1)
 }
 
-/// How many seconds the clock is behind the last command.
+/// How many seconds the clock is behind the last accepted command; 0 if it is not behind.
 fn behind(now: Moment, found: &NumbersResult) -> u64
     ensures { result ≡ behind_spec now found.now }
 {

@@ -7,7 +7,7 @@ use reg_office_api::RegisterSummary;
 #[derive(Clone, Copy, PartialEq, Eq)]
 pub struct Numbers {
     pub counts: Counts,
-    /// When the next CRL is due; `None`: at once.
+    /// When the next CRL is due; `None` if it is due at once.
     pub due: Option<Moment>,
     pub summary: RegisterSummary,
 }
@@ -15,14 +15,14 @@ pub struct Numbers {
 /// The register's numbers, or why they can't be read.
 pub type NumbersResult = Result<Numbers, Fault>;
 
-/// The register's requests for revocation at a moment. Counting walks all of them, so it is done at most once a minute.
+/// The register's requests for revocation at a moment. Counting reads all requests, so the desk counts them at most once a minute.
 #[derive(Clone, Copy, PartialEq, Eq)]
 pub struct Requests {
     /// When they were counted.
     pub at: Moment,
-    /// The open ones.
+    /// How many are open.
     pub waiting: u64,
-    /// The overdue ones among them.
+    /// How many of the open ones are past their deadline.
     pub overdue: u64,
 }
 
@@ -31,9 +31,9 @@ pub struct Requests {
 pub enum CrlSigning {
     /// The signer with the issuer's key.
     Key,
-    /// A placeholder digest stands in place of a signature.
+    /// No key: each CRL has a placeholder digest instead of a signature.
     Digest,
-    /// Nobody: the desk has only a responder.
+    /// No signer for CRLs: the desk has only the signer with a responder's key.
     NoSigner,
 }
 
@@ -41,18 +41,19 @@ pub enum CrlSigning {
 #[derive(Clone, Copy, PartialEq, Eq)]
 pub struct ReadCrl {
     pub number: u64,
-    /// Whether a placeholder digest stands in place of its signature.
+    /// Whether the CRL has a placeholder digest instead of a signature.
     pub is_unsigned: bool,
 }
 
-/// Counts of connections.
+/// How many connections are open, and how many were accepted or lost since the desk was opened.
 #[derive(Clone, Copy, PartialEq, Eq)]
 pub struct ConnectionTotals {
     /// Open connections at the port, and at the control socket; then all connections that were accepted at the port.
     pub open_http: u64,
     pub open_control: u64,
     pub accepted: u64,
-    /// Lost connections: broken, out of time, evicted to make room for another, out of memory.
+    /// Lost connections, by `ConnectionFault` of `reg_desk_server`: broken; timed out; evicted, for another one or for the limit of unsent bytes; out
+    /// of memory.
     pub broken: u64,
     pub late: u64,
     pub evicted: u64,
@@ -60,6 +61,7 @@ pub struct ConnectionTotals {
 }
 
 impl ConnectionTotals {
+    /// No connections: each count is 0.
     pub fn nothing() -> ConnectionTotals {
         ConnectionTotals {
             open_http: 0,

@@ -6,14 +6,15 @@ ghost use Rattle.reg_desk_metrics.specs.Tallies.{nothing_signed, signing_after, 
 use reg_core::Moment;
 use reg_office_api::{SignatureOutcome, StoreEffect};
 
-/// How many signatures of one kind were received, how many failed, and when. A placeholder digest counts as a signature.
+/// How many signatures of one kind (CRLs, or OCSP responses) were received, how many failed, and when last. A placeholder digest counts as a
+/// signature.
 #[derive(Clone, Copy, PartialEq, Eq)]
 pub(crate) struct Signing {
     pub(crate) received: u64,
     pub(crate) failed: u64,
     pub(crate) last: Option<Moment>,
     pub(crate) last_failed: Option<Moment>,
-    /// Since when signatures fail; `None` if the last one was received.
+    /// Since when signatures fail; `None` if the last one was received, or none was requested.
     pub(crate) failing_since: Option<Moment>,
 }
 

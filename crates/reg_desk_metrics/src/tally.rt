@@ -1,4 +1,4 @@
-//! What a desk counts while it is open: each HTTP exchange and each line once. Sums stop at `u64::MAX`.
+//! The counters of an open desk, which count each HTTP exchange and each line of a control connection once. Counts and sums stop at `u64::MAX`.
 
 ghost use Rattle.std.specs.Prelude.{◌≡◌, ◌<◌};
 ghost use Rattle.reg_desk_metrics.specs.Tallies.{is_new, bumped, bucket_of as bucket_spec, route_number as number_of_route, code_number as number_of_code, with_seconds as timed, with_exchange, with_line, outcomes_counted, with_reply_to_line, with_counted, wants_requests as wants_counted, has_crl_key as has_key, read_of, with_read, with_amount, is_ocsp_line, has_response, with_route, with_failure, counted_crl_outcome};
@@ -9,32 +9,35 @@ use reg_core::Moment;
 use reg_http::{Exchange, Route};
 use reg_office_api::{LineEffects, LineReply, SignatureOutcome, StoreEffect};
 
-/// How many statuses are counted apart (the last is for any other, and for no answer), pairs of route and status, buckets, and routes.
+/// How many statuses have a count each; the last is for any other status, and for no answer.
 pub(crate) const CODES: usize = 12;
 
+/// How many pairs of a route and a status there are.
 pub(crate) const ANSWERS: usize = 132;
 
+/// How many buckets the histogram of times has.
 pub(crate) const BUCKETS: usize = 12;
 
+/// How many routes there are; the last is for any other path.
 pub(crate) const ROUTES: usize = 11;
 
-/// What was counted.
+/// The counters of an open desk, and its signers' settings.
 #[derive(Clone, Copy)]
 pub struct Tally {
     /// Answers by route and status: the index is that of the route times `CODES`, plus that of the status.
     pub(crate) answers: [u64; ANSWERS],
-    /// Lines at the control socket that were accepted, that were refused, and whose reply was a fault.
+    /// Lines at the control socket, by `LineReply`: answered or accepted; refused; with a fault, or no memory for the reply.
     pub(crate) accepted: u64,
     pub(crate) refused: u64,
     pub(crate) faults: u64,
     /// HTTP exchanges and lines by how long they took; the upper bounds are in `bucket_of`.
     pub(crate) buckets: [u64; BUCKETS],
-    /// How long all of them took, in microseconds.
+    /// How long all exchanges and lines took, in microseconds.
     pub(crate) micros: u64,
     /// Answers by route, and how long each route's took, in microseconds.
     pub(crate) route_counts: [u64; ROUTES],
     pub(crate) route_micros: [u64; ROUTES],
-    /// OCSP responses that were internalError because the signer failed, and because the store failed.
+    /// OCSP responses over HTTP that were internalError (RFC 6960 2.3) because the signer failed, and because the store failed.
     pub(crate) ocsp_signer_failures: u64,
     pub(crate) ocsp_store_failures: u64,
     pub(crate) crls: Signing,
@@ -159,7 +162,7 @@ fn crl_outcome_at(signing: CrlSigning, signature_outcome: SignatureOutcome) -> S
 }
 
 impl Tally {
-    /// A tally with nothing counted, of a desk whose CRLs are signed in this way, with notAfter of its responder's certificate.
+    /// A tally with nothing counted. `crl_signing` is the signer of the desk's CRLs; `responder_ends` is notAfter of the responder's certificate.
     pub fn new(crl_signing: CrlSigning, responder_ends: Option<Moment>) -> Tally
         ensures { is_new crl_signing responder_ends result }
     {
@@ -184,7 +187,7 @@ impl Tally {
         }
     }
 
-    /// Counts an HTTP exchange at a moment, whose answer took `micros` microseconds.
+    /// Counts an HTTP exchange at the moment `now`, whose answer took `micros` microseconds.
     pub fn count_exchange(&mut self, now: Moment, exchange: &Exchange, micros: u64)
         ensures { self.new ≡ with_exchange now exchange.now micros self.old }
     {
@@ -204,7 +207,7 @@ impl Tally {
         );
     }
 
-    /// Counts a line that was answered at a moment, which took `micros` microseconds.
+    /// Counts a line of a control connection that was answered at the moment `now`, which took `micros` microseconds.
     pub fn count_line(&mut self, now: Moment, line: LineEffects, micros: u64)
         ensures { self.new ≡ with_line now line micros self.old }
     {
@@ -213,7 +216,7 @@ impl Tally {
         self.count_outcomes(now, line.crl, line.ocsp, line.store);
     }
 
-    /// Whether the requests for revocation are to be counted at a moment: not if they were counted less than a minute before.
+    /// Whether the requests for revocation are to be counted at a moment: not if they were counted then, or less than a minute before.
     pub fn wants_requests(&self, now: Moment) -> bool
         ensures { result ≡ wants_counted now self.now.requests }
     {
@@ -223,7 +226,7 @@ impl Tally {
         }
     }
 
-    /// Keeps the numbers of requests for revocation.
+    /// Keeps how many requests for revocation there are.
     pub fn set_requests(&mut self, requests: Requests)
         ensures { self.new ≡ with_counted requests self.old }
     {
@@ -282,7 +285,7 @@ impl Tally {
         add(&mut self.route_micros, number, micros);
     }
 
-    /// Counts an OCSP response that was internalError, by what failed.
+    /// Counts an OCSP response that was internalError, by the cause: the signer, or else the store.
     fn add_failure(&mut self, exchange: &Exchange)
         ensures { self.new ≡ with_failure exchange.now self.old }
     {

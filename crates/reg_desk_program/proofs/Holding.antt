@@ -1,4 +1,4 @@
--- A register that was opened, over the look-ups that find who signs.
+-- An opened register stays as it was opened over the look-ups that choose the signer.
 use Rattle.std.proofs.Common.{◌≡◌, ◌≤◌, ◌⊎◌, ℕ, List, inl, inr, sym, subst}
 use Rattle.sqlite.specs.Held.{Held, state}
 use Rattle.sqlite.specs.State.{HasCleanDisk, Survives}
@@ -16,9 +16,9 @@ use Rattle.reg_store_tables.specs.Shows.{Shows}
 use Rattle.reg_store_tables.specs.Stays.{IsRegister, LeavesNothing, Stays}
 use Rattle.reg_desk_program.specs.Files.{Showed}
 
--- The connection, the store that was opened, that store after the look-ups, and what the office holds.
+-- The connection, the store that was opened, that store after the look-ups, and the store of the office.
 module _ {C : Type 0} (g : Ghosts C) (connection opened after held : Held C) (is : held ≡ after) where
-  -- what was shown is
+  -- the tables still show what they showed
   pub holds : (records : Records) → doubt (state g opened).is_clean ≤ doubt (state g after).is_clean
       → (IsRegister (state g opened) → Stays (state g opened) (state g after))
       → ShowsKept g opened records → ShowsKept g held records
@@ -26,7 +26,7 @@ module _ {C : Type 0} (g : Ghosts C) (connection opened after held : Held C) (is
       let P : Held C → Type 0 = λ v. ShowsKept g v records in
       subst P (sym is) (after_look g opened after records forgets same shown)
 
-  -- the disk was clean after the look-ups where it is for the office
+  -- if the disk is clean for the office, it was clean after the look-ups
   pub was_clean : HasCleanDisk (state g held) → HasCleanDisk (state g after)
   was_clean clean =
       let P : Held C → Type 0 = λ v. HasCleanDisk (state g v) in

@@ -1,4 +1,4 @@
--- Why no CRL follows another, by what was found of it.
+-- Why no CRL with an algorithm may follow another CRL, by the algorithm that was found in that one.
 use Rattle.std.proofs.Common.{◌≡◌, ◌∙◌, ℕ, List, Option, Some, None, sym, subst}
 use Rattle.std.specs.Prelude.{MatchOption}
 use Rattle.reg_core.specs.declared.cause.Cause.{Cause}
@@ -18,7 +18,7 @@ of_found crl found algorithm (Some cause) told differs = λ other under.
     let P : List ℕ → Type 0 = λ b. Differs b algorithm cause in
     subst P (told other under) differs
 
--- by what was found of the latest
+-- by the algorithm that was found in the latest CRL
 pub of_latest : (latest : Option (List ℕ)) (crl algorithm : List ℕ) (result : Option Cause) → latest ≡ Some crl
     → MatchOption result ((other : List ℕ) → IsCrlUnder crl other → MayFollow algorithm other) (IsMismatch crl algorithm)
     → MatchOption result ((it : List ℕ) → latest ≡ Some it → (other : List ℕ) → IsCrlUnder it other → MayFollow algorithm other)

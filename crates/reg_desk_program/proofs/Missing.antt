@@ -1,4 +1,4 @@
--- What is told where files can't be read, or the database fails.
+-- The failure if files can't be read, or if the database fails.
 use Rattle.std.proofs.Common.{◌≡◌, ◌⊎◌, ◌∙◌, inl, inr, sym, subst}
 use Rattle.reg_core.specs.declared.refusal.Fault.{Fault}
 use Rattle.reg_core.specs.declared.refusal.Fault.TheVariants.{Memory, Store}

@@ -1,4 +1,4 @@
--- What a store's fault is as the end of a job that opens a register, or makes one.
+-- The failure of a job that opens or creates a register, from the store's fault.
 use Rattle.std.proofs.Common.{◌≡◌, ◌≢◌, ◌⊎◌, refl, sym, subst, inl, inr}
 use Rattle.reg_desk_cli.specs.ExitStatus.{store_failure}
 use Rattle.reg_desk_cli.specs.declared.failure.Failure.{Failure}
@@ -17,7 +17,7 @@ opened fault why is other =
     go stored.NotEmpty not = absurd (not refl)
     go other not = tt
 
--- a register that can't be made
+-- a register that can't be created
 pub unmade : (fault : StoreFault) (why : Failure) → why ≡ store_failure fault → (fault ≡ stored.NotEmpty) ⊎ IsDatabaseFault fault → IsCreateFailure why
 unmade fault why is which =
     let P : Failure → Type 0 = λ w. IsCreateFailure w in

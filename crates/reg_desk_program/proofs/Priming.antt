@@ -1,4 +1,4 @@
--- An office that has what is known of a signature taken for it.
+-- An office with a preset signature.
 use Rattle.std.proofs.Common.{◌≡◌, refl, subst, sym}
 use Rattle.sqlite.specs.Held.{Held, state}
 use Rattle.sqlite.specs.State.{HasCleanDisk}
@@ -7,7 +7,7 @@ use Rattle.reg_office_api.specs.Signatories.{Signatory}
 use Rattle.reg_office_api.specs.CallSteps.{Signs}
 use Rattle.reg_office.specs.Calls.{LeadsOver, StandsFor}
 
--- where its store and who signs are the same, what stood stands
+-- if its store and its signatory are the same, the records that stood stand
 pub same_stands : {C : Type 0} (g : Ghosts C) (signs : Signs) (old new : Held C) (signatory signatory' : Signatory) → new ≡ old → signatory' ≡ signatory
     → LeadsOver g signs (λ those before after. after ≡ before) (old, signatory) (new, signatory')
 same_stands {C = C} g signs old new signatory signatory' stored same = (
@@ -16,6 +16,6 @@ same_stands {C = C} g signs old new signatory signatory' stored same = (
       (before, refl, subst (λ (office : Held C × Signatory). StandsFor g signs office those before) (λ i. (sym stored i, sym same i)) stood)),
 )
 
--- what a socket gave no clause says, so anything was given
+-- no clause states what a socket returned, so it may have returned anything
 pub given_anyhow : ∥ Unit {0} ∥₁
 given_anyhow = ∣ tt ∣₁

@@ -1,4 +1,4 @@
--- Who signs, by what a register is opened for.
+-- The signer with which a register is opened.
 use Rattle.std.proofs.Common.{◌≡◌, ◌∙◌, ℕ, List, get_or, Option, sym, ap, subst, arith}
 use Rattle.std.specs.Prelude.{option_map}
 use Rattle.sqlite.specs.Held.{Held, state}
@@ -21,9 +21,9 @@ use Rattle.reg_store_tables.specs.Shows.{Shows}
 use Rattle.reg_store_tables.specs.Stays.{Looked}
 use Rattle.reg_desk_cli.specs.declared.job.SignerAddress.{SignerAddress}
 
--- A store before it was looked for its latest CRL, after that, and after its issuer was looked for.
+-- A store before its latest CRL was looked up, after that, and after its issuer was looked up.
 module _ {C : Type 0} (g : Ghosts C) (old between new : Held C) (answers : Identity → Responder) (identity : Identity) where
-  -- who signs behind that CRL signs for what the register is opened for
+  -- a signer that fits the issuer and the latest CRL fits the register
   pub signs_for : (crls : CrlSigner) (told : Option SignerAddress) (last : Option (List ℕ))
       → ((key : List ℕ) (signatory : Identity) → signatory ≡ identity_of_signer told key → IsSigning crls key signatory)
       → Looked g old between → Looked g between new

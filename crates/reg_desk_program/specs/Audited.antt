@@ -1,4 +1,4 @@
--- What follows for an office from an audit that found the same tables sound.
+-- An audit found tables sound: what follows for a register that is opened over the same tables.
 use Rattle.std.specs.Prelude.{◌≡◌, ◌≤◌, ℕ, List}
 use Rattle.sqlite.specs.Effect.{Database}
 use Rattle.sqlite.specs.Files.{file_state, over_files}
@@ -21,8 +21,8 @@ use Rattle.reg_audit_rows.specs.declared.audit_result.AuditResult.{AuditResult}
 use Rattle.reg_desk_program.specs.Files.{IsAudited, IsOpenedFrom}
 use Rattle.reg_desk_jobs.specs.declared.crl_signer.CrlSigner.{CrlSigner}
 
--- an audit of a file with the result `Sound`, over a disk that returned what was written, with the presumptions about the connection and
--- the file
+-- an audit of a file with the result `Sound`, over a disk that returned what was written; and the assumptions about the connection and the file that
+-- no audit can check (`IsPresumed`)
 pub record FoundSound {D : Type 0} (g : disk.Ghosts D) : Type 0 where
   pub audit_result : AuditResult
   pub audited : IsAudited g audit_result

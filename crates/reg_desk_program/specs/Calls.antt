@@ -1,10 +1,10 @@
--- The results of the machine's calls.
+-- What is stated about the machine's calls.
 use Rattle.std.specs.Prelude.{◌≡◌, Bool, true, false, Result, Ok, Err}
 use Rattle.reg_core.specs.declared.memory.Memory.{Memory as NoMemory}
 use Rattle.reg_desk_files.specs.declared.file.ClaimFault.{ClaimFault}
 use Rattle.reg_desk_files.specs.declared.file.ClaimFault.TheVariants as claim
 
--- a call was made with these arguments: true of any, since no clause can state what the call did outside the program
+-- a call was made with these arguments: always true, since no clause can state what the call did outside the program
 abbrev pub Unspecified : {A : Type 0} → A → Type 0
 Unspecified arguments = arguments ≡ arguments
 

@@ -127,20 +127,20 @@ pub record Says {D : Type 0} {g : disk.Ghosts D} (connection after : Held (FileS
   pub register : IsSound audit_result → IsRegister (file_state after)
   pub stays : Stays (file_state connection) (file_state after)
 
--- a database was audited over a connection, with this result
+-- an audit of a database had this result: the connection before and after it, and what the result says
 pub record IsAudited {D : Type 0} (g : disk.Ghosts D) (audit_result : AuditResult) : Type 0 where
   pub connection : Held (FileStore D g)
   pub after : Held (FileStore D g)
   pub connects : IsConnection connection
   pub says : Says connection after audit_result
 
--- files with these bytes were audited: the connection finds what the bytes encode
+-- an audit of files with these bytes had this result: the connection found the database that the bytes encode
 pub record IsAuditOf {D : Type 0} (g : disk.Ghosts D) (image : Image)
     (audit_result : AuditResult) : Type 0 where
   pub audited : IsAudited g audit_result
   pub found : HasCleanDisk (file_state audited.connection) → FindsIn image (file_state audited.connection)
 
--- the failures for files that can't be opened
+-- the failure of a job for files that can't be read
 abbrev pub failure_of : UnreadFile → Failure
 failure_of unread.Nothing = failure.NotARegister
 failure_of (unread.Fault why) = failure.Fault why.fault

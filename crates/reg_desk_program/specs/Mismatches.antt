@@ -11,7 +11,7 @@ use Rattle.reg_crl_signer.specs.declared.algorithm.Algorithm.{Algorithm}
 abbrev pub IsKnownAlgorithm : List ℕ → Type 0
 IsKnownAlgorithm algorithm = (known : Algorithm) × (identifier_of known ≡ algorithm)
 
--- the algorithm of a CRL is one that the other may not follow, and why: it is known here, or it is not
+-- a CRL with `algorithm` may not follow one with `found`, and why: `found` is another known algorithm, or it is unknown here
 abbrev pub Differs : List ℕ → List ℕ → Cause → Type 0
 Differs found algorithm why =
     (¬ MayFollow algorithm found)

@@ -16,7 +16,7 @@ use Rattle.reg_office.specs.Stands.{SoundFor}
 use Rattle.reg_store_tables.specs.Kept.{ShowsKept}
 use Rattle.reg_desk_program.specs.Files.{IsOpenedFrom}
 
--- An office: its store, and its signers. In an office that is opened, the sound records stand that the file's tables showed, and no call was
+-- An office is its store and its signatory. In an office that is opened, the sound records stand that the file's tables showed, and no call was
 -- interrupted (`begins`). The machine may stop in any later call, or after it. A call that is executed over an open connection interrupts only itself
 -- (`call`), and of calls one after another only one is interrupted (`calls`). If a register is then opened again, it has the records that stood in
 -- the office, or those after the interrupted call (`leaves`).

@@ -1,4 +1,4 @@
--- The signers of a store's register, chosen by its records.
+-- Which signer of CRLs fits the register of a store.
 use Rattle.std.specs.Prelude.{◌≡◌, ℕ, List, Option, Some, None}
 use Rattle.sqlite.specs.Held.{Held, state}
 use Rattle.sqlite.specs.State.{HasCleanDisk}
@@ -14,7 +14,7 @@ use Rattle.reg_crl_signer.specs.Signed.{IsCrlUnder}
 use Rattle.reg_store_tables.specs.Shows.{Shows}
 use Rattle.reg_desk_cli.specs.declared.job.SignerAddress.{SignerAddress}
 
--- the path of the socket of the signer of CRLs: `None` for the digest, and any for `NoSigner`
+-- the path of the socket of the signer of CRLs: `None` for the digest; any path or `None` for `NoSigner`
 abbrev pub SignerAtPath : CrlSigner → Option (List ℕ) → Type 0
 SignerAtPath NoSigner path = Unit {0}
 SignerAtPath Digest path = path ≡ None
@@ -23,8 +23,8 @@ SignerAtPath (KeyAt address) path = path ≡ Some address.socket
 -- A store before and after the records were read; and the responder to OCSP requests, which may be the signer of CRLs.
 module _ {C : Type 0} (g : Ghosts C) (old new : Held C) (answers : Identity → Responder)
     (identity : Identity) where
-  -- The signer is the one at this address, with the issuer's key, or the digest; a CRL with its algorithm may follow the latest CRL; and the responder's
-  -- certificate, if the issuer's key signs its responses, has that key.
+  -- The signer is the one at this address, with the issuer's key, or the digest; a CRL with its algorithm may follow the latest CRL; and the
+  -- responder's certificate, if the issuer's key signs its responses, has that key.
   pub record FitsLatest (address : Option SignerAddress) (latest : Option (List ℕ)) : Type 0 where
     pub told : (records : Records) → Shows g old records → HasCleanDisk (state g new)
         → identity ≡ identity_of_signer address records.issuer.key

@@ -4,7 +4,7 @@ use crate::host::Host;
 use crate::progress::seconds;
 use reg_audit::ProgressObserver;
 
-/// Shows at most once a second how many rows an audit read and how many CRLs it compared, if standard error is a terminal.
+/// Shows at most once a second how many rows an audit has read and how many CRLs it has compared, if standard error is a terminal.
 #[derive(Drop)]
 pub(crate) struct AuditProgress {
     rt: HostRuntime,

@@ -1,4 +1,4 @@
-//! The signers of a register in a file.
+//! Chooses the signer of CRLs for a register in a file.
 
 ghost use Rattle.std.specs.Prelude.{◌≡◌, ◌↔◌, ◌⊎◌, List, ℕ, Some, Option, option_copied, option_map, IsTrue, IfOk, IfErr, MatchOption};
 ghost use Rattle.sqlite.specs.Held.{state};
@@ -33,8 +33,8 @@ use reg_office::Responder;
 use reg_store::{DatabaseFault, Tables};
 use sqlite::Alter;
 
-/// The signer of CRLs for the register in these tables. With `NoSigner`, it asks no process, so the next CRL fails with a fault of the signer; it has
-/// the algorithm of the latest CRL, or the digest's if there is none.
+/// The signer of CRLs for the register in these tables. With `NoSigner` the result reaches no signer process, so each new CRL fails with a fault of
+/// the signer; its algorithm is that of the latest CRL, or the placeholder digest's if there is no CRL.
 ///
 /// # Errors
 ///
@@ -63,7 +63,7 @@ pub(crate) fn signer_for<C: Alter>(
     }
 }
 
-/// A signer that asks no process, with the algorithm of the latest CRL, if there is one.
+/// A signer that reaches no signer process, with the algorithm of the latest CRL, or that of the placeholder digest if there is no CRL.
 fn signer_without_process<C: Alter>(
     host: &Host<'_>,
     tables: &mut Tables<C>,
@@ -96,7 +96,8 @@ fn unreachable_address(latest: &Option<Vec<u8>>) -> Option<SignerAddress<'static
     })
 }
 
-/// The signer at an address, or the placeholder digest, once it was compared with the issuer's key and the latest CRL.
+/// The signer at an address, or the placeholder digest for `None`, compared with the issuer's key and the latest CRL. Errors are those of
+/// [`signer_for`].
 #[tactic(auto, using(crate::proofs::Missing::opens_faulty))]
 fn signer_after<C: Alter>(
     host: &Host<'_>,
@@ -129,7 +130,8 @@ fn signer_after<C: Alter>(
     }
 }
 
-/// The signer at this address, which has the issuer's key; the placeholder digest for `None`. If the key does not fit the algorithm, keeps that cause.
+/// The signer at this address, for the issuer's key; the placeholder digest for `None`. Nothing is sent to the signer yet. Errors: `Memory`;
+/// `BadSigner` if the key does not fit the algorithm, a cause that the host keeps.
 fn open_signer(
     host: &Host<'_>,
     address: Option<&SignerAddress<'_>>,
@@ -160,7 +162,7 @@ fn open_signer(
     }
 }
 
-/// A signer at a socket, with this key; `BadSigner` if the key does not fit the algorithm.
+/// A signer at a socket, with this key. Errors: `BadSigner` if the key does not fit the algorithm; `Memory`.
 pub(crate) fn key_signer(
     rt: &HostRuntime,
     socket: &str,
@@ -186,6 +188,7 @@ pub(crate) fn key_signer(
     }
 }
 
+/// The bytes of the latest CRL; `None` if there is no CRL.
 fn latest_crl<C: Alter>(tables: &mut Tables<C>) -> Result<Option<Vec<u8>>, DatabaseFault>
     ensures found { (records : Records) → Shows C.Store tables.old records → SoundRows records
         → HasCleanDisk (state C.Store tables.new)

@@ -1,4 +1,4 @@
-//! Runs the program: a job over standard input and output.
+//! Runs an invocation of the program.
 
 use crate::dispatch::perform_unreported;
 use crate::host::{Host, open_log};
@@ -12,8 +12,9 @@ use std::io::{ErrorKind, IsTerminal};
 use std::os::unix::fs::MetadataExt;
 use std::{fs, io};
 
-/// Does the job of an invocation over standard input, or the file that it reads, and standard output, and returns the exit status of [`perform`].
-/// If the log or the input file can't be opened, it does not start the job, reports the fault on standard error, and returns 1.
+/// Does the job of an invocation, and returns the exit status of [`perform`]. The job reads standard input, or the file that an option names in its
+/// place, and writes to standard output. If the log file or the input file can't be opened, the job does not start: `run_desk` reports the fault on
+/// standard error, and returns 1.
 ///
 /// [`perform`]: crate::perform
 pub fn run_desk(rt: &HostRuntime, invocation: &Invocation<'_>) -> u8 {
@@ -60,8 +61,8 @@ fn log_path<'n>(invocation: &'n Invocation<'_>) -> Option<&'n str> {
     }
 }
 
-/// Checks that the log file can be opened for appending, and creates it if there is none. A file of the register is refused, since log lines would
-/// damage it.
+/// Checks that the log file can be opened for appending, and creates it if there is none. Errors: `AlreadyExists` if it is the register's file, or
+/// that file's `-wal` or `-journal`, which log lines would damage; else those of the system.
 fn check_log(rt: &HostRuntime, invocation: &Invocation<'_>) -> io::Result<()> {
     let (Some(path), Some(register)) = (log_path(invocation), file_of(&invocation.job)) else {
         return Ok(());

@@ -13,10 +13,9 @@ use reg_io::{Sink, Source};
 use std::cell::Cell;
 use std::io::Write;
 
-/// Does a job on a machine, over standard input and output, and returns its exit status: 0 if it is done; 3 if a reply at the control socket, or in a
-/// strict script or import, was a refusal or a fault, a replay stopped at a line of the log, or their last line has no line end; else 1. Reports a
-/// failure on standard error. If `is_explained` and it is known, one more line has the cause (status 1), or why the registration that ended a strict
-/// script or import was refused (status 3).
+/// Does a job on a machine, reads its input from `reader`, and writes its output to `writer`. Returns the exit status of [`status_of`]. Reports a
+/// failure to `errors`. With `is_explained`, one more line has the reason, if that is known. For status 1 this is the cause of the failure; for
+/// status 3, why the registration that ended a strict script or import was refused.
 pub fn perform<M: Machine, R: Source, W: Sink, E: Write>(
     rt: &HostRuntime,
     machine: &mut M,
@@ -45,8 +44,8 @@ pub fn perform<M: Machine, R: Source, W: Sink, E: Write>(
     status_of(&ending)
 }
 
-/// Calls [`perform`], but has no contract. If `run_desk` called `perform` itself, the prover would write out the contract over the program's files
-/// and sockets, which takes minutes.
+/// Calls [`perform`], and reports as it does, but has no contract. If `run_desk` called `perform` itself, the prover would write out the contract
+/// over the program's files and sockets, which takes minutes.
 pub(crate) fn perform_unreported<M: Machine, R: Source, W: Sink, E: Write>(
     rt: &HostRuntime,
     machine: &mut M,
@@ -59,7 +58,7 @@ pub(crate) fn perform_unreported<M: Machine, R: Source, W: Sink, E: Write>(
     perform(rt, machine, job, is_explained, reader, writer, errors)
 }
 
-/// Does a job, and keeps the reason of the refused registration that ended it.
+/// Does a job. If a refused registration ended it, puts the reason of the refusal into `reason`.
 fn run<M: Machine, R: Source, W: Sink>(
     rt: &HostRuntime,
     machine: &mut M,
@@ -142,6 +141,7 @@ fn run<M: Machine, R: Source, W: Sink>(
     }
 }
 
+/// Keeps the cause of `BadPolicy` in the machine.
 fn keep_terms_cause<M: Machine>(machine: &M, job: &Job<'_>, ending: &Result<(), Failure>) {
     if let Err(Failure::BadPolicy) = ending {
         machine.keep_cause(None, wrong_terms(job));

@@ -11,17 +11,17 @@ use sqlite::{FileFrom, FileStore};
 use sqlite_disk::Unknown;
 use std::alloc::Global;
 
-/// A signer process behind a Unix socket, which is not asked for a while after a timeout (back-off).
+/// A signer process behind a Unix socket. After a timeout it is not asked for ten seconds (back-off).
 pub type FileDevice = BackoffDevice<SocketDevice<UnixConnection>, HostRuntime>;
 
 /// The signer of a register in a file: a process behind a socket, or the placeholder digest.
 pub type FileSigner = RegisterSigner<FileDevice>;
 
-/// An office over a database file. A page that is read again must have the digest that it had before.
+/// An office over a database file. If a page is read from the file again and has another digest than before, the call fails.
 pub(crate) type OfficeInFile = Office<FileStore<FileFrom<Unknown>>, FileSigner>;
 
-/// The office of a register in a file. Each method calls that of [`reg_office::Office`]. The type has no parameters, so that the prover compares it
-/// by its name. To compare all the type arguments of the office takes more steps than the prover allows.
+/// The office of a register in a file. Each method calls the method of [`reg_office::Office`] with the same name. This type has no parameters, so the
+/// prover compares it by its name. To compare all type arguments of `OfficeInFile` takes more steps than the prover allows.
 #[derive(Drop)]
 pub struct FileOffice {
     pub(crate) office: OfficeInFile,

@@ -50,16 +50,16 @@ const EMFILE: i32 = 24;
 
 const ENFILE: i32 = 23;
 
-/// The most tries for the lock of a folder, and the pause between two of them: ten seconds in all.
+/// The most attempts to lock a folder, and the pause after each: ten seconds in all.
 const MOST_LOCK_TRIES: u32 = 2_000;
 
 const LOCK_PAUSE_MILLIS: u64 = 5;
 
-/// The machine on which the program runs: its files, clock, TCP ports and Unix sockets. It keeps the last cause of a failed call.
+/// The machine on which the program runs: its files, clock, TCP ports and Unix sockets. It keeps the cause of the last failure, for `--why`.
 #[derive(Clone, Copy)]
 pub struct Host<'a> {
     pub(crate) rt: HostRuntime,
-    /// The last cause of a failed call, if one is known.
+    /// The cause that was kept last; `None` if that failure had no known cause.
     pub(crate) last_cause: &'a Cell<Option<FailureCause>>,
     /// Whether exchanges are logged on standard error.
     pub(crate) logs_to_stderr: bool,
@@ -70,7 +70,7 @@ pub struct Host<'a> {
 }
 
 impl<'a> Host<'a> {
-    /// The failure for files that could not be read. Keeps its cause, if it has one.
+    /// The failure for files that could not be read: `NotARegister` if there is no database yet, else the fault, whose cause is kept.
     pub(crate) fn failure_of(&self, location: Option<Location>, why: UnreadFile) -> Failure
         requires { IsUnread why }
         ensures told { result ≡ failure_of why }
@@ -83,6 +83,7 @@ impl<'a> Host<'a> {
         }
     }
 
+    /// The fault of files that could not be read, whose cause is kept.
     fn fault_of(&self, location: Option<Location>, why: FileFault) -> Fault
         ensures { result ≡ why.fault }
     {
@@ -100,6 +101,7 @@ impl<'a> Host<'a> {
         }
     }
 
+    /// Whether a path was claimed. If it was not, its cause is kept.
     fn is_claimed(&self, claim: Result<(), ClaimFault>) -> Result<bool, Memory>
         ensures { result ≡ is_claimed claim }
     {
@@ -115,7 +117,8 @@ impl<'a> Host<'a> {
 }
 
 /// Most methods make one library call with the arguments that they were given. No clause can state what that call did outside the program, so
-/// the method's relation in [`Machine`] states nothing here (`Unspecified`).
+/// the method's relation in [`Machine`] states nothing here (`Unspecified`). Only `fresh`, `certified`, `opened`, `made` and `audited` state what the
+/// program itself did.
 impl<'a> Machine for Host<'a> {
     ghost use Rattle.std.specs.Prelude.{false};
     ghost use Rattle.std.proofs.Common.{inr, refl};
@@ -444,7 +447,7 @@ impl<'a> Machine for Host<'a> {
     }
 }
 
-/// Why an open register's files were not copied. Files without a database are damaged, as they had one.
+/// Why an open register's files were not copied. If the files have no database now, they are damaged, because the desk has one open there.
 fn copy_fault_by(why: UnreadFile) -> CopyFault
     requires { IsUnread why }
     ensures { IsOfStore result.fault }
@@ -500,7 +503,8 @@ fn lock_once_free(rt: &HostRuntime, folder: &File) -> io::Result<()> {
     Err(io::Error::from(ErrorKind::AddrInUse))
 }
 
-/// The error of a connection to a signer. Too many open files become `WouldBlock`, since the request can be sent once another file is closed.
+/// The error of a connection to a signer. The errors for too many open files become `WouldBlock`, since the request can be sent once another file is
+/// closed.
 fn as_would_block(error: io::Error) -> io::Error {
     match error.raw_os_error() {
         Some(EMFILE | ENFILE) => io::Error::from(ErrorKind::WouldBlock),
@@ -508,14 +512,15 @@ fn as_would_block(error: io::Error) -> io::Error {
     }
 }
 
-/// Appends a line to the log file, which is opened anew for each line. So once the file is renamed, the next line goes to a new one at the path.
+/// Appends a line to the log file, which is opened anew for each line. So once the file is renamed, the next line goes to a new file at the path. A
+/// line that can't be written is left out.
 fn append(rt: &HostRuntime, path: &str, line: &[u8]) {
     if let Ok(mut file) = open_log(rt, path) {
         let _ = write_whole(&mut file, line);
     }
 }
 
-/// Opens a log file for appending, or creates it so that only its owner may read and write it.
+/// Opens a log file for appending, or creates it with mode 0600.
 pub(crate) fn open_log(rt: &HostRuntime, path: &str) -> io::Result<File> {
     let mut options = OpenOptions::new();
     options.append(true).create(true).mode(OWNER_ONLY);

@@ -13,7 +13,7 @@ pub(crate) enum Input {
 }
 
 impl Input {
-    /// Opens the file at the path; without a path, standard input.
+    /// Opens the file at the path; without a path, takes standard input. Errors: the file can't be opened.
     pub(crate) fn of(rt: &HostRuntime, path: Option<&str>) -> io::Result<Input> {
         match path {
             Some(path) => Ok(Input::File(File::open(rt, path)?)),
@@ -22,7 +22,7 @@ impl Input {
     }
 }
 
-/// The path of the file that a job reads in place of standard input, and the argument that names it.
+/// The path of the file that a job reads in place of standard input, and the argument or option that names it.
 pub(crate) fn input_path<'a>(job: &Job<'a>) -> Option<(Location, &'a str)> {
     match job {
         Job::EachRow {

@@ -11,17 +11,18 @@ use sqlite_disk::Disk;
 
 /// A register that an audit found sound has sound records, and an office that opens its file has them.
 ///
-/// If [`Machine::audit_in`](reg_desk_jobs::Machine::audit_in) of the [`Host`](crate::Host) returned `Sound`, the file's tables show sound records, and
-/// the derived tables (states, counts, CRL entries) agree with them. If an office then opens the file with these tables, the records stand in it
-/// (`Stands`), so the clauses and laws of [`reg_office`] hold for them. The law assumes (`IsPresumed`) what no audit can check: each row of the table
-/// `listed` stores its last column (else it reads as NULL), and no call left the connection's transaction broken, which the crate `sqlite` does not
-/// state. It also assumes the signatures of the stored CRLs, which an audit does not verify, and a disk that returned what was written.
+/// If [`Machine::audit_in`](reg_desk_jobs::Machine::audit_in) of the [`Host`](crate::Host) returned `Sound`, the file's tables show sound records,
+/// and the derived tables (states, counts, CRL entries) agree with them. If an office then opens the file with these tables, the records stand in it
+/// (`Stands`: its tables show them, and they are sound). So the contracts and laws of [`reg_office`] hold for them. The law assumes (`IsPresumed`) what
+/// no audit can check: each row of the table `listed` stores its last column (else it reads as NULL), and no call left the connection's transaction
+/// broken, which the crate `sqlite` does not state. It also assumes the signatures of the stored CRLs, which an audit does not verify, and a disk
+/// that returned what was written.
 pub fn a_register_that_was_found_sound_stands<A: Disk, D: Disk, S: Signer>()
     ensures { (found : FoundSound A.Disk) → StandsOnceAudited D.Disk S.signs found }
 {}
 
-/// If the signer of a register in a file is the placeholder digest, it makes that digest, and nothing else. So the register may switch from it to a
-/// key, by [`reg_office::laws::a_key_follows_the_digest`].
+/// If a register in a file has no signer with a key, its signatures are placeholder digests, and nothing else. So the register may switch from the
+/// digest to a key, by [`reg_office::laws::a_key_follows_the_digest`].
 pub fn without_a_key_only_digests_are_made<D: Device>()
     ensures { IsDigestSigner (SignsByKeyOrDigest D.answers) digest }
 {}
@@ -31,9 +32,9 @@ pub fn without_a_key_only_digests_are_made<D: Device>()
 /// Between its opening and its closing by a job, [`perform`](crate::perform) changes the records that stand in a register only as the replies report
 /// (`UsesRegister` of reg_desk_jobs). A register of this program's version that is opened has the sound records that its file showed (`begins`).
 /// The machine may stop in any later call, or after it. A register that is then opened again from what the disk kept has the records that stood, or
-/// those after the interrupted call (`leaves`). That is the call which was executed (`call`); or an earlier one, if the disk's failure closed
-/// the connection in it: then each later one failed (`calls`). No acceptance of the interrupted call was replied. So no accepted command is lost,
-/// and at most one other was carried out.
+/// those after the interrupted call (`leaves`). The interrupted call is the last one (`call`); or an earlier one in which the disk's failure closed
+/// the connection, so that each later call failed (`calls`). The interrupted call got no reply of acceptance. So no accepted command is lost,
+/// and at most one other command was carried out.
 ///
 /// The model of a stop is a disk that refuses each call from that moment on, and a client that receives no later reply. A reply is written
 /// only after its call.

@@ -1,4 +1,4 @@
-//! The program `desk`: its jobs, the machine on which it runs, and the registers in its files.
+//! The program `desk`: it runs the jobs of `reg_desk_jobs` on the real machine, over registers in files.
 #![tactic(auto)]
 
 mod audit_progress;

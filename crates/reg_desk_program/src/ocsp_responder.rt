@@ -20,7 +20,8 @@ use reg_office::Responder;
 use std::fs;
 use std::io::ErrorKind;
 
-/// A responder that signs with the signer of CRLs. If the path of a certificate is given, each response embeds that certificate.
+/// A responder that signs with the signer of CRLs. If the path of a certificate is given, each signed response embeds that certificate. Errors: those
+/// of [`certificate_at`].
 pub(crate) fn issuer_responder(
     host: &Host<'_>,
     path: &Option<Argument<'_>>,
@@ -40,7 +41,8 @@ pub(crate) fn issuer_responder(
     }
 }
 
-/// A responder with a key and a signer of its own, and the certificate in the file at a path.
+/// A responder with a key and a signer of its own, and the certificate in the file at a path (RFC 6960 4.2.2.2). Errors: those of [`certificate_at`];
+/// `BadResponder` also if the certificate's key is not of the signer's algorithm.
 pub(crate) fn delegate_responder(
     host: &Host<'_>,
     path: &Argument<'_>,
@@ -67,7 +69,8 @@ pub(crate) fn delegate_responder(
     }
 }
 
-/// Reads the certificate in the file at a path. If the file can't be read, keeps the cause.
+/// Reads the certificate, in DER, in the file at a path. Errors: `Memory`; `BadResponder` if the file can't be read, whose cause the host keeps, or
+/// if it has no valid certificate.
 fn certificate_at(host: &Host<'_>, location: Location, path: &str) -> Result<Certificate, Failure>
     ensures { IfErr result (λ why. (why ≡ Failure.Fault Fault.Memory) ⊎ (why ≡ Failure.BadResponder)) }
 {
@@ -88,7 +91,7 @@ fn certificate_at(host: &Host<'_>, location: Location, path: &str) -> Result<Cer
     }
 }
 
-/// Whether the certificate that the issuer's responses embed has this key; true if they embed none, or a delegate responds.
+/// Whether the certificate that the issuer's responses embed has this key; true if they embed none, or if a delegate responds.
 pub(crate) fn embedded_key_fits(responder: &Responder<FileSigner>, key: &[u8]) -> bool
     ensures { IsTrue result → (crls : Identity)
         → EmbeddedKeyFits key.now (answers_by ⟦<FileSigner as Signer>⟧.identity crls responder.now) }

@@ -1,4 +1,4 @@
-//! Opens, creates and closes a register in a file.
+//! Opens, creates and closes the register of a database, and presets signatures.
 
 ghost use Rattle.std.specs.Prelude.{◌≡◌, None, false, IfOk, IfErr};
 ghost use Rattle.reg_core.specs.Records.{no_records};
@@ -22,10 +22,10 @@ use reg_store::Store;
 use sqlite::{Alter, Connection, FileFrom, FileStore};
 use sqlite_disk::{Disk, Unknown};
 
-/// A connection to a database file. A page that is read again must have the digest that it had before.
+/// A connection to a database file. If a page is read from the file again and has another digest than before, the call fails.
 pub type FileConnection = Connection<FileStore<FileFrom<Unknown>>>;
 
-/// Creates a register in a database, and returns its office; if that fails, the failure and the connection.
+/// Creates a register in a database, and returns its office. Errors: `NotEmpty`, `Memory` or `Store`, with the connection.
 pub(crate) fn create_over<C: Alter, S: Signer + Drop>(
     connection: Connection<C>,
     issuer: Issuer,
@@ -46,8 +46,8 @@ pub(crate) fn create_over<C: Alter, S: Signer + Drop>(
     }
 }
 
-/// Opens the register of a database with this signer of CRLs and this responder, and returns its office, or the failure and the
-/// connection. The host keeps the cause of `BadSigner`.
+/// Opens the register of a database with this signer of CRLs and this responder, and returns its office. Errors, with the connection:
+/// `NotARegister`, `NewVersion`, and those of [`signer_for`].
 pub(crate) fn open_over<C: Alter>(
     host: &Host<'_>,
     connection: Connection<C>,
@@ -77,12 +77,13 @@ pub(crate) fn connection_of<C: Alter, S: Signer + Drop>(office: Office<C, S>) ->
     store.into_connection()
 }
 
-/// Closes a connection. If its WAL can't be copied into the file, nothing is lost: the next opening reads the WAL.
+/// Closes a connection. If its WAL can't be copied into the file, no record is lost, because the next opening reads the WAL.
 pub(crate) fn close<D: Disk + Drop>(connection: Connection<FileStore<D>>) {
     drop(connection.close());
 }
 
-/// Presets the next signature of the signer of CRLs, or of the responder. This contract does not limit what is preset.
+/// Presets the next signature: for an answer that of a delegate, otherwise that of the signer of CRLs. `None` removes the preset. This contract does
+/// not limit what is preset.
 #[tactic(auto, using(crate::proofs::Priming::given_anyhow))]
 pub(crate) fn preset_next(
     signer: &mut FileSigner,

@@ -8,12 +8,13 @@ use std::io::{IsTerminal, Stdout, Write};
 use std::time::Clock;
 use std::{fs, io};
 
-/// A file of at least this many bytes has its opening shown.
+/// The opening of a file with at least this many bytes is shown.
 const LARGE: u64 = 67_108_864;
 
 const MEGABYTE: u64 = 1_000_000;
 
-/// Standard output, to which a long job writes a line for each line or row that is done. Standard error gets their number, at most once a second.
+/// Standard output, to which a long job writes a reply line for each line or row that is done. The number of these replies is shown on standard
+/// error, at most once a second.
 #[derive(Drop)]
 pub(crate) struct CountedOutput<'a> {
     rt: &'a HostRuntime,
@@ -27,7 +28,8 @@ pub(crate) struct CountedOutput<'a> {
 }
 
 impl<'a> CountedOutput<'a> {
-    /// Lines of a long job are counted if standard error is a terminal and standard output is not. On a terminal, the operator sees the replies themselves.
+    /// The replies of a long job are counted if standard error is a terminal and standard output is not. On a terminal, the operator sees the replies
+    /// themselves.
     pub(crate) fn of(
         rt: &'a HostRuntime,
         job: &Job<'_>,
@@ -85,7 +87,7 @@ impl<'a> Write for CountedOutput<'a> {
     }
 }
 
-/// Shows that a large file is opened, if standard error is a terminal.
+/// Shows that the job opens a large register, if standard error is a terminal.
 pub(crate) fn report_opening(rt: &HostRuntime, job: &Job<'_>) {
     let Some(path) = file_of(job) else {
         return;
@@ -117,7 +119,7 @@ fn is_long(job: &Job<'_>) -> bool {
     )
 }
 
-/// The path of the register that a job opens.
+/// The path of the register that a job opens. `None` for a register in memory, and for a job that opens none.
 pub(crate) fn file_of<'a>(job: &Job<'a>) -> Option<&'a str> {
     match job {
         Job::Script { file, .. } => Some(file.as_ref()?.as_str()),

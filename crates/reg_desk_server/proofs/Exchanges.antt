@@ -1,4 +1,4 @@
--- Exchanges, one after the other.
+-- Lemmas about exchanges, one after the other.
 use Rattle.std.proofs.Common.{◌≡◌, ℕ, ◌+◌, List, [], ◌∷◌, ◌++◌, refl, arith, inl, inr}
 use Rattle.reg_io.proofs.PublicLaws.{answered_append}
 use Rattle.std.specs.Prelude.{Result, Ok, Err, OnOk, OnErr, take}
@@ -9,7 +9,7 @@ use Rattle.reg_desk_server.specs.Buffers.{unsent_of}
 use Rattle.reg_desk_server.specs.declared.control_connection.ControlConnection.{ControlConnection}
 use Rattle.reg_desk_server.specs.declared.handler.Handler.{Ghosts}
 
--- the requests of two lists
+-- the count of requests in two lists, one after the other
 pub asked_in_append : (first rest : List Input) → requests_in (first ++ rest) ≡ requests_in first + requests_in rest
 asked_in_append [] rest = omega arith
 asked_in_append (request bytes ∷ first) rest = omega (arith, asked_in_append first rest)
@@ -55,18 +55,18 @@ module _ {S T L : Type 0} (g : Ghosts S T L) where
     counted = omega (arith, first.counted, rest.counted, asked_in_append first.inputs rest.inputs);
   }
 
-  -- a line was answered, or none was there
+  -- the first line was answered, or none was
   pub handled_telling : {P : Type 0} (s t : S) (answered : ℕ) (old new : ControlConnection P) → AnswersFirstLine g.answers_line s t old new → Handled g s t answered answered
   handled_telling s t answered old new (inl told) = handled_line s t answered (take told.0 old.arrived.items) (unsent_of new.unsent) told.3
   handled_telling s t answered old new (inr silent) = handled_none s t answered answered silent.1 refl
 
-  -- or it stopped before
+  -- the same, or the handler failed and did not change
   pub handled_told : {P U E : Type 0} (Q : Type 0) (r : Result U E) (s t : S) (answered : ℕ) (old new : ControlConnection P)
       → OnOk r (AnswersFirstLine g.answers_line s t old new) → OnErr r (Q × (t ≡ s)) → Handled g s t answered answered
   handled_told Q (Ok u) s t answered old new told stopped = handled_telling s t answered old new told
   handled_told Q (Err e) s t answered old new told stopped = handled_none s t answered answered stopped.1 refl
 
-  -- a line was looked at, or none was
+  -- the first line was deferred, or none was
   pub handled_deferring : {P : Type 0} (s t : S) (answered : ℕ) (old : ControlConnection P) → DefersFirstLine g.defers s t old → Handled g s t answered answered
   handled_deferring s t answered old (inl looked) = record {
     inputs = line (take looked.0 old.arrived.items) ∷ [];
@@ -76,7 +76,7 @@ module _ {S T L : Type 0} (g : Ghosts S T L) where
   }
   handled_deferring s t answered old (inr same) = handled_none s t answered answered same refl
 
-  -- a line that was looked at was answered then, or looked at again; or it stopped before
+  -- a deferred line was answered or deferred again; or the handler failed and did not change
   pub handled_told_later : {P U E : Type 0} (Q : Type 0) (r : Result U E) (s t : S) (answered : ℕ) (old new : ControlConnection P)
       → OnOk r (AnswersDeferred g.answers_line g.defers s t old new) → OnErr r (Q × (t ≡ s)) → Handled g s t answered answered
   handled_told_later Q (Ok u) s t answered old new (inl told) stopped = handled_telling s t answered old new told

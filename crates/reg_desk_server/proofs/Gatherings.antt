@@ -1,4 +1,4 @@
--- What a control connection gives, held piece by piece.
+-- Lemmas about the bytes that come on a control connection and are kept, read by read.
 use Rattle.std.proofs.Common.{◌≡◌, ℕ, Bool, List, ◌++◌, [], ◌⊎◌, refl, sym, subst, ap, ◌∙◌, inl, inr}
 use Rattle.std.specs.Prelude.{Option, Some, None, true, false}
 use Rattle.std.specs.Io.KnownBytes.{Consumes}
@@ -16,7 +16,7 @@ use Rattle.reg_desk_server.specs.declared.unsent.Sent.{Sent}
 pub gathers_none : (input : Option (List ℕ)) (held : List ℕ) (ended : Bool) → Gathers input input held held ended
 gathers_none input held ended = record { kept = []; lost = []; consumed = Consumes-nil input; held = sym (append-nil held); whole = inl refl }
 
--- what one read gave
+-- the bytes of one read
 pub gathers_taken : (a b : Option (List ℕ)) (x y : List ℕ) (t : Received) (ended : Bool) → (t ≡ received.OutOfMemory → ended ≡ true) → Receives a b x y t
     → Gathers a b x y ended
 gathers_taken a b x y received.OutOfMemory ended is took =
@@ -26,11 +26,11 @@ gathers_taken a b x y other ended is took =
     let all = subst (Consumes a b) (sym (append-nil took.arrived)) took.consumed in
     record { kept = took.arrived; lost = []; consumed = all; held = took.held; whole = inl refl }
 
--- what goes on has not ended
+-- a connection that has not ended is not one that has ended
 pub goes_on : (ended : Bool) → ended ≡ false → ended ≡ true → ⊥
 goes_on ended goes ends = let both : false ≡ true = sym goes ∙ ends in let bad : ⊥ = cc in bad
 
--- what is not due at all is the other
+-- without a next step, the other alternative holds
 pub not_due : {N : Type 0} (next : N) (P : Type 0) → (None ≡ Some next) ⊎ P → P
 not_due next P (inl none) = let bad : ⊥ = cc in absurd bad
 not_due next P (inr other) = other
@@ -40,7 +40,7 @@ pub none_lost : (lost : List ℕ) (ended : Bool) → ended ≡ false → (lost �
 none_lost lost ended goes (inl none) = none
 none_lost lost ended goes (inr ends) = absurd (goes_on ended goes ends)
 
--- some came, none of which was lost, and then others
+-- some bytes came, of which none was lost, and then others
 pub gathers_then : (a b c : Option (List ℕ)) (x y z : List ℕ) (ended ended' : Bool) → ended ≡ false → Gathers a b x y ended → Gathers b c y z ended'
     → Gathers a c x z ended'
 gathers_then a b c x y z ended ended' goes first rest = record {
@@ -55,7 +55,7 @@ gathers_then a b c x y z ended ended' goes first rest = record {
   whole = rest.whole;
 }
 
--- a reply was sent on, and then what came was received
+-- more of a reply was sent, and then the bytes that came were received
 pub advances_taken : {S : Type 0} (contents remaining : S → Option (List ℕ)) (old new : ControlConnection S) (m : S) (u : Unsent) (rests : Sent)
     → SendsUnsent contents old.link m old.unsent u rests → new.unsent ≡ u
     → Gathers (remaining m) (remaining new.link) old.arrived.items new.arrived.items new.has_ended

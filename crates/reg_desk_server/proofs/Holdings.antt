@@ -1,4 +1,4 @@
--- What is held of what came, and what is sent of a text, one step after the other.
+-- Lemmas about the received bytes that are kept, and about the sent part of a text, one step after the other.
 use Rattle.std.proofs.Common.{◌≡◌, ℕ, ◌+◌, ◌-◌, ◌≤◌, List, [], ◌∷◌, ◌++◌, length, take, drop, sym, subst, ap, ◌∙◌, arith, take-append-drop}
 use Rattle.std.specs.Prelude.{Option, None, Some, MatchOption}
 use Rattle.std.specs.Io.KnownBytes.{Appends}
@@ -16,7 +16,7 @@ use Rattle.reg_desk_server.specs.declared.request_bytes.Received.TheVariants as 
 use Rattle.reg_desk_server.specs.declared.unsent.Sent.{Sent}
 use Rattle.reg_desk_server.specs.declared.unsent.Sent.TheVariants as sent
 
--- bytes that came before stand before those that came then
+-- some bytes were appended, and then others
 pub adds_then : (x y z first arrived : List ℕ) (t : Received) → y ≡ x ++ first → AddsTo y arrived z t → AddsTo x (first ++ arrived) z t
 adds_then x y z first arrived received.OutOfMemory before (kept, lost, parted, after) = (
   first ++ kept,
@@ -26,7 +26,7 @@ adds_then x y z first arrived received.OutOfMemory before (kept, lost, parted, a
 )
 adds_then x y z first arrived other before after = after ∙ ap (λ (l : List ℕ). l ++ arrived) before ∙ append_assoc x first arrived
 
--- some were received, and then others
+-- some bytes were received, and then others
 pub takes_then : (a b c : Option (List ℕ)) (x y z : List ℕ) (t : Received) → Receives a b x y received.More → Receives b c y z t → Receives a c x z t
 takes_then a b c x y z t first rest = record {
   arrived = first.arrived ++ rest.arrived;
@@ -34,7 +34,7 @@ takes_then a b c x y z t first rest = record {
   held = adds_then x y z first.arrived rest.arrived t first.held rest.held;
 }
 
--- some was sent, and then more
+-- some of a text was sent, and then more
 pub sends_then : (a b c : Option (List ℕ)) (x y z : List ℕ) (t : Sent) → SendsOn a b x y sent.More → SendsOn b c y z t → SendsOn a c x z t
 sends_then a b c x y z t first rest = record {
   went = first.went ++ rest.went;
@@ -43,7 +43,7 @@ sends_then a b c x y z t first rest = record {
   all = rest.all;
 }
 
--- a piece was sent, or a front of it
+-- a prefix of a piece was sent
 pub sends_piece : (old new : Option (List ℕ)) (text : List ℕ) (at end count : ℕ) → count ≤ end - at
     → Appends old new (take count (take (end - at) (drop at text))) → SendsOn old new (drop at text) (drop (at + count) text) sent.More
 sends_piece old new text at end count few appended = record {
@@ -62,22 +62,22 @@ found_or_none bytes mark None none =
     subst P (take_all (length bytes) bytes (omega arith)) (no_delimiter_in_prefix mark bytes (length bytes) none)
 found_or_none bytes mark (Some end) found = found.1
 
--- the same behind a reply that was sent
+-- the same after a reply that was wholly sent
 pub due_or_none : (unsent bytes : List ℕ) (r : Option ℕ) → unsent ≡ [] → MatchOption r (HasNoDelimiter (10 ∷ []) bytes) (λ end. FirstDelimiter (10 ∷ []) bytes end)
     → MatchOption r (unsent ≡ [] → HasNoDelimiter (10 ∷ []) bytes) (λ end. (unsent ≡ []) × FirstDelimiter (10 ∷ []) bytes end)
 due_or_none unsent bytes None sent none = λ is. none
 due_or_none unsent bytes (Some end) sent found = (sent, found)
 
--- some were dropped, and then others
+-- some bytes were dropped, and then others
 pub dropped_then : (a b c : Option (List ℕ)) → IsDropped a b → IsDropped b c → IsDropped a c
 dropped_then a b c first rest = (first.0 ++ rest.0, Consumes-trans a b c first.0 rest.0 first.1 rest.1)
 
--- where nothing is left of an answer that is held, that is the rest
+-- if the unsent part of an answer is empty, the rest is empty
 none_left : {T : Type 0} (at : Stage T) (rest : List ℕ) → HasUnsentRest at rest → HasUnsentText at [] → rest ≡ []
 none_left (stage.Sending unsent exact) rest left empty = left ∙ sym empty
 none_left _ rest left empty = absurd empty
 
--- all of an answer was sent, and the client has it
+-- the last bytes of an answer were sent, and the connection drains
 pub sends_last : {S H T L : Type 0} (contents : S → Option (List ℕ)) (old between new : HttpConnection S H T L) → Sends contents old between
     → HasUnsentText between.stage [] → new.link ≡ between.link → new.stage ≡ stage.Draining → Sends contents old new
 sends_last {S = S} {T = T} contents old between new sends empty same drains text holds =

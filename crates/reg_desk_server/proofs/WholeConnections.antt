@@ -1,4 +1,4 @@
--- What a connection was, from when it was accepted, step by step.
+-- Lemmas about whole connections, one for each step (specs/Connections.antt).
 use Rattle.std.proofs.Common.{◌≡◌, ℕ, Bool, List, [], ◌∷◌, ◌++◌, ◌⊎◌, take, drop, refl, sym, subst, ap, ◌∙◌, inl, inr, take-append-drop}
 use Rattle.std.specs.Io.KnownBytes.{Appends}
 use Rattle.std.specs.Prelude.{Option, is_some, true}
@@ -21,11 +21,11 @@ use Rattle.reg_desk_server.specs.declared.http_connection.HttpConnection.{HttpCo
 use Rattle.reg_desk_server.specs.declared.http_connection.Stage.{Stage}
 use Rattle.reg_desk_server.specs.declared.http_connection.Stage.TheVariants as stage
 
--- one list more at the end of those that are joined
+-- `concat` of lists with one more list at the end
 concat_more : (xs : List (List ℕ)) (x : List ℕ) → concat (xs ++ x ∷ []) ≡ concat xs ++ x
 concat_more xs x = concat-append xs (x ∷ []) ∙ ap (λ (l : List ℕ). concat xs ++ l) (append-nil x)
 
--- what came behind what is held is held, or lost at the end: some was lost only of a connection that had ended, of which nothing more is held
+-- the bytes that came next are kept, or lost at the end; if bytes were lost before, the connection had ended, and no more are kept
 lost_on : (front held held' lost kept lost' : List ℕ) (ended ended' : Bool) → (lost ≡ []) ⊎ (ended ≡ true) → held' ≡ held ++ kept
     → (lost' ≡ []) ⊎ (ended' ≡ true) → (ended ≡ true → (held' ≡ held) × (ended' ≡ true))
     → (all : List ℕ) × (front ++ held ++ lost ++ (kept ++ lost') ≡ front ++ held' ++ all) × ((all ≡ []) ⊎ (ended' ≡ true))
@@ -44,12 +44,12 @@ lost_on front held held' lost kept lost' ended ended' (inr ends) grows whole ove
   inr (over ends).1,
 )
 
--- what went out and then what is left
+-- a text that is split into a sent part and the rest, after the bytes sent before
 part_on : (gone went rest text : List ℕ) → text ≡ went ++ rest → gone ++ text ≡ gone ++ went ++ rest
 part_on gone went rest text parted = ap (λ (l : List ℕ). gone ++ l) parted ∙ sym (append_assoc gone went rest)
 
 module _ {S H : Type 0} (contents remaining : S → Option (List ℕ)) (answers_line : H → List ℕ → List ℕ → H → Type 0) where
-  -- on a connection that was accepted no line was answered
+  -- on a connection that was just accepted, no line was answered
   pub told_none : (connection : ControlConnection S) → IsFresh connection → HasAnsweredLines contents remaining answers_line connection.link connection [] []
   told_none connection fresh = record {
     arrived = [];
@@ -62,7 +62,7 @@ module _ {S H : Type 0} (contents remaining : S → Option (List ℕ)) (answers_
     whole = inl refl;
   }
 
-  -- it went on
+  -- the connection was advanced
   pub told_on : AnswersNoMoreLines contents remaining answers_line
   told_on first old new lines replies was step =
       let it = step.gathered in
@@ -82,7 +82,7 @@ module _ {S H : Type 0} (contents remaining : S → Option (List ℕ)) (answers_
         whole = whole;
       }
 
-  -- its first line was answered
+  -- the first line was answered
   told_more : (first : S) (s t : H) (old new : ControlConnection S) (lines replies : List (List ℕ)) (end : ℕ)
       → HasAnsweredLines contents remaining answers_line first old lines replies → SameLinkAndEnd old new → FirstDelimiter (10 ∷ []) old.arrived.items end
       → unsent_of old.unsent ≡ [] → answers_line s (take end old.arrived.items) (unsent_of new.unsent) t → new.arrived.items ≡ drop end old.arrived.items
@@ -108,7 +108,7 @@ module _ {S H : Type 0} (contents remaining : S → Option (List ℕ)) (answers_
         whole = subst (λ (ended : Bool). (was.lost ≡ []) ⊎ (ended ≡ true)) (sym same.1) was.whole;
       }
 
-  -- nothing was held or sent anew
+  -- neither the kept bytes nor the unsent ones changed
   told_same : (first : S) (old new : ControlConnection S) (lines replies : List (List ℕ)) → SameLinkAndEnd old new → SameLines old new
       → HasAnsweredLines contents remaining answers_line first old lines replies → HasAnsweredLines contents remaining answers_line first new lines replies
   told_same first old new lines replies same as_held was = record {
@@ -122,14 +122,14 @@ module _ {S H : Type 0} (contents remaining : S → Option (List ℕ)) (answers_
     whole = subst (λ (ended : Bool). (was.lost ≡ []) ⊎ (ended ≡ true)) (sym same.1) was.whole;
   }
 
-  -- its first line was answered, or none
+  -- the first line was answered, or none was
   pub told_next : AnswersOneMoreLine contents remaining answers_line (AnswersFirstLine answers_line) (λ s t _. t ≡ s)
   told_next first s t old new lines replies was same (inl (end, mark, none, step, rest)) =
       inl (take end old.arrived.items, step, told_more first s t old new lines replies end was same mark none step rest)
   told_next first s t old new lines replies was same (inr (none, nothing, as_held)) =
       inr (nothing, told_same first old new lines replies same as_held was)
 
-  -- the same of one that was looked at, or is once more
+  -- a deferred line was answered, or deferred again
   pub told_later : (defers : H → List ℕ → H → Type 0) → AnswersOneMoreLine contents remaining answers_line (AnswersDeferred answers_line defers) (DefersFirstLine defers)
   told_later defers first s t old new lines replies was same (inl (inl (end, mark, none, step, rest))) =
       inl (take end old.arrived.items, step, told_more first s t old new lines replies end was same mark none step rest)
@@ -138,14 +138,14 @@ module _ {S H : Type 0} (contents remaining : S → Option (List ℕ)) (answers_
   told_later defers first s t old new lines replies was same (inr (looked, as_held)) =
       inr (looked, told_same first old new lines replies same as_held was)
 
--- what the handler finishes now, it finishes at some time
+-- an answer that the handler finishes in this state is finished in some state
 pub finishes_once : {H T : Type 0} (finishes : H → T → List ℕ → Type 0) (s : H) (before after : Stage T)
     → Finishing (finishes s) before after → Finishing (FinishesOnce finishes) before after
 finishes_once finishes s (stage.Signing ticket link exact) after (text, finished, holds) = (text, (s, finished), holds)
 finishes_once finishes s other after same = same
 
 module _ {H T : Type 0} (answers : H → List ℕ → Outcome T → H → Type 0) (finishes : T → List ℕ → Type 0) where
-  -- what was answered or left still was, where more came
+  -- an answer that was left unsigned, or given, stays so if more bytes came
   left_behind : (arrived more : List ℕ) (ticket : T) → WasLeftUnsigned answers arrived ticket → WasLeftUnsigned answers (arrived ++ more) ticket
   left_behind arrived more ticket (asked, dropped, came_so, by) =
       (asked, dropped ++ more, ap (λ (l : List ℕ). l ++ more) came_so ∙ append_assoc asked dropped more, by)
@@ -154,7 +154,7 @@ module _ {H T : Type 0} (answers : H → List ℕ → Outcome T → H → Type 0
   answered_behind arrived more text (asked, dropped, came_so, by) =
       (asked, dropped ++ more, ap (λ (l : List ℕ). l ++ more) came_so ∙ append_assoc asked dropped more, by)
 
-  -- an answer by the same text
+  -- the same text is the same answer
   answered_as : (arrived text other : List ℕ) → text ≡ other → WasAnswered answers finishes arrived text → WasAnswered answers finishes arrived other
   answered_as arrived text other same was = subst (λ (l : List ℕ). WasAnswered answers finishes arrived l) same was
 
@@ -175,7 +175,7 @@ module _ {H T : Type 0} (answers : H → List ℕ → Outcome T → H → Type 0
       (none, subst (λ (kept : T). WasLeftUnsigned answers arrived kept) (sym waits) was)
   waiting_on _ arrived gone ticket ended none was waits = absurd waits
 
-  -- an answer was sent on
+  -- more of an answer was sent
   sending_on : (after : Stage T) (arrived gone went rest text : List ℕ) (ended : Bool) → WasAnswered answers finishes arrived (gone ++ text)
       → text ≡ went ++ rest → HasUnsentRest after rest → IsAnsweredOnce answers finishes arrived (gone ++ went) after ended
   sending_on (stage.Sending unsent exact) arrived gone went rest text ended was parted left =
@@ -188,20 +188,20 @@ module _ {H T : Type 0} (answers : H → List ℕ → Outcome T → H → Type 0
       was
   sending_on _ arrived gone went rest text ended was parted left = absurd left
 
-  -- the client still has its answer
+  -- the whole answer was sent
   leaving_on : (after : Stage T) (arrived gone : List ℕ) (ended : Bool) → WasAnswered answers finishes arrived gone → IsDraining after
       → IsAnsweredOnce answers finishes arrived gone after ended
   leaving_on stage.Draining arrived gone ended was left = was
   leaving_on _ arrived gone ended was left = absurd left
 
-  -- an answer that is held is one
+  -- an answer is kept to be sent, and none of it was sent yet
   answered_by : (after : Stage T) (arrived gone text : List ℕ) (ended : Bool) → gone ≡ [] → WasAnswered answers finishes arrived text → HasUnsentText after text
       → IsAnsweredOnce answers finishes arrived gone after ended
   answered_by (stage.Sending unsent exact) arrived gone text ended none was holds =
       answered_as arrived text (gone ++ unsent_of unsent) (holds ∙ ap (λ (l : List ℕ). l ++ unsent_of unsent) (sym none)) was
   answered_by _ arrived gone text ended none was holds = absurd holds
 
-  -- all is as it was, where from then on no more is waited for
+  -- the stage stays the same, and the connection may have ended
   same_on : (before after : Stage T) (arrived gone : List ℕ) (ended ended' : Bool) → after ≡ before → (ended ≡ true → ended' ≡ true)
       → IsAnsweredOnce answers finishes arrived gone before ended → IsAnsweredOnce answers finishes arrived gone after ended'
   same_on before after arrived gone ended ended' same ends was =
@@ -224,28 +224,28 @@ module _ {H T : Type 0} (answers : H → List ℕ → Outcome T → H → Type 0
       waiting_on after arrived gone ticket ended none (asked, dropped, came_so, (s, t, by)) held
   outcome_on after asked dropped arrived gone ended s t later none came_so by held = absurd held
 
-  -- one step of the handler
+  -- the handler answered the request, or nothing changed
   pub answering_on : (s t : H) (before after : Stage T) (arrived gone : List ℕ) (ended ended' : Bool) → IsAnsweredOnce answers finishes arrived gone before ended
       → Answering answers s t before after → (ended ≡ true → ended' ≡ true) → IsAnsweredOnce answers finishes arrived gone after ended'
   answering_on s t (stage.Receiving collected) after arrived gone ended ended' was (outcome, by, held) ends =
       outcome_on after (collected_bytes collected) was.1 arrived gone ended' s t outcome was.0 was.2 by held
   answering_on s t other after arrived gone ended ended' was same ends = same_on other after arrived gone ended ended' same ends was
 
-  -- what was left was finished
+  -- an answer that was left to be signed was finished, or nothing changed
   pub finishing_on : (before after : Stage T) (arrived gone : List ℕ) (ended ended' : Bool) → IsAnsweredOnce answers finishes arrived gone before ended
       → Finishing finishes before after → (ended ≡ true → ended' ≡ true) → IsAnsweredOnce answers finishes arrived gone after ended'
   finishing_on (stage.Signing ticket link exact) after arrived gone ended ended' (none, (asked, dropped, came_so, by)) (text, finished, holds) ends =
       answered_by after arrived gone text ended' none (asked, dropped, came_so, inr (ticket, finished, by)) holds
   finishing_on other after arrived gone ended ended' was same ends = same_on other after arrived gone ended ended' same ends was
 
-  -- a signature was asked for, or nothing was done
+  -- a signature was requested, or nothing changed
   pub resting_on : (before after : Stage T) (arrived gone : List ℕ) (ended ended' : Bool) → IsAnsweredOnce answers finishes arrived gone before ended
       → KeepsSigning before after → (ended ≡ true → ended' ≡ true) → IsAnsweredOnce answers finishes arrived gone after ended'
   resting_on (stage.Signing ticket link exact) after arrived gone ended ended' was waits ends = waiting_on after arrived gone ticket ended' was.0 was.1 waits
   resting_on other after arrived gone ended ended' was same ends = same_on other after arrived gone ended ended' same ends was
 
 module _ {S H T L : Type 0} (contents remaining : S → Option (List ℕ)) (g : Ghosts H T L) where
-  -- a connection that was accepted
+  -- a connection that was just accepted
   pub served_none : (connection : HttpConnection S H T L) → HasReceived connection.stage [] → HasServed contents remaining g connection.link connection
   served_none connection asks = record { arrived = []; gone = []; since = nothing_yet; once = go connection.stage asks }
     where
@@ -253,7 +253,7 @@ module _ {S H T L : Type 0} (contents remaining : S → Option (List ℕ)) (g : 
       go (stage.Receiving collected) asks = (refl, [], asks ∙ sym (append-nil (collected_bytes collected)), inl refl)
       go _ asks = absurd asks
 
-  -- it went on
+  -- the connection was advanced
   pub served_on : ServesOn contents remaining g
   served_on first old new was receives sends drops = go old.stage was.once receives sends drops
     where
@@ -310,7 +310,7 @@ module _ {S H T L : Type 0} (contents remaining : S → Option (List ℕ)) (g : 
                 left;
           }
 
-  -- its stage alone changed
+  -- only the stage changed, and perhaps the fault
   pub served_by : (step : Stage T → Stage T → Type 0) → ((before after : Stage T) (arrived gone : List ℕ) (ended ended' : Bool)
       → IsAnsweredOnce g.answers (FinishesOnce g.finishes) arrived gone before ended → step before after → (ended ≡ true → ended' ≡ true)
       → IsAnsweredOnce g.answers (FinishesOnce g.finishes) arrived gone after ended') → KeepsServed contents remaining g step

@@ -20,19 +20,19 @@ AddsTo before arrived after received.OutOfMemory =
     (kept : List ℕ) × (lost : List ℕ) × (arrived ≡ kept ++ lost) × (after ≡ before ++ kept)
 AddsTo before arrived after other = after ≡ before ++ arrived
 
--- all bytes that were taken from the reader are kept, in order
+-- the bytes that were taken from the reader were appended to the kept ones; if there was no memory, the last of them may be lost
 pub record Receives (input left : Option (List ℕ)) (before after : List ℕ) (result : Received) : Type 0 where
   pub arrived : List ℕ
   pub consumed : Consumes input left arrived
   pub held : AddsTo before arrived after result
 
--- all bytes that were taken from the reader were collected; if that ended at a whole request, there is one
+-- the same for the bytes of a request; if the result is `Whole`, they begin with a whole request
 pub record Collects (input left : Option (List ℕ)) (before after : Collected)
     (result : Received) : Type 0 where
   pub took : Receives input left (collected_bytes before) (collected_bytes after) result
   pub whole : result ≡ received.Whole → ∥ IsWholeRequest (collected_bytes after) ∥₁
 
--- the writer got the next bytes of the rest; if all are sent, no rest is left
+-- the writer got the next bytes of a text, and the others are left; if the result is `All`, none is left
 pub record SendsOn (old new : Option (List ℕ)) (before after : List ℕ) (rests : Sent) : Type 0 where
   pub went : List ℕ
   pub appended : Appends old new went
@@ -43,7 +43,7 @@ pub record SendsOn (old new : Option (List ℕ)) (before after : List ℕ) (rest
 abbrev pub unsent_of : Unsent → List ℕ
 unsent_of unsent = drop unsent.sent unsent.text.items
 
--- the writer got the next bytes of it
+-- the writer got the next bytes of a text's unsent part
 abbrev pub SendsUnsent : {W : Type 0} → (W → Option (List ℕ)) → W → W → Unsent → Unsent → Sent → Type 0
 SendsUnsent contents s t before after rests =
     SendsOn (contents s) (contents t) (unsent_of before) (unsent_of after) rests

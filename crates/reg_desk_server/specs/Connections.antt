@@ -1,6 +1,5 @@
--- A whole connection, since it was accepted: which lines of a control connection, or what part of a request, were answered. If it ends early,
--- because it failed or there was no memory, the rest is not answered, and what is unsent is not sent. Nothing is answered or
--- sent twice.
+-- A whole connection, since it was accepted: which lines of a control connection, or which part of a request, were answered. If the connection ends
+-- early, because it failed or there was no memory, the rest is not answered, and the unsent bytes are not sent. Nothing is answered or sent twice.
 use Rattle.std.specs.Prelude.{◌≡◌, ◌≢◌, ◌⊎◌, ℕ, Bool, true, List, [], ◌∷◌, ◌++◌, Option, is_some}
 use Rattle.std.specs.Io.KnownBytes.{Appends, Consumes}
 use Rattle.std.specs.List.{All, AllZip, concat}
@@ -26,7 +25,7 @@ pub data SinceAccepted {S : Type 0} (contents remaining : S → Option (List ℕ
       → Appends (contents s) (contents t) more
       → SinceAccepted contents remaining first arrived (gone ++ more) t
 
--- this line, which ends with its only LF, was answered, and this is the handler's reply to it
+-- this line, which ends with its only LF, got this reply from the handler, in some state of the handler
 abbrev pub IsAnsweredBy : {H : Type 0} → (H → List ℕ → List ℕ → H → Type 0) → List ℕ → List ℕ → Type 0
 IsAnsweredBy {H = H} answers_line line reply =
     ((prefix : List ℕ) × (line ≡ prefix ++ 10 ∷ []) × All (λ byte. byte ≢ 10) prefix)
@@ -34,9 +33,9 @@ IsAnsweredBy {H = H} answers_line line reply =
 
 module _ {S H : Type 0} (contents remaining : S → Option (List ℕ))
     (answers_line : H → List ℕ → List ℕ → H → Type 0) where
-  -- These lines of a control connection were answered, each once. The bytes that came are these lines, one after the other, and then the bytes that
-  -- are kept, for a line that is incomplete or answered next. The bytes that were sent, followed by the unsent ones, are the replies, in the same
-  -- order, each once. Nothing is lost but the last bytes that came if there was no memory for them, and then the connection has ended.
+  -- These lines of a control connection were answered, each once. The bytes that came are these lines, one after the other, then the bytes that are
+  -- kept for the next lines, and then lost bytes. If bytes are lost, because there was no memory for them, the connection has ended. The bytes that
+  -- were sent, followed by the unsent ones, are the replies, in the same order, each once.
   pub record HasAnsweredLines (first : S) (connection : ControlConnection S)
       (lines replies : List (List ℕ)) : Type 0 where
     pub arrived : List ℕ
@@ -48,15 +47,15 @@ module _ {S H : Type 0} (contents remaining : S → Option (List ℕ))
     pub each : AllZip (IsAnsweredBy answers_line) lines replies
     pub whole : (lost ≡ []) ⊎ (connection.has_ended ≡ true)
 
-  -- when a control connection is advanced, the answered lines stay the same
+  -- when a control connection is advanced, the answered lines and their replies stay the same
   abbrev pub AnswersNoMoreLines : Type 0
   AnswersNoMoreLines =
       (first : S) (old new : ControlConnection S) (lines replies : List (List ℕ))
       → HasAnsweredLines first old lines replies
       → Advances contents remaining old new → HasAnsweredLines first new lines replies
 
-  -- after a step of the handler and the connection that may answer a line: one more was answered, and this is its reply; or none was, and the
-  -- handler did nothing
+  -- after a step of the handler and the connection that may answer a line: either one more line was answered, and its reply is unsent; or none was,
+  -- and the relation `rests` states how the handler changed
   abbrev pub AnswersOneMoreLine
       : (H → H → ControlConnection S → ControlConnection S → Type 0) → (H → H → ControlConnection S → Type 0)
       → Type 0
@@ -67,27 +66,28 @@ module _ {S H : Type 0} (contents remaining : S → Option (List ℕ))
       × HasAnsweredLines first new (lines ++ line ∷ []) (replies ++ unsent_of new.unsent ∷ []))
       ⊎ (rests s t old × HasAnsweredLines first new lines replies)
 
--- this text finishes an answer that was left to be signed, as the handler does at some time
+-- this text finishes the answer with this ticket, in some state of the handler
 abbrev pub FinishesOnce : {H T : Type 0} → (H → T → List ℕ → Type 0) → T → List ℕ → Type 0
 FinishesOnce {H = H} finishes ticket text = (s : H) × finishes s ticket text
 
 module _ {H T : Type 0} (answers : H → List ℕ → Outcome T → H → Type 0) where
-  -- a prefix of the received bytes got an answer that is to be signed, once, and the bytes after it are dropped
+  -- a prefix of the received bytes got an answer that is to be signed, with this ticket, and the bytes after the prefix are dropped
   abbrev pub WasLeftUnsigned : List ℕ → T → Type 0
   WasLeftUnsigned arrived ticket =
       (asked : List ℕ) × (dropped : List ℕ) × (arrived ≡ asked ++ dropped)
       × ((s : H) × (t : H) × answers s asked (pending ticket) t)
 
-  -- a prefix of the received bytes was answered with this text, once, and the bytes after it are dropped: the handler replied it, or finished
-  -- with it an answer that it had left to be signed
+  -- a prefix of the received bytes was answered with this text, and the bytes after the prefix are dropped: the handler replied the text, or left an
+  -- answer to be signed, which the text finishes
   abbrev pub WasAnswered : (T → List ℕ → Type 0) → List ℕ → List ℕ → Type 0
   WasAnswered finishes arrived text =
       (asked : List ℕ) × (dropped : List ℕ) × (arrived ≡ asked ++ dropped)
       × (((s : H) × (t : H) × answers s asked (said text) t)
       ⊎ ((ticket : T) × finishes ticket text × ((s : H) × (t : H) × answers s asked (pending ticket) t)))
 
-  -- the bytes that came and that were sent on an HTTP connection: until it is answered, what came is kept, except bytes for which there was no
-  -- memory, and nothing is sent; from then on the bytes that were sent, followed by the unsent ones, are its answer
+  -- The bytes that came and that were sent on an HTTP connection. While it receives, the bytes that came are kept, except last ones for which there
+  -- was no memory, and then it has ended. Until the answer is finished, nothing is sent; from then on the sent bytes and then the unsent ones are the
+  -- answer.
   abbrev pub IsAnsweredOnce : (T → List ℕ → Type 0) → List ℕ → List ℕ → Stage T → Bool → Type 0
   IsAnsweredOnce finishes arrived gone (stage.Receiving collected) ended =
       (gone ≡ []) × (lost : List ℕ) × (arrived ≡ collected_bytes collected ++ lost)
@@ -99,7 +99,8 @@ module _ {H T : Type 0} (answers : H → List ℕ → Outcome T → H → Type 0
   IsAnsweredOnce finishes arrived gone stage.Draining ended = WasAnswered finishes arrived gone
 
 module _ {S H T L : Type 0} (contents remaining : S → Option (List ℕ)) (g : Ghosts H T L) where
-  -- the request of an HTTP connection is answered at most once, whether or not more of it is received
+  -- the request of an HTTP connection was answered at most once, by the bytes that came and were sent since it was accepted; the connection has ended
+  -- if it has a fault
   pub record HasServed (first : S) (connection : HttpConnection S H T L) : Type 0 where
     pub arrived : List ℕ
     pub gone : List ℕ
@@ -107,14 +108,14 @@ module _ {S H T L : Type 0} (contents remaining : S → Option (List ℕ)) (g : 
     pub once : IsAnsweredOnce g.answers (FinishesOnce g.finishes) arrived gone connection.stage
         (is_some connection.fault)
 
-  -- when an HTTP connection is advanced, this stays true
+  -- when an HTTP connection is advanced, `HasServed` stays true
   abbrev pub ServesOn : Type 0
   ServesOn =
       (first : S) (old new : HttpConnection S H T L) → HasServed first old
       → ReceivesMore remaining old new → Sends contents old new → Drops remaining old new
       → HasServed first new
 
-  -- a step that changes only the stage preserves this, also if no more of the request is received from then on
+  -- a step that changes the stage and not the link, and clears no fault, preserves `HasServed`
   abbrev pub KeepsServed : (Stage T → Stage T → Type 0) → Type 0
   KeepsServed step =
       (first : S) (old new : HttpConnection S H T L) → HasServed first old → new.link ≡ old.link

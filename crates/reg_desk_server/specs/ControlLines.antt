@@ -11,21 +11,21 @@ use Rattle.reg_desk_server.specs.declared.request_bytes.Received.TheVariants as 
 abbrev pub HasNoLine : List ℕ → Type 0
 HasNoLine bytes = HasNoDelimiter (10 ∷ []) bytes
 
--- the first line of these bytes ends here, with its LF
+-- the first line of these bytes, with its LF, is the first `end` of them
 abbrev pub FirstLineEnds : List ℕ → ℕ → Type 0
 FirstLineEnds bytes end = FirstDelimiter (10 ∷ []) bytes end
 
 module _ {S : Type 0} where
-  -- it was just accepted: nothing came, and nothing is to be sent
+  -- as just after the connection was accepted: no received bytes are kept, nothing is to be sent, and the connection has not ended
   abbrev pub IsFresh : ControlConnection S → Type 0
   IsFresh connection =
       (connection.arrived.items ≡ []) × (unsent_of connection.unsent ≡ []) × (connection.has_ended ≡ false)
 
-  -- its link did not change, nor whether it has ended
+  -- the link of the connection did not change, nor whether it has ended
   abbrev pub SameLinkAndEnd : ControlConnection S → ControlConnection S → Type 0
   SameLinkAndEnd old new = (new.link ≡ old.link) × (new.has_ended ≡ old.has_ended)
 
-  -- if it has ended, no more bytes are kept, and it stays ended
+  -- if the connection has ended, no more bytes are kept, and it stays ended
   abbrev pub StaysEnded : ControlConnection S → ControlConnection S → Type 0
   StaysEnded old new = old.has_ended ≡ true → (new.arrived.items ≡ old.arrived.items) × (new.has_ended ≡ true)
 
@@ -34,8 +34,8 @@ module _ {S : Type 0} where
   SameLines old new = (new.arrived.items ≡ old.arrived.items) × (unsent_of new.unsent ≡ unsent_of old.unsent)
 
 module _ {H S : Type 0} where
-  -- The first line was answered with this text and removed from the kept bytes, if nothing of an older text was unsent. If there
-  -- was no whole line, or an unsent rest, nothing was answered.
+  -- Either nothing of an older reply was unsent, and the first line was answered with the bytes that are now unsent and removed from the kept bytes;
+  -- or there was no whole line, or an unsent rest of a reply, and nothing changed.
   abbrev pub AnswersFirstLine
       : (H → List ℕ → List ℕ → H → Type 0) → H → H → ControlConnection S → ControlConnection S → Type 0
   AnswersFirstLine answers_line s t old new =
@@ -44,12 +44,12 @@ module _ {H S : Type 0} where
       × (new.arrived.items ≡ drop end old.arrived.items))
       ⊎ ((unsent_of old.unsent ≡ [] → HasNoLine old.arrived.items) × (t ≡ s) × SameLines old new)
 
-  -- the first line was not answered, but its message may have been made; or no line was considered
+  -- the handler deferred the first line, for which it may have made a message; or the handler did not change
   abbrev pub DefersFirstLine : (H → List ℕ → H → Type 0) → H → H → ControlConnection S → Type 0
   DefersFirstLine defers s t old =
       ((end : ℕ) × FirstLineEnds old.arrived.items end × defers s (take end old.arrived.items) t) ⊎ (t ≡ s)
 
-  -- that line was then answered like any other; or it still was not, and the kept bytes did not change
+  -- a deferred line was then answered like any other; or it was deferred again, and neither the kept bytes nor the unsent ones changed
   abbrev pub AnswersDeferred
       : (H → List ℕ → List ℕ → H → Type 0) → (H → List ℕ → H → Type 0) → H → H → ControlConnection S
       → ControlConnection S → Type 0
@@ -80,7 +80,7 @@ ends_by received.Ended = true
 ends_by received.Broken = true
 ends_by received.OutOfMemory = true
 
--- The next bytes of a reply were sent, and then the bytes that came next were kept; once the connection has ended, no more are kept.
+-- The next bytes of a reply were sent, and then the bytes that came next were kept (`Gathers`); once the connection has ended, no more are kept.
 pub record Advances {S : Type 0} (contents remaining : S → Option (List ℕ))
     (old new : ControlConnection S) : Type 0 where
   pub between : S

@@ -1,4 +1,4 @@
--- What happened to a handler: exchanges on HTTP connections and on control connections, one after the other.
+-- The exchanges of a handler on HTTP connections and on control connections, one after the other.
 use Rattle.std.specs.Prelude.{◌≡◌, ℕ, zero, suc, ◌+◌, List, [], ◌∷◌}
 use Rattle.reg_io.specs.RunsOfAnswers.{Answered}
 
@@ -7,14 +7,14 @@ pub data Input : Type 0 where
   request : List ℕ → Input
   line : List ℕ → Input
 
--- its outcome: the text that answers it; or an answer that is left to be signed, and that a text finishes later; or nothing yet, for a line that
--- is answered later, perhaps with a signature
+-- the outcome of an input: the text that answers it; or the ticket of an answer that is left to be signed, and that a text finishes later; or nothing
+-- yet, for a line that is answered later, perhaps with a signature
 pub data Outcome (T : Type 0) : Type 0 where
   said : List ℕ → Outcome T
   pending : T → Outcome T
   later : Outcome T
 
--- how many requests are among these
+-- how many requests are among these inputs
 abbrev pub requests_in : List Input → ℕ
 requests_in [] = zero
 requests_in (request bytes ∷ inputs) = suc (requests_in inputs)
@@ -22,15 +22,15 @@ requests_in (line bytes ∷ inputs) = requests_in inputs
 
 module _ {S T : Type 0} (answers : S → List ℕ → Outcome T → S → Type 0)
     (answers_line : S → List ℕ → List ℕ → S → Type 0) (defers : S → List ℕ → S → Type 0) where
-  -- the relation of a handler before and after it to an input and its outcome: a line is answered at once or later
+  -- the handler before an input, the input, its outcome, and the handler after it: a line is answered at once or later, and has no ticket
   abbrev pub Handles : S → Input → Outcome T → S → Type 0
   Handles s (request bytes) outcome t = answers s bytes outcome t
   Handles s (line bytes) (said text) t = answers_line s bytes text t
   Handles s (line bytes) (pending ticket) t = ⊥
   Handles s (line bytes) later t = defers s bytes t
 
-  -- s became t by these exchanges and nothing else, and their requests were counted; an answer that is left to be signed is listed where its
-  -- request was
+  -- the handler s became t by some exchanges and nothing else, and `answered` grew by the number of their requests; an answer that is left to be
+  -- signed is listed where its request was
   pub record Exchanged (s t : S) (answered answered' : ℕ) : Type 0 where
     pub inputs : List Input
     pub outcomes : List (Outcome T)

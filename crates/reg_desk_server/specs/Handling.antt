@@ -1,12 +1,12 @@
--- What happens to a handler.
+-- The exchanges of a handler, by the relations of its trait.
 use Rattle.std.specs.Prelude.{ℕ}
 use Rattle.reg_desk_server.specs.Exchange.{Exchanged}
 use Rattle.reg_desk_server.specs.declared.handler.Handler.{Ghosts}
 
--- the handler went from s to t by exchanges with clients and by lines of control connections, and their requests were counted
+-- the handler went from s to t by requests of HTTP clients and by lines of control connections, and the count grew by the number of requests
 abbrev pub Handled : {H T L : Type 0} → Ghosts H T L → H → H → ℕ → ℕ → Type 0
 Handled g = Exchanged g.answers g.answers_line g.defers
 
--- the same with lines only, which are not counted
+-- the same with lines only, so that the count stays the same
 abbrev pub AnsweredLines : {H T L : Type 0} → Ghosts H T L → H → H → Type 0
 AnsweredLines g s t = (answered : ℕ) → Handled g s t answered answered

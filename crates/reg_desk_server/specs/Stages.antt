@@ -1,5 +1,5 @@
--- One HTTP connection: the bytes that came are kept, its answer is the answer to them, and is sent on it. An answer that is left to be signed is
--- kept there too, and only a text that finishes it is sent on the connection.
+-- One HTTP connection: the bytes that came are kept, and the handler's answer to them is sent on the connection. An answer that is left to be signed
+-- is kept in the connection too, and only a text that finishes it is sent there.
 use Rattle.std.specs.Prelude.{◌≡◌, ℕ, true, List, [], ◌++◌, Option, is_some}
 use Rattle.std.specs.Io.KnownBytes.{Appends, Consumes}
 use Rattle.reg_http_head.specs.Bytes.{collected_bytes}
@@ -10,22 +10,22 @@ use Rattle.reg_desk_server.specs.declared.http_connection.HttpConnection.{HttpCo
 use Rattle.reg_desk_server.specs.declared.http_connection.Stage.{Stage}
 use Rattle.reg_desk_server.specs.declared.http_connection.Stage.TheVariants as stage
 
--- these bytes of a request came
+-- the request is still being received, and these bytes of it are kept
 abbrev pub HasReceived : {T : Type 0} → Stage T → List ℕ → Type 0
 HasReceived (stage.Receiving collected) bytes = bytes ≡ collected_bytes collected
 HasReceived other bytes = ⊥
 
--- an answer whose unsent part is this
+-- an answer is being sent, and this is its unsent part
 abbrev pub HasUnsentText : {T : Type 0} → Stage T → List ℕ → Type 0
 HasUnsentText (stage.Sending unsent exact) text = text ≡ unsent_of unsent
 HasUnsentText other text = ⊥
 
--- an answer with this ticket that is left to be signed
+-- the answer with this ticket is left to be signed
 abbrev pub AwaitsSignature : {T : Type 0} → Stage T → T → Type 0
 AwaitsSignature (stage.Signing kept link exact) ticket = kept ≡ ticket
 AwaitsSignature other ticket = ⊥
 
--- the outcome of a request is kept: its text, or the ticket of the answer that is left to be signed
+-- the stage keeps this outcome: the whole text is unsent, or the ticket waits for a signature
 abbrev pub KeepsOutcome : {T : Type 0} → Outcome T → Stage T → Type 0
 KeepsOutcome (said text) after = HasUnsentText after text
 KeepsOutcome (pending ticket) after = AwaitsSignature after ticket
@@ -49,12 +49,12 @@ abbrev pub KeepsSigning : {T : Type 0} → Stage T → Stage T → Type 0
 KeepsSigning (stage.Signing ticket link exact) after = AwaitsSignature after ticket
 KeepsSigning other after = after ≡ other
 
--- the whole answer was sent
+-- the answer was sent, and the bytes that still come are dropped
 abbrev pub IsDraining : {T : Type 0} → Stage T → Type 0
 IsDraining stage.Draining = Unit {0}
 IsDraining other = ⊥
 
--- an answer whose unsent part is this; if that is empty, the whole answer may have been sent
+-- an answer is being sent, and this is its unsent part; or the answer was sent, and this is empty
 abbrev pub HasUnsentRest : {T : Type 0} → Stage T → List ℕ → Type 0
 HasUnsentRest (stage.Sending unsent exact) rest = rest ≡ unsent_of unsent
 HasUnsentRest stage.Draining rest = rest ≡ []
@@ -65,8 +65,8 @@ abbrev pub IsDropped : Option (List ℕ) → Option (List ℕ) → Type 0
 IsDropped input left = (dropped : List ℕ) × Consumes input left dropped
 
 module _ {S H T L : Type 0} where
-  -- the kept bytes of a request are the former ones, followed by the next bytes of the connection; if there was no memory the last may be lost,
-  -- and then no more is received. In other stages no bytes of a request are kept.
+  -- While a request is received, the kept bytes are the former ones, followed by the next bytes of the connection. If there was no memory, the last
+  -- may be lost, and then the connection has a fault. Once it has a fault, no more is received. In other stages this states nothing.
   abbrev pub ReceivesMore : (S → Option (List ℕ)) → HttpConnection S H T L → HttpConnection S H T L → Type 0
   ReceivesMore remaining old new =
       (bytes : List ℕ) → HasReceived old.stage bytes
@@ -74,7 +74,7 @@ module _ {S H T L : Type 0} where
       × Gathers (remaining old.link) (remaining new.link) bytes bytes' (is_some new.fault)
       × (is_some old.fault ≡ true → (bytes' ≡ bytes) × (is_some new.fault ≡ true))
 
-  -- the next bytes of an answer were sent, and the rest is kept
+  -- if an answer was being sent, its next bytes were sent, and the rest is kept
   abbrev pub Sends : (S → Option (List ℕ)) → HttpConnection S H T L → HttpConnection S H T L → Type 0
   Sends contents old new =
       (text : List ℕ) → HasUnsentText old.stage text
@@ -82,13 +82,13 @@ module _ {S H T L : Type 0} where
       × Appends (contents old.link) (contents new.link) went
       × HasUnsentRest new.stage rest
 
-  -- if an answer is left to be signed, or was wholly sent, the bytes that come are dropped, and nothing else is done
+  -- if an answer is left to be signed, or was sent, the bytes that come are dropped, and the stage (with its ticket) stays
   abbrev pub Drops : (S → Option (List ℕ)) → HttpConnection S H T L → HttpConnection S H T L → Type 0
   Drops remaining old new =
       ((ticket : T) → AwaitsSignature old.stage ticket
       → AwaitsSignature new.stage ticket × IsDropped (remaining old.link) (remaining new.link))
       × (IsDraining old.stage → IsDraining new.stage × IsDropped (remaining old.link) (remaining new.link))
 
-  -- neither its link changed, nor the fault because of which no more is received
+  -- neither the connection's link nor its fault changed
   abbrev pub SameLinkAndFault : HttpConnection S H T L → HttpConnection S H T L → Type 0
   SameLinkAndFault old new = (new.link ≡ old.link) × (new.fault ≡ old.fault)

@@ -24,7 +24,7 @@ pub(crate) struct Acceptor {
     next: Option<(TcpStream, SocketAddr)>,
     /// Whether another connection may be waiting at the listener.
     may_have_more: bool,
-    /// Whether one is assumed to wait: the listener was ready, with none accepted since.
+    /// Whether another connection is assumed to wait: the listener was ready, and no connection was accepted since.
     has_more: bool,
     /// Whether there was no descriptor for a waiting connection, and no HTTP connection whose descriptor could be freed for it.
     pub(crate) lacks_descriptors: bool,
@@ -53,13 +53,14 @@ impl Acceptor {
         self.has_more = true;
     }
 
-    /// Whether a connection has no slot yet, or one may be accepted, up to `limit` in all.
+    /// Whether an accepted connection has no slot yet, or another may be accepted without exceeding `limit` in all.
     pub(crate) fn is_ready(&self, limit: u64) -> bool {
         self.next.is_some() || (self.may_have_more && self.accepted < limit)
     }
 
-    /// Accepts waiting connections: at most [`MOST_AT_ONCE`] in a call, and `limit` in all. If a waiting connection can't be accepted, or there is no slot for it, evicts
-    /// an HTTP connection. If there is none to evict, the next call tries again if descriptors ran out; any other error is an [`EventLoopFault`].
+    /// Accepts waiting connections: at most [`MOST_AT_ONCE`] in a call, and `limit` in all. If a waiting connection can't be accepted, or there is no
+    /// slot for it, evicts an HTTP connection. If there is none to evict, the next call tries again if descriptors ran out; any other error is an
+    /// [`EventLoopFault`].
     pub(crate) fn accept_all<H: Handler>(
         &mut self,
         limit: u64,
@@ -89,7 +90,7 @@ impl Acceptor {
         }
     }
 
-    /// Accepts the next connection and gives it a slot. Returns whether it got one.
+    /// Accepts the next connection and gives it a slot. Returns whether the connection got one.
     fn accept<H: Handler>(
         &mut self,
         limit: u64,
@@ -175,7 +176,7 @@ impl Acceptor {
                 connections.evict(shared);
                 Ok(())
             }
-            // Control connections and signature requests have all descriptors.
+            // All descriptors are in use by control connections and signature requests.
             _ if is_out_of_descriptors(error) => {
                 self.may_have_more = false;
                 self.lacks_descriptors = true;

@@ -45,6 +45,7 @@ fn line_end(bytes: &[u8]) -> Option<usize>
 }
 
 impl<S: Link> ControlConnection<S> {
+    /// A connection that was just accepted: nothing came yet, and nothing is to be sent.
     pub fn new(alloc: Global, link: S) -> ControlConnection<S>
         ensures link { result.link ≡ link }
         ensures fresh { IsFresh result }
@@ -60,7 +61,7 @@ impl<S: Link> ControlConnection<S> {
         }
     }
 
-    /// Sends more of the reply; once it is sent, reads until a line is whole.
+    /// Sends more of the reply without blocking; once the reply is sent, reads until a line is whole, at most `MOST_READS` times.
     pub fn advance(&mut self, read_buffer: &mut [u8]) -> Next
         ensures advances { Advances S.Write.contents S.Read.remaining self.old self.new }
 
@@ -100,7 +101,8 @@ impl<S: Link> ControlConnection<S> {
         }
     }
 
-    /// The next step if no more is to be read: `Due` if a line is whole; `Close` if the input ended without one, or it is too long. Else `None`.
+    /// The next step if no more is to be read: `Due` if a line is whole; `Close` if the input ended without one, or the line is too long. Else
+    /// `None`.
     fn after_reading(&self) -> Option<Next>
         ensures goes_on { IfNone result (self.now.has_ended ≡ false) }
         ensures whole { (result ≡ Some Next.Due) ⊎ HasNoLine self.now.arrived.items }
@@ -134,7 +136,7 @@ impl<S: Link> ControlConnection<S> {
         line_end(self.arrived.as_slice())
     }
 
-    /// Answers the first line, if one is whole and the reply before it was sent.
+    /// Answers the first line, if one is whole and the reply before it was sent. The error is that of [`Handler::answer_line`].
     pub fn answer_line<H: Handler>(&mut self, handler: &mut H) -> Result<(), EventLoopFault>
         requires { H.has_control handler.old }
         ensures ok { OnOk result (AnswersFirstLine H.answers_line handler.old handler.new self.old self.new) }
@@ -163,8 +165,8 @@ impl<S: Link> ControlConnection<S> {
         self.deferrals = 0;
     }
 
-    /// Gives what must be signed before the first line is answered, once the previous reply is sent. `None` if no line is whole, if the handler
-    /// signs nothing for it, and after `MOST_DEFERRALS` calls.
+    /// The message that must be signed before the first line is answered. `None` if the previous reply is not wholly sent, if no line is whole, if
+    /// the handler makes no message for the line, and after `MOST_DEFERRALS` calls of the handler since the last reply.
     pub fn defer<H: Handler>(&mut self, handler: &mut H) -> Option<Deferred<H::ControlTicket>>
         ensures looked { DefersFirstLine H.defers handler.old handler.new self.old }
         ensures arrived { self.new.arrived ≡ self.old.arrived }
@@ -183,8 +185,8 @@ impl<S: Link> ControlConnection<S> {
         }
     }
 
-    /// Answers the first line, which was deferred, with the signature that came on `link`, or without one. The handler may leave
-    /// it unanswered, to be deferred again.
+    /// Answers the first line, which was deferred, with the signature that came on `link`, or without one. The handler may leave the line unanswered,
+    /// to be deferred again. The error is that of [`Handler::answer_deferred`].
     pub fn answer_deferred<H: Handler>(
         &mut self,
         handler: &mut H,

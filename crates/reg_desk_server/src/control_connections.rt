@@ -71,6 +71,7 @@ impl<H: Handler> ControlConnections<H> {
         }
     }
 
+    /// Closes the connection whose line waits for a signature, and forgets that lines are due, so that the loop can block.
     pub(crate) fn stop(&mut self) {
         self.has_lines = false;
         self.waiting = None;
@@ -161,7 +162,7 @@ impl<H: Handler> ControlConnections<H> {
         self.slots.release(slot);
     }
 
-    /// Answers one line of each connection; or advances the line that waits for a signature, before which no other line is answered.
+    /// Answers one line of each connection. But while a line waits for a signature, only advances that line: no other line is answered before it.
     #[tactic(auto, using(crate::proofs::Exchanges::exchanged_none))]
     pub(crate) fn answer_all_lines(
         &mut self,
@@ -212,7 +213,7 @@ impl<H: Handler> ControlConnections<H> {
         Ok(())
     }
 
-    /// Answers one line of the connection in a slot, unless a line waits for a signature: this one, or an earlier one.
+    /// Answers one line of the connection in a slot, unless this line or an earlier one waits for a signature.
     #[tactic(auto, using(crate::proofs::Exchanges::exchanged_none))]
     fn answer_line_at(
         &mut self,

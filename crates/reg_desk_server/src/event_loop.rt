@@ -36,8 +36,8 @@ pub struct EventLoop<H: Handler> {
 }
 
 impl<H: Handler> EventLoop<H> {
-    /// An event loop over a listener for HTTP connections and one for control connections, both non-blocking, with room for `slots` HTTP
-    /// connections. Errors: the system's, if the listeners can't be polled; `OutOfMemory`.
+    /// An event loop over a listener for HTTP connections and, if there is a control socket, one for control connections, both non-blocking, with
+    /// room for `slots` HTTP connections. Errors: the system's, if there is no poller or the listeners can't be polled; `OutOfMemory`.
     pub fn new(
         rt: &(impl Net + AllocGlobal),
         listener: TcpListener,
@@ -61,10 +61,10 @@ impl<H: Handler> EventLoop<H> {
     /// Answers HTTP requests until `answered` is `limit`, and control lines meanwhile. Each accepted HTTP connection counts as one request, and
     /// is answered once: when its request is whole, when nothing more of it comes, when its time is over, or when it is evicted. If an
     /// answer needs a signature, the loop requests it, and only that client waits. [`EventLoop::finish`] finishes the answers that still
-    /// wait at the end. The loop ends early only because the system failed, or after 2^64 - 1 iterations.
+    /// wait at the end. [`EventLoopFault`] if the system failed, or after 2^64 - 1 iterations.
     ///
-    /// An iteration reads and writes what each ready connection allows, finishes each answer whose signature came, answers at most one line
-    /// of each control connection, and answers each whole request.
+    /// An iteration reads from and writes to each ready connection without blocking, finishes each answer whose signature came, answers at most one
+    /// line of each control connection, and answers each request that is whole or of which no more is awaited.
     #[tactic(auto, using(crate::proofs::Exchanges::exchanged_none))]
     pub fn serve_all(
         &mut self,
@@ -94,8 +94,8 @@ impl<H: Handler> EventLoop<H> {
         Err(EventLoopFault)
     }
 
-    /// Closes the HTTP connections: sends the answers that are made, and finishes those that wait for a signature, until no connection is
-    /// left. Reports lost connections to the handler.
+    /// Closes the HTTP connections that still receive, without an answer. Sends the other answers, of which some still wait for a signature, until no
+    /// HTTP connection is left. Reports lost connections to the handler. [`EventLoopFault`] if the system failed.
     pub fn finish(&mut self, handler: &H) -> Result<(), EventLoopFault> {
         let limit = self.acceptor.accepted;
         self.http.close_all(&mut self.shared);
@@ -121,7 +121,8 @@ impl<H: Handler> EventLoop<H> {
         }
     }
 
-    /// Waits for events, then reads, writes and accepts, and finds the connections whose time is over. Returns the milliseconds of the clock.
+    /// Waits for events, then reads, writes and accepts, and ends the connections whose time is over. Returns the milliseconds of the handler's
+    /// clock.
     fn poll(&mut self, handler: &H, limit: u64) -> Result<u64, EventLoopFault>
         ensures ok { OnOk result ((count : ℕ) → H.waited count → H.waited (count + 1)) }
         ensures fails { OnErr result H.failed }
@@ -211,8 +212,8 @@ impl<H: Handler> EventLoop<H> {
         Ok(())
     }
 
-    /// Answers one of the connections that are due, if it is still receiving, and sends its answer. An answer that needs a signature is
-    /// queued for it.
+    /// Answers one of the connections that are due, if it is still receiving, and sends its answer. If the answer is to be signed, queues a request
+    /// for its signature.
     #[tactic(auto, using(crate::proofs::Exchanges::exchanged_none))]
     fn answer_due(
         &mut self,
@@ -266,7 +267,7 @@ impl<H: Handler> EventLoop<H> {
         self.http.limit_unsent(slot, &mut self.shared);
     }
 
-    /// Puts a connection back into its slot, and queues its answer for a signature.
+    /// Puts a connection back into its slot, and queues a request for the signature of its answer.
     fn wait_for_signature(
         &mut self,
         slot: usize,
@@ -292,7 +293,8 @@ impl<H: Handler> EventLoop<H> {
         }
     }
 
-    /// Requests a queued signature at a free index, unless its client disconnected while it was queued.
+    /// Requests a queued signature at a free index. If its client closed its sending side while the signature was queued, closes the connection
+    /// instead.
     fn request(&mut self, pending: WantedSignature, index: usize, handler: &H, now: u64) {
         let requester = pending.requester;
         let has_waited = pending.deadline < now.saturating_add(TIMEOUT_MILLIS);
@@ -316,7 +318,7 @@ impl<H: Handler> EventLoop<H> {
         }
     }
 
-    /// Finishes the answers whose signatures came or whose time is over; drops signature requests whose connections no longer wait.
+    /// Finishes the answers whose signatures came or whose time for a signature is over; drops signature requests whose connections no longer wait.
     fn finish_all(&mut self, handler: &H, now: u64) {
         for index in 0..MOST_SIGNATURES {
             self.finish_at(index, handler, now);

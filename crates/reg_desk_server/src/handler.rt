@@ -9,20 +9,20 @@ use std::io;
 use std::net::SocketAddr;
 use std::time::Duration;
 
-/// The loop can't go on: the clock can't be read, or the sockets fail.
+/// The loop can't go on: the clock can't be read, the sockets fail, or the loop has made 2^64 - 1 iterations.
 #[derive(Clone, Copy, Debug, PartialEq, Eq)]
 pub struct EventLoopFault;
 
 /// Why a connection was lost.
 #[derive(Clone, Copy, Debug, PartialEq, Eq)]
 pub enum ConnectionFault {
-    /// The client broke the connection off, or it can't be polled.
+    /// A read or write failed before the whole answer was sent, the client closed its side while its signature was queued, or polling failed.
     Broken,
-    /// Its time was up: its request was not answered yet, or the client had not received its whole answer.
+    /// The time of the connection was up before its request was answered or its whole answer was sent.
     TimedOut,
-    /// It was evicted, for another one or for the limit of unsent bytes, before the client had received its whole answer.
+    /// The connection was evicted, for another one or for the limit of unsent bytes, before its whole answer was sent.
     Evicted,
-    /// There was no memory for the bytes that came on it.
+    /// There was no memory for the bytes that came on the connection.
     Memory,
 }
 
@@ -34,15 +34,15 @@ pub struct ConnectionCounts {
     pub accepted: u64,
 }
 
-/// The message that is to be signed before a line of a control connection is answered, and what the handler keeps of the line until then.
+/// The message that is to be signed before a line of a control connection is answered, and the ticket: the handler's data about the line until then.
 #[derive(Drop)]
 pub struct Deferred<T> {
     pub message: Vec<u8>,
     pub ticket: T,
 }
 
-/// Answers requests and lines, one after the other. While a signature is awaited, other requests are answered, but no line after the one that awaits it.
-/// Only one type, in another crate, implements it. It is a trait because the clauses of the event loop quantify over its relations.
+/// Answers requests and lines, one after the other. While a signature is awaited, other requests are answered. While a line awaits one, no other line
+/// is answered. Only `Desk` in `reg_desk_jobs` implements this trait, which exists because the event loop's contracts quantify over its relations.
 pub trait Handler {
     ghost use Rattle.std.specs.Prelude.{◌≡◌, ◌+◌, ℕ, List, IsTrue, IfErr, IfOk, OnErr, OnOk, MatchOption};
     ghost use Rattle.reg_http_head.specs.Bytes.{collected_bytes};
@@ -50,10 +50,10 @@ pub trait Handler {
     ghost use Rattle.reg_desk_server.specs.Outcomes.{outcome_of};
     ghost use Rattle.reg_desk_server.specs.Failures.{AcceptFails};
 
-    /// What is kept of a request until its response is signed.
+    /// The handler's data about a request until its response is signed.
     type Ticket: Drop;
 
-    /// What is kept of a line until its message is signed.
+    /// The handler's data about a line until its message is signed.
     type ControlTicket: Drop;
 
     // The outcome of this request, with the handler before and after it.
@@ -77,18 +77,18 @@ pub trait Handler {
     // The handler waited for its sockets this number of times.
     ghost waited: { ℕ → Type 0 };
 
-    // At first it has not waited.
+    // At first the handler has not waited.
     ghost not_waited: { waited 0 };
 
     /// Whether this handler has a control socket, and so answers lines.
     fn has_control_socket(&self) -> bool
         ensures { IsTrue result → has_control self.now };
 
-    /// The milliseconds of a monotonic clock.
+    /// The milliseconds of a monotonic clock. [`EventLoopFault`] if the clock can't be read.
     fn millis(&self) -> Result<u64, EventLoopFault>
         ensures { OnErr result failed };
 
-    /// Blocks until a socket is ready, at most for `longest`.
+    /// Blocks until a socket is ready, at most for `longest`. [`EventLoopFault`] if the sockets can't be polled.
     fn wait(
         &self,
         poll: &mut Poll,
@@ -98,11 +98,13 @@ pub trait Handler {
         ensures ok { OnOk result ((count : ℕ) → waited count → waited (count + 1)) }
         ensures err { OnErr result failed };
 
-    /// Accepts a connection. Errors of accept(2): no connection waits, a signal came, the client is gone, no descriptor is left, or the system failed.
+    /// Accepts a connection. Errors of accept(2): no connection waits, a signal came, the client is gone, no descriptor is left, or the system
+    /// failed.
     fn accept(&self, listener: &TcpListener) -> io::Result<(TcpStream, SocketAddr)>
         ensures { IfErr result (AcceptFails failed) };
 
     /// Answers the bytes that came from a client, or leaves an answer to be signed. Bytes that are no whole request may get an empty text.
+    /// [`EventLoopFault`] if the clock can't be read.
     fn answer(
         &mut self,
         client: SocketAddr,
@@ -113,16 +115,18 @@ pub trait Handler {
         ensures err { OnErr result (self.new ≡ self.old) }
         ensures fails { OnErr result failed };
 
-    /// Requests the signature of an answer that is to be signed, without blocking. Returns the connection to the signer: the signature is all that the signer sends
-    /// on it. The error is `WouldBlock` if the signer's backlog is full, or if no descriptor is left.
+    /// Requests the signature of an answer that is to be signed, without blocking. Returns the connection to the signer: the signature is all that
+    /// the signer sends on it. The error is `WouldBlock` if the signer's backlog is full, or if no descriptor is left. After any other, no signature
+    /// comes.
     fn request_signature(&self, ticket: &Self::Ticket) -> io::Result<SignatureRequest>;
 
-    /// The text that finishes an answer that is to be signed. `link` is the connection on which its signature was requested, once it is at its end; `None` if there
-    /// is no signature.
+    /// The text that finishes an answer that is to be signed. `link` is the connection on which its signature was requested, once that connection is
+    /// at its end; `None` if there is no signature.
     fn finish(&self, ticket: Self::Ticket, link: Option<SignatureRequest>) -> Vec<u8>
         ensures { finishes self.now ticket result.items };
 
-    /// Answers one line of a control connection. The handler keeps in `last_reason`, which is empty at first, what the line `why` reports.
+    /// Answers one line of a control connection. The handler keeps in `last_reason`, which is empty at first, the text that the line `why` reports.
+    /// [`EventLoopFault`] if the clock can't be read.
     fn answer_line(
         &mut self,
         line: &[u8],
@@ -137,11 +141,11 @@ pub trait Handler {
     fn defer(&mut self, line: &[u8]) -> Option<Deferred<Self::ControlTicket>>
         ensures { defers self.old line.now self.new };
 
-    /// Connects to the signer for a line, without blocking. The error is `WouldBlock` as for [`Handler::request_signature`].
+    /// Connects to the signer for a line, without blocking. The errors are those of [`Handler::request_signature`].
     fn connect_to_signer(&self, ticket: &Self::ControlTicket) -> io::Result<SignatureRequest>;
 
     /// Answers a line whose message was made. `link` is the connection on which the message was sent, once it is at its end; `None` if there is no
-    /// signature. Returns `None` if another message is to be signed by now: then `defer` is to be called again.
+    /// signature. Returns `None` if another message is to be signed by now: then `defer` is to be called again. The error is as for `answer_line`.
     fn answer_deferred(
         &mut self,
         line: &[u8],

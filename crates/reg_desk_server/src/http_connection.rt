@@ -18,7 +18,7 @@ use std::io::{ErrorKind, Read};
 use std::net::SocketAddr;
 use std::{io, mem};
 
-/// How many milliseconds a client has to send its request, and then again to receive its answer.
+/// How many milliseconds a client has to send its request, and then again, once its answer is finished, to receive it.
 const TIMEOUT_MILLIS: u64 = 30_000;
 
 /// For how many milliseconds after its answer the bytes that a client still sends are dropped.
@@ -26,7 +26,7 @@ const LINGER_MILLIS: u64 = 1_000;
 
 const MOST_DROPPED: usize = 32;
 
-/// The stage of a connection.
+/// The stage of a connection, in the order in which a connection reaches them. An answer that needs no signature skips `Signing`.
 #[derive(Drop)]
 pub(crate) enum Stage<T> {
     Receiving(Collected),
@@ -34,10 +34,11 @@ pub(crate) enum Stage<T> {
     Signing(T, Option<SignatureRequest>, bool),
     /// The answer is being sent; whether the connection is closed after its last byte, without `Draining`.
     Sending(Unsent, bool),
+    /// The answer was sent, and the bytes that the client still sends are dropped.
     Draining,
 }
 
-/// What is to be done with a connection next: answer it, register it with the poller, keep it without registering it, or close it.
+/// The next step for a connection: answer it, register it with the poller, keep it without registering it again, or close it.
 #[derive(Clone, Copy)]
 pub enum Next {
     Due,
@@ -79,16 +80,16 @@ pub struct HttpConnection<S: Link, H: Handler> {
     pub(crate) stage: Stage<H::Ticket>,
     /// The fault because of which no more of the request is received, if there is one.
     pub(crate) fault: Option<ConnectionFault>,
-    /// Whether the client closed its sending side while it waits for its answer.
+    /// Whether the client closed its sending side while its answer waits for a signature.
     pub(crate) has_ended: bool,
-    /// In milliseconds of the handler's clock.
+    /// When the time of the connection is up, in milliseconds of the handler's clock.
     pub(crate) deadline: u64,
     pub(crate) number: u64,
     pub(crate) is_registered: bool,
 }
 
 impl<S: Link, H: Handler> HttpConnection<S, H> {
-    /// A connection from an address, accepted at this moment, in milliseconds of a monotonic clock. Later connections have greater numbers.
+    /// A connection from the address `client`, accepted at `now`, in milliseconds of the handler's clock. Later connections have greater numbers.
     pub fn new(
         alloc: Global,
         link: S,
@@ -112,23 +113,28 @@ impl<S: Link, H: Handler> HttpConnection<S, H> {
         }
     }
 
+    /// Whether the request is still being received.
     pub fn is_receiving(&self) -> bool {
         matches!(self.stage, Stage::Receiving(_))
     }
 
+    /// Whether the answer is to be signed.
     pub fn is_signing(&self) -> bool {
         matches!(self.stage, Stage::Signing(..))
     }
 
+    /// Whether the answer is finished: it is being sent, or was sent.
     pub fn has_answer(&self) -> bool {
         !self.is_receiving() && !self.is_signing()
     }
 
+    /// Whether the time of the connection is up at `now`, in milliseconds of the handler's clock.
     pub fn is_expired(&self, now: u64) -> bool {
         self.deadline <= now
     }
 
-    /// Keeps and returns the fault for which the connection is answered now, if there is one: its time is up, or no more of its request is received.
+    /// Keeps and returns the fault because of which a connection is answered before its request is whole: its time is up, or nothing more is
+    /// received. `None` if there is none, or the connection no longer receives.
     pub fn record_fault(&mut self, now: u64) -> Option<ConnectionFault>
         ensures same_link { self.new.link ≡ self.old.link }
         ensures same_stage { self.new.stage ≡ self.old.stage }
@@ -143,7 +149,7 @@ impl<S: Link, H: Handler> HttpConnection<S, H> {
         self.fault
     }
 
-    /// How many bytes of the answer are not sent yet.
+    /// How many bytes of a finished answer are not sent yet.
     pub fn unsent(&self) -> usize {
         match &self.stage {
             Stage::Sending(unsent, _) => unsent.len(),
@@ -193,7 +199,7 @@ impl<S: Link, H: Handler> HttpConnection<S, H> {
         }
     }
 
-    /// Drops the bytes that a client sends while it waits for its answer, and notices if it is gone.
+    /// Drops the bytes that a client sends while its answer waits for a signature, and notices if the client is gone.
     fn drop_received(&mut self, read_buffer: &mut [u8]) -> Next
         ensures { Drops S.Read.remaining self.old self.new }
     {
@@ -259,8 +265,9 @@ impl<S: Link, H: Handler> HttpConnection<S, H> {
         }
     }
 
-    /// Answers the bytes that came of the request, even if it is incomplete. Returns whether the answer is to be signed. A connection that has an
-    /// answer, or waits for one, is not answered again.
+    /// Answers the bytes that came of the request, even if it is incomplete, and adds 1 to `answered`. Returns whether the answer is to be signed. A
+    /// connection that has an answer, or waits for one, is not answered again. [`EventLoopFault`] as of [`Handler::answer`], and if `answered` is
+    /// 2^64 - 1.
     #[tactic(auto, using(crate::proofs::Exchanges::exchanged_none))]
     pub fn answer(
         &mut self,
@@ -307,14 +314,14 @@ impl<S: Link, H: Handler> HttpConnection<S, H> {
         ensures holds { HasUnsentText self.new.stage text.items }
         ensures kept { SameLinkAndFault self.old self.new }
     {
-        // It can close at once if nothing is unread, or if there is no answer to lose.
+        // The connection can close at once if nothing is unread, or if there is no answer to lose.
         let closes_after = is_exact || text.is_empty();
         self.stage = Stage::Sending(Unsent::new(text), closes_after);
         self.deadline = now.saturating_add(TIMEOUT_MILLIS);
     }
 
     /// Requests the signature of the answer, without blocking. The connection on which it will come is polled under a token. The errors are
-    /// those of [`Handler::request_signature`] and of the system; `NotConnected` if no answer is to be signed.
+    /// those of [`Handler::request_signature`] and of the poller; `NotConnected` if no answer is to be signed.
     pub(crate) fn request_signature(
         &mut self,
         handler: &H,

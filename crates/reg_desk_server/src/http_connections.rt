@@ -17,9 +17,10 @@ use std::io::ErrorKind;
 /// How many HTTP connections can be open at once. Without signature requests, all descriptors of the program stay within the usual limit of 1,024.
 pub const MOST_HTTP_CONNECTIONS: usize = 1_000;
 
+/// The most unsent bytes of all HTTP connections together: 64 MiB.
 const MOST_UNSENT: usize = 67_108_864;
 
-/// How many milliseconds pass between two searches for connections whose time is up.
+/// How many milliseconds pass at least between two searches for connections whose time is up.
 pub(crate) const SWEEP_MILLIS: u64 = 250;
 
 /// Which connections may be evicted: those without an answer; those with one; those whose answer is not wholly sent, except one slot.
@@ -102,7 +103,7 @@ impl<H: Handler> HttpConnections<H> {
                 {
                     self.slots.put(slot, connection);
                 } else if connection.is_receiving() {
-                    // It is answered, not closed: `serve_all` ends once it has answered as many connections as it accepts.
+                    // The connection is answered, not closed: `serve_all` ends once it has answered as many connections as it accepts.
                     connection.fault = Some(ConnectionFault::Broken);
                     self.put_due(slot, connection);
                 } else {
@@ -118,12 +119,12 @@ impl<H: Handler> HttpConnections<H> {
         ensures { AppendsIfMemory slot self.old.due.items self.new.due.items }
     {
         self.slots.put(slot, connection);
-        // Without memory for it, a sweep after its deadline finds it again.
+        // Without memory for the slot, a sweep after the connection's deadline finds it again.
         let _ = self.due.push(slot);
     }
 
-    /// Closes a connection that was taken out of its slot. It is lost if it awaits a signature or its answer is not wholly sent; that is reported
-    /// unless a fault of it was reported before.
+    /// Closes a connection that was taken out of its slot. The connection is lost if it awaits a signature or its answer is not wholly sent. The loss
+    /// is reported unless a fault of the connection was reported before.
     fn close(
         &mut self,
         slot: usize,
@@ -143,8 +144,9 @@ impl<H: Handler> HttpConnections<H> {
         self.slots.release(slot);
     }
 
-    /// Evicts one connection: the oldest that has an answer, or else the oldest of all. If its request is incomplete, that is answered first as it
-    /// is; if its answer is to be signed, it is closed without one. A connection that is due is answered in this iteration, and not evicted.
+    /// Evicts one connection: the oldest that has an answer, or else the oldest of all. If its request is incomplete, the bytes that came are
+    /// answered first; if its answer is to be signed, it is closed without one. If that connection is due, it is answered in this iteration, and none
+    /// is evicted.
     pub(crate) fn evict(&mut self, shared: &mut Shared) {
         let answered = self.oldest(Selection::Answered);
         let Some(slot) = answered.or(self.oldest(Selection::Unanswered)) else {
@@ -199,7 +201,7 @@ impl<H: Handler> HttpConnections<H> {
         }
     }
 
-    /// Ends the time of a connection that was taken out of its slot: it is answered if it still receives, and closed otherwise.
+    /// Ends a connection that was taken out of its slot: it is answered first if it still receives, and closed otherwise.
     fn expire(
         &mut self,
         slot: usize,
@@ -214,7 +216,8 @@ impl<H: Handler> HttpConnections<H> {
         }
     }
 
-    /// Limits the unsent bytes of all connections to `MOST_UNSENT`, 64 MiB: closes the oldest whose answer is not wholly sent, except the newest answer.
+    /// While the connections have more than `MOST_UNSENT` unsent bytes, closes the oldest one whose answer is not wholly sent. The connection in the
+    /// slot `newest` is not closed.
     pub(crate) fn limit_unsent(&mut self, newest: usize, shared: &mut Shared) {
         for _ in 0..MOST_HTTP_CONNECTIONS {
             if self.unsent <= MOST_UNSENT {

@@ -10,11 +10,12 @@ ghost use Rattle.reg_desk_server.specs.declared.http_connection.HttpConnection.{
 use crate::handler::Handler;
 use crate::link::Link;
 
-/// On a control connection each line is answered once and in order, and each reply is sent once and in order.
+/// On a control connection the lines are answered in order and no line twice, and the replies are sent in order and no reply twice.
 ///
-/// Over any steps since it was accepted, the bytes that came are the answered lines, the kept bytes, and last those for which there was no memory;
-/// after these it has ended. The sent bytes and then the unsent ones are the replies to these lines (`HasAnsweredLines`). `ControlConnection::advance`
-/// answers no line, `answer_line` and `answer_deferred` at most one. The law is about a `Link`; no clause states what bytes a socket carries.
+/// Over any steps since the connection was accepted, the bytes that came are the answered lines, the kept bytes, and last any bytes for which there
+/// was no memory; if there are such bytes, the connection has ended. The sent bytes and then the unsent ones are the replies to these lines
+/// (`HasAnsweredLines`). `ControlConnection::advance` answers no line, `answer_line` and `answer_deferred` at most one. The law is about a `Link`; no
+/// clause states which bytes a socket carries.
 pub fn each_line_is_answered_once_in_order<S: Link, H: Handler>()
     ensures begins { (client : ControlConnection S) → IsFresh client
         → HasAnsweredLines S.Write.contents S.Read.remaining H.answers_line client.link client [] [] }

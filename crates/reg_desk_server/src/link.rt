@@ -8,7 +8,7 @@ use std::net::Shutdown;
 
 /// A connection whose reads and writes never block.
 pub trait Link: Read + Write + Source {
-    /// Shuts down the sending side of the connection.
+    /// Shuts down the sending side of the connection. The errors are those of shutdown(2).
     fn finish(&self) -> io::Result<()>;
 }
 

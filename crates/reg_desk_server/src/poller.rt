@@ -95,7 +95,8 @@ impl Poller {
             .is_ok()
     }
 
-    /// Blocks until a socket is ready, at most for `longest`. Then `tokens` has those that are ready; a signature request is ready once its connection is at its end.
+    /// Blocks until a socket is ready, at most for `longest`. Then `tokens` has the tokens of those that are ready. A signature request is ready once
+    /// its connection is at its end.
     pub(crate) fn poll<H: Handler>(
         &mut self,
         handler: &H,

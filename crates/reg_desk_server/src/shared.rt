@@ -1,4 +1,4 @@
-//! What all connections of an event loop share.
+//! The data that all connections of an event loop share.
 
 ghost use Rattle.std.specs.Prelude.{◌≡◌, [], IfOk};
 ghost use Rattle.reg_desk_server.specs.Buffers.{AppendsIfMemory};

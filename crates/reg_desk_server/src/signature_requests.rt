@@ -11,7 +11,8 @@ pub(crate) const TIMEOUT_MILLIS: u64 = 10_000;
 /// How many milliseconds pass after a request that would block before a signature is requested again.
 pub(crate) const PAUSE_MILLIS: u64 = 10;
 
-/// How many times the loop polls for a signature, in 100 or 200 microseconds in all, before it blocks: most arrive by then, and waking up takes as long as signing.
+/// How many times the loop polls for a signature before it blocks. The polls take 100 or 200 microseconds in all. Most signatures arrive by then, and
+/// waking up takes as long as signing.
 const POLLS: u32 = 100;
 
 /// An HTTP connection that waits for a signature: its slot, and its number, which no other connection has.
@@ -21,11 +22,11 @@ pub(crate) struct Requester {
     pub(crate) number: u64,
 }
 
-/// A signature that an answer needs, and when its time is up.
+/// A signature that an answer needs.
 #[derive(Clone, Copy)]
 pub(crate) struct WantedSignature {
     pub(crate) requester: Requester,
-    /// In milliseconds of the handler's clock.
+    /// When the answer is finished without the signature, in milliseconds of the handler's clock.
     pub(crate) deadline: u64,
 }
 
@@ -69,7 +70,7 @@ impl SignatureRequests {
             .is_ok()
     }
 
-    /// The longest time that the loop may block: zero while `polls` are left, of which this call uses one; `PAUSE_MILLIS` during a pause.
+    /// The longest time that the loop may block: zero while `polls` are left, of which this call uses one; `PAUSE_MILLIS` during a pause; else any.
     pub(crate) fn longest_wait(&mut self) -> Duration {
         if self.polls > 0 {
             self.polls = self.polls.saturating_sub(1);

@@ -21,8 +21,8 @@ enum Progress {
     Failed,
 }
 
-/// A line of a control connection that waits for a signature. Its connection is taken out of its slot and kept here, so no other client gets
-/// the reply.
+/// A line of a control connection that waits for a signature. The connection is taken out of its slot and kept here, so no other client gets the
+/// reply.
 #[derive(Drop)]
 pub(crate) struct WaitingLine<H: Handler> {
     slot: usize,

@@ -1,5 +1,4 @@
--- The response of an answer, with the outcome of its signature, its effect on the store, and the request for revocation that it
--- entered.
+-- Answers with the outcome of their signature, their effect on the store, and the request for revocation that was entered.
 use Rattle.std.specs.Prelude.{ℕ, List, codes, Option, Some, Some as ground, None, Result, Ok, Err}
 use Rattle.reg_office_api.specs.Responses.{signature_of, store_of, store_of_fault}
 use Rattle.reg_office_api.specs.declared.effects.SignatureOutcome.{SignatureOutcome}
@@ -17,13 +16,14 @@ use Rattle.reg_http.specs.Bodies.{counts_text, der, due_text, fault_response, js
 use Rattle.reg_http.specs.declared.answered.Answered.{Answered}
 use Rattle.reg_http.specs.declared.answered.LoggedRequest.{LoggedRequest}
 
+-- the response of an answer, and its effects
 pub record AnswerEffects : Type 0 where
   pub response : Response
   pub signature : SignatureOutcome
   pub store : StoreEffect
   pub named : Option LoggedRequest
 
--- the same, of an answer as the program makes it
+-- the same for an answer that the program makes
 abbrev pub answer_effects : Answered → AnswerEffects
 answer_effects answered = record {
   response = shown answered.answer;
@@ -41,17 +41,18 @@ unsigned_answer response effect =
 abbrev pub plain : Response → AnswerEffects
 plain response = unsigned_answer response Unwritten
 
--- the answer to a refusal or a fault has its line
+-- the answer to a refusal or a fault, with its line
 abbrev pub fault_effects : Fault → AnswerEffects
 fault_effects fault = unsigned_answer (fault_response fault) (store_of_fault fault)
 
--- the answer to a reply: 200 with its body; any other reply, which no office gives, is a fault of the store
+-- the answer to the reply of the office: 200 with the status, the counts or the new request; for another reply, the fault of the store
 abbrev pub reply_effects : Reply → AnswerEffects
 reply_effects (Status status) = plain (json 200 (status_text status))
 reply_effects (Counts counts) = plain (json 200 (counts_text counts))
 reply_effects (Request id due) = unsigned_answer (json 200 (due_text id due)) Written
 reply_effects other = fault_effects Store
 
+-- the answer to a reply, a refusal or a fault
 abbrev pub outcome_effects : Result Reply Fault → AnswerEffects
 outcome_effects (Ok reply) = reply_effects reply
 outcome_effects (Err fault) = fault_effects fault
@@ -62,12 +63,12 @@ entered_request serial word (Ok (Request id due)) =
     Some (record { id = id; serial = serial; ground = ground word })
 entered_request serial word other = None
 
--- the outcome of a request for revocation, with the request that it entered
+-- the answer to a request for revocation, with the request that was entered
 abbrev pub request_effects : ℕ → List ℕ → Result Reply Fault → AnswerEffects
 request_effects serial word outcome =
     record (outcome_effects outcome) { named = entered_request serial word outcome }
 
--- a CRL (RFC 2585 4.2), or why there is none
+-- the answer with a CRL (RFC 2585 4.2), or with the refusal or fault
 abbrev pub crl_effects : Result (List ℕ) Fault → AnswerEffects
 crl_effects (Ok body) = plain (der (codes "application/pkix-crl") body)
 crl_effects (Err fault) = fault_effects fault

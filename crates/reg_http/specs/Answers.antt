@@ -28,7 +28,7 @@ module _ {S : Type 0} (runs : S → ℕ → Command → Result Reply Fault → S
     (asks : S → ℕ → Query → Result Reply Fault → S → Type 0)
     (replies : S → ℕ → List ℕ → Result (ResponseKind × List ℕ) NoMemory → S → Type 0)
     (gives_crl : S → Option ℕ → Result (List ℕ) Fault → S → Type 0) where
-  -- the answer to a request; only a request for revocation runs a command
+  -- the answer to a request, with at most one call of the office; only a request for revocation runs a command
   abbrev pub Answers : ℕ → S → RoutedRequest → AnswerEffects → S → Type 0
   Answers now s (refused status) it t = (t ≡ s) × (it ≡ plain (http_refusal status))
   Answers now s (method_not_allowed method) it t = (t ≡ s) × (it ≡ plain (only_response method))
@@ -56,7 +56,7 @@ module _ {S : Type 0} (runs : S → ℕ → Command → Result Reply Fault → S
   BeginsTo drafts now s what (Unsigned draft) t =
       (request : List ℕ) × (what ≡ ocsp_of request) × drafts s now request draft t
 
--- an OCSP response is the answer, or is to be signed, as the office begins it
+-- the answer with the OCSP response that the office began; or the draft, if the response is to be signed
 abbrev pub BeginsOcsp
     : Result (ReadyOrUnsigned OcspResponse Drafted) NoMemory → ReadyOrUnsigned Answered Drafted → Type 0
 BeginsOcsp (Ok (Ready response)) (Ready answered) =
@@ -72,7 +72,7 @@ abbrev pub bytes_in : Result (ResponseKind × List ℕ) NoMemory → Result (Lis
 bytes_in (Ok given) = Ok given.1
 bytes_in (Err memory) = Err memory
 
--- if the office reports no kind: a response of any kind
+-- the relation of responses with a kind, from one without kinds: any kind will do
 abbrev pub of_any_kind : {S : Type 0} → (S → ℕ → List ℕ → Result (List ℕ) NoMemory → S → Type 0)
     → S → ℕ → List ℕ → Result (ResponseKind × List ℕ) NoMemory → S → Type 0
 of_any_kind answers_ocsp s now request given t = answers_ocsp s now request (bytes_in given) t
@@ -98,6 +98,6 @@ abbrev pub BeginsIn
 BeginsIn office =
     BeginsTo (RunsIn office) (AsksIn office) (RepliesIn office) (GivesCrlIn office) (DraftsIn office)
 
--- its responses, by its calls
+-- the responses of an office, by its calls
 abbrev pub RespondsIn : {O : Type 0} → Office O → ℕ → O → RoutedRequest → Response → O → Type 0
 RespondsIn office = RespondsTo (RunsIn office) (AsksIn office) (AnswersOcspIn office) (GivesCrlIn office)

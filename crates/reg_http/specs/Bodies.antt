@@ -1,4 +1,4 @@
--- The JSON bodies (RFC 8259), and the response to each outcome.
+-- The JSON bodies (RFC 8259) for a status, the counts, a new request and an error, and the response to each outcome.
 use Rattle.std.specs.Prelude.{ℕ, List, [], ◌∷◌, ◌++◌, codes, decimal, Some, None, Result, Ok, Err}
 use Rattle.reg_core.specs.Calendar.{moment_text}
 use Rattle.reg_core.specs.Lines.{fault_line}
@@ -35,15 +35,15 @@ counts_text counts =
 unfoldable pub due_text : ℕ → ℕ → List ℕ
 due_text id due = codes "{\"due\":\"" ++ moment_text due ++ codes "\",\"request\":" ++ decimal id ++ codes "}"
 
--- a response with a JSON body
+-- a response with this status code and a JSON body
 unfoldable pub json : ℕ → List ℕ → Response
 json status body = record { status = status; kind = codes "application/json"; allow = None; body = body }
 
--- a response with DER in its body
+-- a response of status code 200, with DER of this media type in its body
 unfoldable pub der : List ℕ → List ℕ → Response
 der kind body = record { status = 200; kind = kind; allow = None; body = body }
 
--- a refusal with an HTTP status, which is in the body too
+-- a refusal with a status code, which is in the body too
 unfoldable pub http_refusal : ℕ → Response
 http_refusal status = json status (error_text (decimal status))
 
@@ -56,18 +56,18 @@ method_not_allowed method = record {
   body = error_text (decimal 405);
 }
 
--- the status of a refusal: 400 if the request can't be read, 404 if there is no such CRL, 409 for any other (RFC 9110 15.5)
+-- the status code of a refusal: 400 if the request can't be read, 404 if there is no such CRL, 409 for any other (RFC 9110 15.5)
 abbrev pub refusal_status : Refusal → ℕ
 refusal_status Syntax = 400
 refusal_status NoCrl = 404
 refusal_status other = 409
 
--- the same for a fault: 500 (RFC 9110 15.6.1)
+-- the status code of a refusal, or of a fault: 500 (RFC 9110 15.6.1)
 abbrev pub fault_status : Fault → ℕ
 fault_status (Refused refused) = refusal_status refused
 fault_status other = 500
 
--- the answer to a refusal or a fault has its line
+-- the response to a refusal or a fault, with its line
 unfoldable pub fault_response : Fault → Response
 fault_response fault = json (fault_status fault) (error_text (fault_line fault))
 

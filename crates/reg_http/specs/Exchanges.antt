@@ -14,16 +14,16 @@ use Rattle.reg_io.specs.declared.begun.ReadyOrUnsigned.TheVariants.{Ready, Unsig
 use Rattle.reg_http.specs.declared.exchange.Exchange.{Exchange}
 use Rattle.reg_http.specs.declared.exchange.UnsignedResponse.{UnsignedResponse}
 
--- the whole text of a response at a moment, with its status; or the constant text of status 500, if there was no memory for its body
+-- the whole text of a response at a moment, with its status code; or the constant text of status code 500, if there was no memory for its body
 abbrev pub PutsText : ℕ → Response → ℕ → List ℕ → Type 0
 PutsText now response status text =
     ((status ≡ response.status) × IsText response now text) ⊎ ((status ≡ 500) × (text ≡ memory_text))
 
--- the text is empty
+-- the text is empty, and there is no status code
 abbrev pub IsEmpty : Exchange → Type 0
 IsEmpty exchange = (exchange.status ≡ None) × (exchange.text.items ≡ [])
 
--- the answer if there was no memory: the constant text, or an empty text if there was no memory for that either
+-- the answer if there was no memory: the constant text of status code 500; or an empty text, if there was no memory for the constant one either
 abbrev pub IsMemoryAnswer : Exchange → Type 0
 IsMemoryAnswer exchange =
     ((exchange.status ≡ Some 500) × (exchange.text.items ≡ memory_text)) ⊎ IsEmpty exchange
@@ -34,7 +34,7 @@ AnswersText now response exchange =
     ((exchange.status ≡ Some response.status) × IsText response now exchange.text.items)
     ⊎ IsMemoryAnswer exchange
 
--- the same, with the outcome of the signature, the effect on the store, and the request for revocation that it entered
+-- the same, with the outcome of the signature, the effect on the store, and the request for revocation that was entered
 abbrev pub HasEffects : ℕ → AnswerEffects → Exchange → Type 0
 HasEffects now it exchange =
     (exchange.signature ≡ it.signature) × (exchange.store ≡ it.store) × (exchange.named ≡ it.named)

@@ -28,7 +28,7 @@ page_of_path path decoded_query =
     if starts_with (λ a b. a == b) path (codes "/list/")
     then or_unreadable (page_query (drop 6 path) decoded_query) else Unreadable
 
--- the same for a target (RFC 3986 3.3, 3.4): a path, and after `?` the query, percent-decoded
+-- the page that a target requests (RFC 3986 3.3, 3.4): by its path, and the query after `?`, percent-decoded
 unfoldable pub page_in : List ℕ → ListRequest
 page_in target =
     page_of_path (before_first (λ b. b == 63) target) (percent_decode (after_first (λ b. b == 63) target))
@@ -41,7 +41,7 @@ list_request method target = if bytes_eq method (codes "GET") then page_in targe
 abbrev pub wanted_body : PageQuery → PageOf → List ℕ
 wanted_body wanted given = page_body wanted.from given.next (filtered_rows wanted.filter given.rows.items)
 
--- the answer with them, or with the fault that the office returned
+-- the answer with these rows, or with the fault that the office returned
 abbrev pub given_page : PageQuery → Result PageOf Fault → AnswerEffects
 given_page wanted (Ok given) = plain (json 200 (wanted_body wanted given))
 given_page wanted (Err why) = fault_effects why

@@ -6,7 +6,7 @@ use Rattle.reg_http.specs.declared.meaning.Call.TheVariants.{Refused, OnlyGet, O
 use Rattle.reg_http.specs.declared.meaning.Meaning.{Meaning}
 use Rattle.reg_http.specs.declared.meaning.Meaning.TheVariants.{OcspByPost, OcspByGet, Other}
 
--- the meaning of any request but an OCSP request
+-- the meaning of a `Call`: of any request but an OCSP request that can be decoded
 abbrev pub request_of_call : Call → RoutedRequest
 request_of_call (Refused status) = refused status
 request_of_call OnlyGet = method_not_allowed (codes "GET")
@@ -18,7 +18,7 @@ request_of_call (Status serial) = status_of serial
 request_of_call Counts = counts_of
 request_of_call (Request serial word) = request_of serial word
 
--- the meaning of any request, with its body
+-- the meaning of any request, given its body
 abbrev pub request_of_meaning : List ℕ → Meaning → RoutedRequest
 request_of_meaning body OcspByPost = ocsp_of body
 request_of_meaning body (OcspByGet request) = ocsp_of request.items

@@ -28,21 +28,21 @@ is_space byte = byte == 32
 abbrev pub ends_path : ℕ → Bool
 ends_path byte = byte == 32 || byte == 63 || byte == 13 || byte == 10
 
--- the text before this index, or the whole text if there is none
+-- the text before this index; the whole text for `None`
 abbrev pub before : Option ℕ → List ℕ → List ℕ
 before (Some end) text = take end text
 before None text = text
 
--- the text after this index, or nothing if there is none
+-- the text after the byte at this index; nothing for `None`
 abbrev pub behind : Option ℕ → List ℕ → List ℕ
 behind (Some at) text = drop (at + 1) text
 behind None text = []
 
--- the path with which a text begins
+-- the text up to the first byte that ends a path
 abbrev pub prefix_to : List ℕ → List ℕ
 prefix_to text = before (position ends_path text) text
 
--- the path after the first space, up to a `?`, the next space, or the end of that line; in a valid head that of the first line (RFC 9112 3)
+-- the path after the first space, up to a `?`, the next space, or a CR or LF; in a valid head, the path of the request line (RFC 9112 3)
 abbrev pub named_path : List ℕ → List ℕ
 named_path request = prefix_to (behind (position is_space request) request)
 

@@ -1,4 +1,4 @@
--- The route of each path, and how the router finds it.
+-- The route that `begin` finds for each path, and how the router finds it.
 use Rattle.std.specs.Prelude.{◌≡◌, ◌≤◌, ◌==◌, ℕ, List, [], ◌∷◌, ◌++◌, length, drop, codes, if◌then◌else◌, Option, Some, None, option_and_then}
 use Rattle.matchit.specs.Rows.{RowsOf, param_token, catch_all_token}
 use Rattle.matchit.specs.Seek.{has_slash}
@@ -6,7 +6,7 @@ use Rattle.reg_http.specs.declared.paths.Found.{Found}
 use Rattle.reg_http.specs.declared.route.Route.{Route}
 use Rattle.reg_http.specs.declared.route.Route.TheVariants.{Ocsp, OcspRest, Crl, CrlNumber, Status, Counts, Requests, Other}
 
--- what a path has after its prefix: nothing, one segment, or one or more bytes, slashes too
+-- the variable part of a path after its prefix: nothing, one segment, or one or more bytes, slashes included
 pub data Ending : Type 0 where
   here : Ending
   one : Ending
@@ -21,7 +21,7 @@ pub record RouteLine : Type 0 where
 abbrev pub route_line : List ℕ → Ending → Route → RouteLine
 route_line prefix ending to = record { prefix = prefix; ending = ending; to = to }
 
--- the routes of the desk
+-- the routes that `begin` answers: without `/list/`, `/health` and `/metrics`, which only an open desk has
 abbrev pub table : List RouteLine
 table =
     route_line (codes "/counts") here Counts
@@ -33,13 +33,13 @@ table =
     ∷ route_line (codes "/status/") one Status
     ∷ []
 
--- the path after a prefix, if it begins with that
+-- the path after a prefix, if it begins with the prefix
 abbrev pub path_after : List ℕ → List ℕ → Option (List ℕ)
 path_after [] path = Some path
 path_after (x ∷ prefix) [] = None
 path_after (x ∷ prefix) (b ∷ path) = if x == b then path_after prefix path else None
 
--- the rest, if it fits the ending: it is empty, a segment without a slash, or one or more bytes
+-- the bytes after the prefix, if they fit the ending: no bytes; one or more without a slash; or one or more
 abbrev pub ended : Ending → List ℕ → Option (List ℕ)
 ended here [] = Some []
 ended here (b ∷ left) = None
@@ -52,7 +52,7 @@ ended rest (b ∷ left) = Some (b ∷ left)
 abbrev pub left : List ℕ → Ending → List ℕ → Option (List ℕ)
 left prefix ending path = option_and_then (ended ending) (path_after prefix path)
 
--- a route with its variable part, or else the next one
+-- a route with its variable part, if there is one; else the next route
 abbrev pub or_next : Route → Option (List ℕ) → Route × List ℕ → Route × List ℕ
 or_next to (Some over) next = (to, over)
 or_next to None next = next
@@ -62,7 +62,7 @@ abbrev pub route_in : List RouteLine → List ℕ → Route × List ℕ
 route_in [] path = (Other, [])
 route_in (l ∷ ls) path = or_next l.to (left l.prefix l.ending path) (route_in ls path)
 
--- the route of a path
+-- the route of a path, and its variable part
 unfoldable pub route : List ℕ → Route × List ℕ
 route path = route_in table path
 

@@ -36,7 +36,7 @@ module _ {S : Type 0} (runs : S → ℕ → Command → Result Reply Fault → S
       × IsText response now text)
       ⊎ ((t ≡ s) × (text ≡ memory_text))
 
-  -- the whole response to a request was written; or a prefix of it, if the writer failed; or there was no memory for it
+  -- the whole response to a request was written; or a proper prefix of it, if the writer failed; or there was no memory for it
   abbrev pub ReplyEnds
       : ℕ → S → S → Part → Option (List ℕ) → Option (List ℕ) → Result (Unit {0}) Fault → Type 0
   ReplyEnds now s t part out written (Ok done) =
@@ -57,8 +57,8 @@ module _ {S : Type 0} (runs : S → ℕ → Command → Result Reply Fault → S
     pub responds : Responds now s part text t
     pub wrote : Wrote text
 
-  -- the whole response was written; or a prefix of it, if the writer failed; else there was no whole request, or no memory for
-  -- it
+  -- the whole response was written; or a proper prefix of it, if the writer failed; else there was no whole request, or no memory to read or
+  -- refuse it
   abbrev pub ServingEnds
       : ℕ → S → S → Option (List ℕ) → Option (List ℕ) → Option (List ℕ) → Option (List ℕ)
       → Result (Unit {0}) Fault → Type 0

@@ -1,4 +1,4 @@
-//! An answer, with its effects: on the signature, on the store, and the request for revocation that it entered.
+//! An answer, with the outcome of its signature, its effect on the store, and the request for revocation that was entered.
 
 ghost use Rattle.std.specs.Prelude.{◌≡◌, ◌≤◌, [], Ok, vec_capacity};
 ghost use Rattle.reg_office_api.specs.Items.{items_of};
@@ -21,7 +21,7 @@ use reg_office_api::{OcspResponse, SignatureOutcome, StoreEffect};
 pub struct LoggedRequest {
     pub id: u64,
     pub serial: Serial,
-    /// The word of its ground, if it was entered.
+    /// The word of its ground, if it was entered; `None` if it was decided.
     pub ground: Option<Label>,
 }
 
@@ -65,8 +65,8 @@ pub(crate) fn answer_of_fault(buffer: Vec<u8>, fault: Fault) -> Answered
     Answered::unsigned(fault_answer(buffer, fault), store)
 }
 
-/// The answer whose body is the reply to a query or to a request for revocation. Any other reply, which no office gives, is answered as a fault of
-/// the store.
+/// The answer whose body is the reply to a query for a status or the counts, or to a request for revocation. Any other reply, which no office gives
+/// to these, is answered as a fault of the store.
 fn reply_answer(mut buffer: Vec<u8>, reply: Reply) -> Answered
     requires empty { buffer.items ≡ [] }
     requires buffer { 256 ≤ vec_capacity buffer }

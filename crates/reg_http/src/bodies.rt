@@ -1,4 +1,4 @@
-//! The JSON bodies other than those of lists, each written into memory that was reserved for it, and the answers with these bodies.
+//! The JSON bodies for a status, the counts, a new request and an error, written into memory that was reserved before, and the answers with them.
 
 ghost use Rattle.std.specs.Prelude.{◌≡◌, ◌≤◌, [], IfOk, length, vec_capacity};
 ghost use Rattle.reg_http_head.specs.Response.{shown};
@@ -15,7 +15,7 @@ pub(crate) const OCSP_RESPONSE: &str = "application/ocsp-response";
 
 pub(crate) const PKIX_CRL: &str = "application/pkix-crl";
 
-/// Reserves memory for the longest JSON body other than that of a list.
+/// Reserves memory for the longest of these JSON bodies. [`Memory`] if out of memory.
 pub(crate) fn json_buffer(alloc: Global) -> Result<Vec<u8>, Memory>
     ensures empty { IfOk result (λ buffer. buffer.items ≡ []) }
     ensures buffer { IfOk result (λ buffer. 256 ≤ vec_capacity buffer) }
@@ -84,7 +84,7 @@ pub(crate) fn put_due(buffer: &mut Vec<u8>, id: u64, due: Moment)
     put(buffer, b"}");
 }
 
-/// An answer with a JSON body.
+/// An answer with this status code and a JSON body.
 #[tactic(auto, unfolding(crate::specs::Bodies::json))]
 pub fn json(code: u16, body: Vec<u8>) -> Answer
     ensures { shown result ≡ json code body.items }
@@ -97,7 +97,7 @@ pub fn json(code: u16, body: Vec<u8>) -> Answer
     }
 }
 
-/// An answer with DER of a media type in its body.
+/// An answer of status code 200, with DER of this media type in its body.
 #[tactic(auto, unfolding(crate::specs::Bodies::der))]
 pub(crate) fn der(kind: &'static str, body: Vec<u8>) -> Answer
     requires { length kind.now ≤ 64 }

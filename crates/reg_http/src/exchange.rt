@@ -1,4 +1,4 @@
-//! A finished HTTP exchange: the text of the response, with what is counted and logged.
+//! A finished HTTP exchange: the text of the response, and the values that are counted and logged.
 
 ghost use Rattle.std.specs.Prelude.{◌≡◌, ◌≤◌, [], IfOk, vec_capacity};
 ghost use Rattle.reg_office_api.specs.Items.{items_of};
@@ -17,12 +17,11 @@ use reg_ocsp::Draft;
 use reg_office_api::{SignatureOutcome, StoreEffect};
 use std::alloc::Global;
 
-/// The bytes that are reserved for the text of a response before the office is called. The response to each request for revocation fits, and
-/// so do most OCSP responses. So their text needs no memory after the call.
+/// The bytes that are reserved for the text of a response: before the office is called, and again in [`Exchange::finished`]. The response to each
+/// request for revocation fits, so its text needs no memory after the call. Most OCSP responses fit too.
 const TEXT_ROOM: usize = 4_096;
 
-/// Reserves memory for the text of a response.
-/// [`Memory`] if out of memory.
+/// Reserves memory for the text of a response. [`Memory`] if out of memory.
 pub fn text_buffer(alloc: Global) -> Result<Vec<u8>, Memory>
     ensures empty { IfOk result (λ buffer. buffer.items ≡ []) }
     ensures buffer { IfOk result (λ buffer. 512 ≤ vec_capacity buffer) }
@@ -40,11 +39,12 @@ pub struct Exchange {
     pub store: StoreEffect,
     /// The request for revocation that was entered, for the log.
     pub named: Option<LoggedRequest>,
+    /// The head and the body of the response; empty if there is no memory for them.
     pub text: Vec<u8>,
 }
 
 impl Exchange {
-    /// An exchange with an empty text, and this outcome of its signature.
+    /// An exchange with an empty text, so no response, and this outcome of its signature.
     pub fn empty(alloc: Global, route: Route, signature: SignatureOutcome) -> Exchange
         ensures empty { IsEmpty result }
         ensures effects { HasOnlySignature signature result }
@@ -60,7 +60,7 @@ impl Exchange {
         }
     }
 
-    /// The exchange if there was no memory for the answer: the constant text of status 500, written into `buffer`.
+    /// The exchange if there was no memory for the answer: the constant text of status code 500, written into `buffer`.
     pub fn out_of_memory(route: Route, mut buffer: Vec<u8>) -> Exchange
         requires empty { buffer.items ≡ [] }
         requires buffer { 512 ≤ vec_capacity buffer }
@@ -79,7 +79,7 @@ impl Exchange {
         }
     }
 
-    /// An exchange with this answer, written into `buffer`.
+    /// An exchange with this answer, written into `buffer`; or the constant text of status code 500, if there is no memory for its body.
     pub fn of(route: Route, mut buffer: Vec<u8>, answered: Answered, now: Moment) -> Exchange
         requires empty { buffer.items ≡ [] }
         requires buffer { 512 ≤ vec_capacity buffer }
@@ -103,7 +103,8 @@ impl Exchange {
         }
     }
 
-    /// An exchange with the OCSP response begun at `now`, or with status 500 if that is `Memory`. Out of memory, its text is the constant one, or empty.
+    /// An exchange with the OCSP response begun at `now`, or with status code 500 if `response` is `Memory`. If out of memory, the text is the
+    /// constant one of status code 500, or empty.
     pub fn finished(
         alloc: Global,
         route: Route,
@@ -158,7 +159,7 @@ pub fn begun_exchange(
     }
 }
 
-/// Writes the text of an answer into an empty `text`, or the constant text if there is no memory for its body. Returns the status.
+/// Writes the text of an answer into an empty `text`, or the constant text if there is no memory for its body. Returns the status code.
 fn put_text(text: &mut Vec<u8>, answer: &Answer, now: Moment) -> u16
     requires empty { text.old.items ≡ [] }
     requires buffer { 512 ≤ vec_capacity text.old }

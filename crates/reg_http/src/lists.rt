@@ -1,5 +1,5 @@
-//! Requests for lists, `GET /list/WORD?after=KEY&limit=N&before=MOMENT` with a filter. Only an open desk answers them; for
-//! [`serve_one`](crate::serve_one) the route does not exist.
+//! Requests for lists, `GET /list/WORD` with a query: `after=KEY`, `limit=N`, `before=MOMENT` and a filter. Only an open desk answers them;
+//! [`serve_one`](crate::serve_one) answers 404.
 
 ghost use Rattle.std.specs.Prelude.{◌≡◌, IfOk, OnErr};
 ghost use Rattle.reg_office_api.specs.Calls.{LooksIn};
@@ -27,8 +27,7 @@ pub(crate) enum ListRequest {
     Page(PageQuery),
 }
 
-/// Answers a request for a list at a moment. No record changes.
-/// [`Memory`] if out of memory.
+/// Answers a request for a list at a moment. No record changes. [`Memory`] if out of memory.
 pub fn answer_list<O: Office>(
     alloc: Global,
     method: &Method,

@@ -34,9 +34,9 @@ pub(crate) enum Meaning {
 /// A call of the office other than an OCSP request, or why there is no call.
 #[derive(Clone, Copy)]
 pub(crate) enum Call {
-    /// The request is refused with this status.
+    /// The request is refused with this status code.
     Refused(u16),
-    /// Another method than the only one of the route.
+    /// Another method than GET, the only one of the route. For `OnlyPost`, it is POST.
     OnlyGet,
     OnlyPost,
     /// A number, a serial number or a body can't be read.
@@ -175,8 +175,7 @@ fn meaning_at(
     }
 }
 
-/// Reads a request.
-/// [`Memory`] if out of memory.
+/// Reads a request. [`Memory`] if out of memory.
 pub(crate) fn meaning_of(
     alloc: Global,
     method: &Method,

@@ -11,7 +11,7 @@ use matchit::{InsertError, Router};
 use reg_core::Memory;
 use std::alloc::Global;
 
-/// What the router finds: a route, and the variable part of the path.
+/// The result of the router: a route, and the variable part of the path.
 #[derive(Clone, Copy)]
 pub(crate) struct Found<'p> {
     pub(crate) route: Route,
@@ -71,6 +71,7 @@ fn find_which(alloc: Global, path: &str) -> Result<Route, Memory>
     }
 }
 
+/// How many bytes of the path come before its variable part.
 fn passed(route: Route, path: &[u8]) -> usize
     ensures { result ≡ passed route path.now }
 {
@@ -82,8 +83,7 @@ fn passed(route: Route, path: &[u8]) -> usize
     }
 }
 
-/// The route that the router finds for a path (RFC 3986 3.3), and the variable part of the path.
-/// [`Memory`] if out of memory for the router.
+/// The route of a path (RFC 3986 3.3), and the variable part of the path. [`Memory`] if out of memory for the router.
 pub(crate) fn find_route(alloc: Global, path: &str) -> Result<Found<'_>, Memory>
     ensures { IfOk result (λ found. route_seen found ≡ route path.entry.now) }
 {

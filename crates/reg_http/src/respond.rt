@@ -27,7 +27,7 @@ fn malformed(mut buffer: Vec<u8>) -> Answer
     der(OCSP_RESPONSE, buffer)
 }
 
-/// Calls the office, and answers in `buffer`, which was reserved before, so that no memory is needed after the call.
+/// Makes the call of the office, and writes the answer into `buffer`, which was reserved before, so that no memory is needed after the call.
 pub(crate) fn respond<O: Office>(
     alloc: Global,
     buffer: Vec<u8>,

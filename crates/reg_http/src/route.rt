@@ -29,7 +29,7 @@ pub enum Route {
 }
 
 impl Route {
-    /// The route of a target. A route with a variable part is found by the start of the path.
+    /// The route of a target (RFC 9112 3.2.1). A route with a variable part is found by the start of the path alone: `/crl/` is [`Route::CrlNumber`].
     pub fn of(target: &str) -> Route
         ensures { result ≡ route_of_path (path_in target.now) }
     {
@@ -54,7 +54,7 @@ pub(crate) fn path_of(target: &str) -> &str
     }
 }
 
-/// The path after the first space, up to a `?`, the next space, or the end of that line. In a valid head it is that of the first line.
+/// The path after the first space, up to a `?`, the next space, or a CR or LF. In a valid head, it is the path of the request line (RFC 9112 3).
 fn path_in(request: &[u8]) -> &[u8]
     ensures { result.now ≡ named_path request.now }
 {
@@ -87,7 +87,7 @@ fn path_end(text: &[u8]) -> Option<usize>
     text.iter().position(|byte| ends_path(*byte))
 }
 
-/// Whether a byte ends a path: a space, a `?`, or the end of a line.
+/// Whether a byte ends a path: a space, a `?`, a CR or an LF.
 fn ends_path(byte: u8) -> bool
     ensures { result ≡ ends_a_path byte }
 {

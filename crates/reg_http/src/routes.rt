@@ -25,7 +25,7 @@ use reg_ocsp::Draft;
 use reg_office_api::Office;
 use std::alloc::Global;
 
-/// Answers one request, by its method, target and body, with at most one call of the office. It adds at most one request for
+/// Answers one request, by its method, target and body, with at most one call of the office. The call adds at most one request for
 /// revocation to the records, and the replies to `counts` stay the same.
 ///
 /// # Errors
@@ -58,8 +58,8 @@ pub fn answer<O: Office>(
     }
 }
 
-/// Answers one request as [`answer`] does, and reports whether signing or the store failed; or gives an OCSP response that still needs
-/// its signature. Errors are those of [`answer`].
+/// Answers one request as [`answer`] does, with the effects of the answer; or returns an OCSP response that still needs its signature. Errors are
+/// those of [`answer`].
 pub fn begin<O: Office>(
     alloc: Global,
     method: &Method,
@@ -92,8 +92,7 @@ pub fn begin<O: Office>(
     }
 }
 
-/// The serial number of a request for revocation whose ground has a known word; `None` for any other request.
-/// [`Memory`] if out of memory.
+/// The serial number of a request for revocation whose ground has a known word; `None` for any other request. [`Memory`] if out of memory.
 pub fn serial_of(
     alloc: Global,
     method: &Method,
@@ -121,24 +120,21 @@ fn serial_in(call: Call) -> Option<Serial>
     }
 }
 
-/// The response to a request that ended in this fault, with the fault's line.
-/// [`Memory`] if out of memory.
+/// The answer to a request that ended in this fault, with the fault's line. [`Memory`] if out of memory.
 pub fn report_fault(alloc: Global, fault: Fault) -> Result<Answered, Memory>
     ensures { IfOk result (λ answered. answer_effects answered ≡ fault_effects fault) }
 {
     Ok(answer_of_fault(json_buffer(alloc)?, fault))
 }
 
-/// The answer to a request that is refused with this status, and not given to the office.
-/// [`Memory`] if out of memory.
+/// The answer to a request that is refused with this status code, without a call of the office. [`Memory`] if out of memory.
 pub fn refuse(alloc: Global, status: u16) -> Result<Answered, Memory>
     ensures { IfOk result (λ answered. answer_effects answered ≡ plain (http_refusal status)) }
 {
     Ok(Answered::plain(refusal(json_buffer(alloc)?, status)))
 }
 
-/// The answer to another method than GET at a route that has only GET (RFC 9110 15.5.6).
-/// [`Memory`] if out of memory.
+/// The answer to another method than GET at a route that has only GET (RFC 9110 15.5.6). [`Memory`] if out of memory.
 pub fn only_get(alloc: Global) -> Result<Answered, Memory>
     ensures { IfOk result (λ answered. answer_effects answered ≡ plain (only_response (codes "GET"))) }
 {

@@ -113,7 +113,7 @@ fn reply<W: Write, O: Office>(
 }
 
 /// Serves one request: reads it, answers it, and writes the response. Reads and writes may be in pieces of any size. If
-/// there is no memory to answer a valid request, the office does not change, and the constant response of status 500 is written.
+/// there is no memory to answer a valid request, the office does not change, and the constant response of status code 500 is written.
 ///
 /// # Errors
 ///

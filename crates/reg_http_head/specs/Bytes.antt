@@ -3,7 +3,7 @@ use Rattle.std.specs.Prelude.{◌≡◌, ℕ, ◌+◌, List, length}
 use Rattle.reg_http_head.specs.Frame.{AsksFor}
 use Rattle.reg_http_head.specs.declared.collected.Collected.{Collected}
 
--- the collected bytes
+-- the bytes of a `Collected`
 abbrev pub collected_bytes : Collected → List ℕ
 collected_bytes collected = collected.bytes.items
 

@@ -1,4 +1,4 @@
--- What is known about the first bytes of a connection.
+-- The facts known about the first bytes of a connection.
 use Rattle.std.specs.Prelude.{◌≡◌, ℕ, ◌+◌, ◌<◌, ◌≤◌, List, ◌++◌, length, take}
 use Rattle.httparse.specs.Grammar.{RequestHead}
 use Rattle.reg_io.specs.Delimiter.{EndsWith}
@@ -24,7 +24,7 @@ pub record IsWholeRequest (bytes : List ℕ) : Type 0 where
 abbrev pub HasNoHeadEnd : List ℕ → ℕ → Type 0
 HasNoHeadEnd bytes count = (n : ℕ) → n ≤ count → ¬ EndsWith (take n bytes) blank_line
 
--- the first `count` bytes are refused with this status
+-- the first `count` bytes are refused with this status code
 abbrev pub IsRefusedRequest : List ℕ → ℕ → ℕ → Type 0
 IsRefusedRequest bytes count status = Framed (take count bytes) (refused status)
 
@@ -35,13 +35,13 @@ pub record NeedsBytes (bytes : List ℕ) (it : HeadIn) : Type 0 where
   pub stands : IsHeadAt (take it.end bytes) it.spans head
   pub needed_is : it.needed ≡ it.end + it.spans.size
 
--- what is known about the bytes, whatever comes after them
+-- the facts that a `ScanState` states about the bytes; they hold whatever bytes come after them
 abbrev pub Knows : List ℕ → ScanState → Type 0
 Knows bytes (NoHeadEnd count) = (count ≤ length bytes) × HasNoHeadEnd bytes count
 Knows bytes (Refused count status) = (count ≤ length bytes) × IsRefusedRequest bytes count status
 Knows bytes (Valid head) = NeedsBytes bytes head
 
--- what is known after all of the bytes were searched: if no head ends in them, they are fewer than 8,192
+-- the same, after all of the bytes were searched: if no head ends in them, they are fewer than 8,192
 abbrev pub IsAllKnown : List ℕ → ScanState → Type 0
 IsAllKnown bytes (NoHeadEnd count) =
     (count ≡ length bytes) × (count < longest_head) × HasNoHeadEnd bytes count

@@ -11,7 +11,7 @@ use Rattle.reg_http_head.specs.declared.request.Request.TheVariants.{Refused, Va
 use Rattle.reg_http_head.specs.declared.request.RequestRef.{RequestRef}
 use Rattle.reg_http_head.specs.declared.request.RequestRef.TheVariants as collected
 
--- the meaning of the bytes: a refusal with its status, or a request with method, target and body
+-- the meaning of the bytes of a request: a refusal with its status code, or a request with method, target and body
 pub data Part : Type 0 where
   refused : ℕ → Part
   asked : List ℕ → List ℕ → List ℕ → Part
@@ -32,7 +32,7 @@ pub record AsksFor (took method target body : List ℕ) : Type 0 where
 abbrev pub IsTooLong : List ℕ → Type 0
 IsTooLong took = (length took ≡ longest_head) × HasNoDelimiter blank_line took
 
--- the head ends at this index, within the first 8,192 bytes
+-- the first CR LF CR LF ends at this index, within the first 8,192 bytes
 pub record HasHead (took : List ℕ) (end : ℕ) : Type 0 where
   pub within : end ≤ longest_head
   pub ends : FirstDelimiter blank_line took end
@@ -50,7 +50,7 @@ IsUnfinished took =
     ⊎ ((end : ℕ) × (head : RequestHead) × (size : ℕ) × HasHead took end × IsHead (take end took) head
     × (body_size head ≡ Ok size) × (length took < end + size))
 
--- a fault came after these bytes: the reader failed or ended within a request, or there was no memory
+-- the fault after these bytes: `Read`, and the bytes are no whole request yet; or `Memory`
 abbrev pub IsCutBy : Fault → List ℕ → Type 0
 IsCutBy why took = ((why ≡ fault.Read) × IsUnfinished took) ⊎ (why ≡ fault.Memory)
 
@@ -64,7 +64,7 @@ abbrev pub part_of : Request → Part
 part_of (Refused status) = refused status
 part_of (Valid method target body) = asked method (string_bytes target) body.items
 
--- the meaning of one that was collected
+-- the meaning of a request that was collected
 abbrev pub part_of_ref : RequestRef → Part
 part_of_ref (collected.Refused status) = refused status
 part_of_ref (collected.Valid method target body) = asked method target.now body.now

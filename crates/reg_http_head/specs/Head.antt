@@ -1,4 +1,4 @@
--- The head of a request: where it ends, its meaning, and why it is refused.
+-- The head of a request (RFC 9112 2 to 6): its end, its meaning, and the reasons to refuse it.
 use Rattle.std.specs.Prelude.{◌≡◌, ℕ, ◌≤◌, ◌⊎◌, Bool, List, [], ◌∷◌, length, map, filter, codes, if◌then◌else◌, nat_lt, Option, Some, None, Result, Ok, Err, bytes_eq}
 use Rattle.std.specs.Char.{to_ascii_lowercase}
 use Rattle.reg_core.specs.Number.{number_of}
@@ -36,7 +36,7 @@ is_named name field = bytes_eq (map to_ascii_lowercase field.0) (map to_ascii_lo
 abbrev pub values_of : List ℕ → List (List ℕ × List ℕ) → List (List ℕ)
 values_of name fields = map (λ field. field.1) (filter (is_named name) fields)
 
--- a length that was read: 400 if it is no number of 1 to 18 digits, 413 if it is above 65,536 (RFC 9110 15.5.14)
+-- a length that was read; 400 if it is no number of 1 to 18 digits (`None`), 413 if it is above 65,536 (RFC 9110 15.5.14)
 abbrev pub size_in_bounds : Option ℕ → Result ℕ ℕ
 size_in_bounds None = Err 400
 size_in_bounds (Some size) = if nat_lt longest_body size then Err 413 else Ok size
@@ -60,7 +60,7 @@ size_of method fields =
 abbrev pub body_size : RequestHead → Result ℕ ℕ
 body_size h = size_of h.method (map name_and_value h.fields)
 
--- why a head is refused: 431 for more than 64 fields, 400 for bytes that are no head, or the status for its length
+-- the status code that refuses a head: 431 for more than 64 fields, 400 for bytes that are no head, or the one for the length of its body
 abbrev pub RefusesHead : List ℕ → ℕ → Type 0
 RefusesHead bytes status =
     ((status ≡ 431) × RequestExceeds most_fields bytes)

@@ -4,7 +4,7 @@ use Rattle.http.specs.StatusCode.{reason_phrase}
 use Rattle.reg_http_head.specs.Frame.{AsksFor}
 use Rattle.reg_http_head.specs.Response.{Response, phrase, IsText}
 
--- the phrase of each of these codes, which are all but 429, is that of the crate `http`
+-- the phrase of each of these status codes, which are all of the desk's but 429, is that of the crate `http`
 abbrev pub ArePhrases : Type 0
 ArePhrases =
     (reason_phrase 200 ≡ Some (phrase 200)) × (reason_phrase 400 ≡ Some (phrase 400))

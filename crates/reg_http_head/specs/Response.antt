@@ -20,7 +20,7 @@ shown answer = record {
   body = answer.body.items;
 }
 
--- the phrase of a status code (RFC 9110 15, RFC 6585 4 and 5; for 413 the older one, RFC 7231 6.5.11); none for a code with which the desk
+-- the phrase of a status code (RFC 9110 15, RFC 6585 4 and 5; for 413 the older one, RFC 7231 6.5.11); empty for a code with which the desk
 -- never answers
 abbrev pub phrase : ℕ → List ℕ
 phrase status =
@@ -44,12 +44,12 @@ field_line start value = start ++ value ++ 13 ∷ 10 ∷ []
 unfoldable pub status_line : ℕ → List ℕ
 status_line status = codes "HTTP/1.1 " ++ decimal status ++ field_line (codes " ") (phrase status)
 
--- the line of the method that a 405 allows (RFC 9110 10.2.1)
+-- the line of the method that a 405 allows; no line for `None` (RFC 9110 10.2.1)
 unfoldable pub allow_line : Option (List ℕ) → List ℕ
 allow_line None = []
 allow_line (Some method) = field_line (codes "Allow: ") method
 
--- a 429 asks the client to wait a minute (RFC 6585 4, RFC 9110 10.2.3)
+-- a 429 asks the client to wait 60 seconds; no line for another status code (RFC 6585 4, RFC 9110 10.2.3)
 unfoldable pub retry_line : ℕ → List ℕ
 retry_line status = if status == 429 then field_line (codes "Retry-After: ") (codes "60") else []
 

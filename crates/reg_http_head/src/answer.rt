@@ -3,8 +3,10 @@
 ghost use Rattle.std.specs.Prelude.{◌≤◌, length, option_map};
 ghost use Rattle.reg_http_head.specs.Allow.{allowed};
 
+/// The parts of a response (RFC 9110 15, 8.3, 10.2.1).
 #[derive(Drop)]
 pub struct Answer {
+    /// The status code, one of [`status`](crate::status).
     pub status: u16,
     /// The media type of the body, at most 64 bytes.
     pub kind: &'static str,

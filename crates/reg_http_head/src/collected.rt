@@ -9,8 +9,8 @@ use crate::scan_state::{HeadIn, ScanState, scan_all};
 use reg_core::Fault;
 use std::alloc::{AllocError, Global};
 
-/// The bytes that came on a connection. In however many pieces they come, each byte is searched only once for the end of the
-/// head, and the head is read only once.
+/// The bytes that came on a connection. In however many pieces they come, [`Collected::is_whole`] tests only once for each byte whether the head
+/// ends there, and reads the head only once.
 #[derive(Drop)]
 pub struct Collected {
     bytes: Vec<u8>,
@@ -24,6 +24,7 @@ impl Collected {
     ghost use Rattle.reg_http_head.specs.Collected.{HoldsRequest, IsWholeRequest};
     ghost use Rattle.reg_http_head.specs.Frame.{IsUnfinished, part_of_ref};
 
+    /// No bytes.
     pub fn new(alloc: Global) -> Collected
         ensures { collected_bytes result ≡ [] }
     {
@@ -33,13 +34,14 @@ impl Collected {
         }
     }
 
+    /// All bytes that were added.
     pub fn as_slice(&self) -> &[u8]
         ensures { result.now ≡ collected_bytes self.now }
     {
         self.bytes.as_slice()
     }
 
-    /// Appends bytes. An error means that there is no memory for them; then none was appended.
+    /// Appends bytes. [`AllocError`] if out of memory: then none was appended.
     pub fn add(&mut self, more: &[u8]) -> Result<(), AllocError>
         ensures ok { OnOk result (collected_bytes self.new ≡ collected_bytes self.old ++ more.now) }
         ensures err { OnErr result (collected_bytes self.new ≡ collected_bytes self.old) }
@@ -64,7 +66,7 @@ impl Collected {
         }
     }
 
-    /// Whether the bytes were found to be one whole request that is not refused, with nothing after it.
+    /// Whether [`Collected::is_whole`] found that the bytes are one whole request that is not refused, with nothing after it.
     pub fn is_exact(&self) -> bool
         ensures { result ≡ true → ∥ IsExact (collected_bytes self.now) ∥₁ }
     {
@@ -74,8 +76,8 @@ impl Collected {
         }
     }
 
-    /// The request with which the bytes begin, in slices of them. [`Fault::Read`] if they hold no whole request, [`Fault::Memory`] if there is
-    /// no memory.
+    /// The request with which the bytes begin, in slices of the bytes. [`Fault::Read`] if they don't begin with a whole request, [`Fault::Memory`] if
+    /// out of memory.
     pub fn request(&self, alloc: Global) -> Result<RequestRef<'_>, Fault>
         ensures ok { IfOk result (λ request.
             ∥ HoldsRequest (collected_bytes self.now) (part_of_ref request) ∥₁) }

@@ -46,7 +46,7 @@ fn values_of(head: &[u8], fields: &[HeaderSpan], name: &[u8]) -> Values
     values
 }
 
-/// The length of the body of a POST, by its fields (RFC 9112 6.3), or the status that refuses it: 411, 400 or 413.
+/// The length in bytes of the body of a POST, by its fields (RFC 9112 6.3), or the status code that refuses the POST: 411, 400 or 413.
 pub(crate) fn post_size(head: &[u8], fields: &[HeaderSpan]) -> Result<u64, u16>
     requires { All (IsHeaderWithin (length head.now)) fields.now }
     ensures { result ≡ size_by

@@ -7,12 +7,12 @@ pub fn phrases()
     ensures { ArePhrases }
 {}
 
-/// The bytes of a request have one meaning: a method, a target and a body.
+/// The bytes of a request have at most one meaning: a method, a target and a body.
 pub fn one_request()
     ensures { IsOneRequest }
 {}
 
-/// A response has one text at a moment.
+/// A response has at most one text at a moment.
 pub fn one_text()
     ensures { IsOneText }
 {}

@@ -22,7 +22,7 @@ pub(crate) const BLANK_LINE: &[u8] = b"\r\n\r\n";
 /// A request that was read.
 #[derive(Drop)]
 pub enum Request {
-    /// The head is refused with this status, before any route is found.
+    /// The head is refused with this status code, before any route is found.
     Refused(u16),
     Valid {
         method: Method,
@@ -33,7 +33,7 @@ pub enum Request {
     },
 }
 
-/// A request that was collected: as [`Request`], but in slices of the collected bytes.
+/// A request that was collected: the same as [`Request`], in slices of the collected bytes.
 #[derive(Drop)]
 pub enum RequestRef<'b> {
     Refused(u16),
@@ -45,7 +45,7 @@ pub enum RequestRef<'b> {
 }
 
 /// Reads one request (RFC 9112 2.1): its head, up to the first CR LF CR LF, and the body of a POST. It reads at most a head of 8,192 bytes and
-/// a body of 65,536. [`Fault::Read`] if the reader fails or ends within them, [`Fault::Memory`] if there is no memory.
+/// a body of 65,536. [`Fault::Read`] if the reader fails, or ends within the request; [`Fault::Memory`] if out of memory.
 pub fn read_request<R: Read>(alloc: Global, reader: &mut R) -> Result<Request, Fault>
     ensures ok { IfOk result (λ request. TakesAtMost (R.remaining reader.old) (R.remaining reader.new)
         (longest_head + longest_body) (λ took. Framed took (part_of request))) }

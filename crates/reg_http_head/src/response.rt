@@ -14,10 +14,10 @@ use reg_io::{WriteFault, write_whole};
 use std::alloc::AllocError;
 use std::io::Write;
 
-/// The bytes of capacity that [`write_answer`] needs for the head of a response.
+/// The bytes of capacity that [`put_answer`] and [`write_answer`] need for the head of a response.
 pub const HEAD_ROOM: usize = 512;
 
-/// Appends bytes for which there is capacity, without an allocation.
+/// Appends bytes without an allocation: the caller has reserved the capacity.
 pub fn put(out: &mut Vec<u8>, bytes: &[u8])
     requires { length out.old.items + length bytes.now ≤ vec_capacity out.old }
     ensures items { out.new.items ≡ out.old.items ++ bytes.now }
@@ -70,7 +70,7 @@ fn put_status_line(out: &mut Vec<u8>, code: u16)
     put_line(out, b" ", phrase(code));
 }
 
-/// Appends the field with the method that a 405 allows, if there is one (RFC 9110 10.2.1).
+/// Appends Allow with the method that a 405 allows, if there is one (RFC 9110 10.2.1).
 #[tactic(auto, unfolding(crate::specs::Response::allow_line))]
 fn put_allow(out: &mut Vec<u8>, allow: Option<&'static str>)
     requires short { length (allowed (option_map (λ method. method.now) allow)) ≤ 64 }
@@ -85,7 +85,7 @@ fn put_allow(out: &mut Vec<u8>, allow: Option<&'static str>)
     }
 }
 
-/// Appends the field that asks the client to wait a minute, only in a 429 (RFC 9110 10.2.3).
+/// Appends Retry-After, which asks the client to wait 60 seconds, if the status code is 429 (RFC 9110 10.2.3).
 #[tactic(auto, unfolding(crate::specs::Response::retry_line))]
 fn put_retry(out: &mut Vec<u8>, code: u16)
     requires { length out.old.items + 32 ≤ vec_capacity out.old }
@@ -124,7 +124,7 @@ fn date_of(now: Moment) -> [u8; 29]
     HttpDate::from_unix_secs(now.secs()).unwrap().to_bytes()
 }
 
-/// Writes the response into an empty `text`. If there is no memory for its body, `text` has only its head.
+/// Writes the response at a moment into an empty `text`. [`AllocError`] if out of memory for the body: then `text` has only the head.
 pub fn put_answer(text: &mut Vec<u8>, answer: &Answer, now: Moment) -> Result<(), AllocError>
     requires empty { text.old.items ≡ [] }
     requires room { HEAD_ROOM ≤ vec_capacity text.old }
@@ -138,7 +138,7 @@ pub fn put_answer(text: &mut Vec<u8>, answer: &Answer, now: Moment) -> Result<()
     }
 }
 
-/// The constant response of a desk that is out of memory.
+/// The constant response of a desk that is out of memory: status code 500, without a Date and a body.
 #[tactic(auto, unfolding(crate::specs::Response::memory_text, crate::specs::Response::field_line))]
 pub fn memory_fault() -> &'static [u8]
     ensures text { result.now ≡ memory_text }
@@ -147,7 +147,7 @@ pub fn memory_fault() -> &'static [u8]
     b"HTTP/1.1 500 Internal Server Error\r\nConnection: close\r\nContent-Length: 0\r\n\r\n"
 }
 
-/// Writes the response: its head, made in `room`, and the body. [`WriteFault`] if the writer fails or accepts no more bytes.
+/// Writes the response at a moment: its head, made in `room`, and the body. [`WriteFault`] if the writer fails or accepts no more bytes.
 pub fn write_answer<W: Write>(
     writer: &mut W,
     mut room: Vec<u8>,

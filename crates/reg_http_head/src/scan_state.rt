@@ -1,4 +1,4 @@
-//! What is known about the bytes of a connection, so that none is searched twice.
+//! The facts known about the bytes of a connection, so that no byte is tested twice as the end of the head.
 
 ghost use Rattle.reg_http_head.specs.Frame.{HasHead};
 ghost use Rattle.reg_http_head.specs.Collected.{HasNoHeadEnd, Knows, IsAllKnown};
@@ -12,12 +12,12 @@ use reg_io::first_delimiter;
 pub(crate) enum ScanState {
     /// No head ends in the first bytes, up to this count.
     NoHeadEnd(usize),
-    /// The first bytes, up to this count, are refused with this status.
+    /// The first bytes, up to this count, are refused with this status code.
     Refused(usize, u16),
     Valid(HeadIn),
 }
 
-/// A head at the start of the bytes, the index where it ends, and that where its body ends.
+/// A head at the start of the bytes; `end` is the index at which the head ends, and `needed` the index at which its body ends.
 #[derive(Clone, Copy)]
 pub(crate) struct HeadIn {
     pub(crate) spans: HeadSpans,
@@ -25,7 +25,7 @@ pub(crate) struct HeadIn {
     pub(crate) needed: usize,
 }
 
-/// What is known about the bytes after all of them were searched.
+/// The facts known after all bytes were searched for the end of the head.
 pub(crate) fn scan_all(bytes: &[u8], known: ScanState) -> ScanState
     requires { ∥ Knows bytes.now known ∥₁ }
     ensures { ∥ IsAllKnown bytes.now result ∥₁ }
@@ -37,7 +37,7 @@ pub(crate) fn scan_all(bytes: &[u8], known: ScanState) -> ScanState
     }
 }
 
-/// What is known about the bytes after they were searched for the end of a head, of which there is none in the first `searched`.
+/// The facts known after the bytes were searched for the end of the head. The caller knows that no head ends in the first `searched` bytes.
 fn search_rest(bytes: &[u8], searched: usize) -> ScanState
     requires { HasNoHeadEnd bytes.now searched }
     ensures { IsAllKnown bytes.now result }

@@ -6,7 +6,7 @@ use Rattle.std.specs.List.{All}
 abbrev pub EndsWith : List ℕ → List ℕ → Type 0
 EndsWith bytes delimiter = (prefix : List ℕ) × (bytes ≡ prefix ++ delimiter)
 
--- the bytes do not contain the delimiter: no prefix of them ends with it
+-- the bytes do not contain the delimiter: no prefix of the bytes ends with it
 abbrev pub HasNoDelimiter : List ℕ → List ℕ → Type 0
 HasNoDelimiter delimiter bytes = (n : ℕ) → ¬ EndsWith (take n bytes) delimiter
 

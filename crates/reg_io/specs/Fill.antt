@@ -6,20 +6,21 @@ use Rattle.reg_io.specs.declared.fill.Reached.{Reached}
 use Rattle.reg_io.specs.declared.fill.Reached.TheVariants.{Delimiter, Full, End}
 use Rattle.reg_io.specs.Delimiter.{FirstDelimiter, HasNoDelimiter}
 
--- these bytes were taken from the reader, and are in the buffer after the first `buffered` bytes, which stayed the same
+-- these bytes were taken from the reader, and the buffer has them after its first `buffered` bytes, which stayed the same
 pub record Fills (input left : Option (List ℕ)) (before after : List ℕ) (buffered : ℕ)
     (took : List ℕ) : Type 0 where
   pub consumed : Consumes input left took
   pub within : buffered + length took ≤ length after
   pub stands : take (buffered + length took) after ≡ take buffered before ++ took
 
--- how many bytes a buffer of this size has after the read
+-- how many bytes a buffer of this size has after a read up to a delimiter
 abbrev pub kept_of_reading : ℕ → Reached → ℕ
 kept_of_reading size (Delimiter end buffered) = buffered
 kept_of_reading size Full = size
 kept_of_reading size (End buffered) = buffered
 
--- a read stopped: the buffer has the first delimiter, or is full without a delimiter, or the reader is at its end
+-- a read stopped: the buffer has a delimiter, the first of which ends at `end`; or is full without a delimiter; or the reader is at its end,
+-- and the buffer is neither full nor has a delimiter
 abbrev pub ReadStopsAt : List ℕ → List ℕ → Option (List ℕ) → Reached → Type 0
 ReadStopsAt delimiter buffer left (Delimiter end buffered) =
     (end ≤ buffered) × FirstDelimiter delimiter buffer end
@@ -27,7 +28,7 @@ ReadStopsAt delimiter buffer left Full = HasNoDelimiter delimiter buffer
 ReadStopsAt delimiter buffer left (End buffered) =
     (buffered < length buffer) × HasNoDelimiter delimiter (take buffered buffer) × IsAtEnd left
 
--- a read up to a delimiter: these bytes were taken, and the buffer has them after the bytes before, and no others
+-- a read up to a delimiter: the bytes `took` were taken from the reader, and the buffer has its first `buffered` bytes, then these, and no others
 pub record FillsTo (delimiter : List ℕ) (input left : Option (List ℕ)) (before after : List ℕ) (buffered : ℕ)
     (reached : Reached) : Type 0 where
   pub took : List ℕ
@@ -35,7 +36,7 @@ pub record FillsTo (delimiter : List ℕ) (input left : Option (List ℕ)) (befo
   pub count : kept_of_reading (length after) reached ≡ buffered + length took
   pub rests : ReadStopsAt delimiter after left reached
 
--- a read up to a delimiter that failed: these bytes were taken before that, the buffer is not full, and has no delimiter
+-- a read up to a delimiter that failed: the bytes `took` were taken before that, and the buffer is not full and has no delimiter
 pub record FillsShort (delimiter : List ℕ) (input left : Option (List ℕ)) (before after : List ℕ)
     (buffered : ℕ) : Type 0 where
   pub took : List ℕ
@@ -53,7 +54,7 @@ KeepsWhatWasTaken =
     → (to : FillsTo delimiter input left before after buffered reached)
     → take (kept_of_reading (length after) reached) after ≡ take buffered before ++ to.took
 
--- if the read stopped at a delimiter, these are the bytes up to its end, and then those after it
+-- if the read stopped at a delimiter, these are the bytes up to its end, and then the bytes after it that the buffer has (`now` in all)
 abbrev pub SplitsAtDelimiter : Type 0
 SplitsAtDelimiter =
     (delimiter : List ℕ) (input left : Option (List ℕ)) (before after : List ℕ) (buffered end now : ℕ)

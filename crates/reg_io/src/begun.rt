@@ -1,4 +1,4 @@
-/// A result that is ready, or what must be signed to complete it.
+/// A result that is ready, or an unsigned part of a result that must be signed first.
 #[derive(Drop)]
 pub enum ReadyOrUnsigned<R, U> {
     Ready(R),

@@ -1,4 +1,4 @@
-//! Reads into a buffer, after the bytes that it has already.
+//! Reads into a buffer: up to a delimiter, to the end of the buffer, or to the end of the reader.
 
 ghost use Rattle.std.specs.Prelude.{◌≡◌, ℕ, ◌+◌, ◌<◌, ◌≤◌, ◌++◌, List, length, take, IfOk, MatchOption, OnErr, OnOk};
 ghost use Rattle.std.specs.Io.KnownBytes.{Consumes, IsAtEnd};
@@ -12,8 +12,8 @@ use std::io::Read;
 #[derive(Clone, Copy, PartialEq, Eq)]
 pub struct ReadFault;
 
-/// Why a read up to a delimiter stopped: the buffer has a delimiter, the first of which ends at index `end`; the buffer is full; or the reader is at its
-/// end. The buffer has `buffered` bytes.
+/// Why a read up to a delimiter stopped: the buffer has a delimiter, and the first one is the last bytes of `buf[..end]`; the buffer is full and has
+/// no delimiter; or the reader is at its end before that. The buffer has `buffered` bytes.
 #[derive(Clone, Copy, PartialEq, Eq)]
 pub enum Reached {
     Delimiter { end: usize, buffered: usize },
@@ -63,7 +63,8 @@ pub fn fill_to_delimiter<R: Source>(
     }
 }
 
-/// The index at which the first delimiter in the first `buffered` bytes ends. The caller knows that no delimiter ends within the first `searched` bytes.
+/// The index after the first delimiter in the first `buffered` bytes; `None` if they have none. The caller knows that no delimiter ends within
+/// the first `searched` bytes.
 pub fn first_delimiter(
     buf: &[u8],
     buffered: usize,
@@ -106,8 +107,8 @@ pub fn fill_exact<R: Read>(reader: &mut R, buf: &mut [u8], buffered: usize) -> R
     Ok(())
 }
 
-/// Reads until the reader is at its end, and returns how many bytes came. They are at the front of `buf`, which must be longer. [`ReadFault`] at
-/// the first read that fails, even with `Interrupted`, and if the buffer is full before.
+/// Reads into `buf` from its beginning until the reader is at its end, and returns how many bytes came. [`ReadFault`] at the first read that
+/// fails, even with `Interrupted`, and if the bytes fill the buffer, even exactly.
 pub fn fill_to_end<R: Read>(reader: &mut R, buf: &mut [u8]) -> Result<usize, ReadFault>
     ensures came { IfOk result (λ count.
         Consumes (R.remaining reader.old) (R.remaining reader.new) (take count buf.new)) }

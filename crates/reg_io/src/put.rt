@@ -6,12 +6,12 @@ ghost use Rattle.reg_io.specs.Put.{AppendsPrefix};
 
 use crate::streams::Sink;
 
-/// The writer failed, or took 0 bytes.
+/// The writer failed, or took 0 bytes of a slice that is not empty.
 #[derive(Clone, Copy, PartialEq, Eq)]
 pub struct WriteFault;
 
 /// Writes all of the bytes, in as many writes as the writer needs. [`WriteFault`] at the first write that fails, even with `Interrupted`, or that
-/// takes 0 bytes. The bytes that earlier writes took are written.
+/// takes 0 bytes: then the bytes that earlier writes took are written, and no others.
 pub fn write_whole<W: Sink>(writer: &mut W, bytes: &[u8]) -> Result<(), WriteFault>
     ensures ok { OnOk result (Appends (W.contents writer.old) (W.contents writer.new) bytes.now) }
     ensures err { OnErr result

@@ -4,8 +4,8 @@ use crate::fill::ReadFault;
 use crate::put::WriteFault;
 use std::io::{Read, Write};
 
-/// A reader, which may fail. No clause of [`Read`] tells a function that gave up from one whose read failed. A function that is generic in its
-/// `Source` has `failed` only from a read that failed.
+/// A reader whose failed reads a contract can name. A clause `failed` of a function that is generic in its `Source` means that a read failed:
+/// nothing else gives `failed`. No clause of [`Read`] says so.
 pub trait Source: Read {
     ghost use Rattle.std.specs.Prelude.{OnErr};
     ghost use Rattle.std.specs.Io.{ReadsAtMost};
@@ -14,7 +14,7 @@ pub trait Source: Read {
     /// A read failed.
     ghost failed: { Type 0 };
 
-    /// Reads once, as [`Read::read`]. [`ReadFault`] if the read fails, even with `Interrupted`.
+    /// Reads once, as [`Read::read`], and returns how many bytes came. [`ReadFault`] if the read fails, even with `Interrupted`.
     fn read_once(&mut self, buf: &mut [u8]) -> Result<usize, ReadFault>
         ensures bound { ReadsAtMost result buf.new }
         ensures bytes { ReadConsumes (Self.remaining self.old) (Self.remaining self.new) result buf.new }
@@ -22,7 +22,7 @@ pub trait Source: Read {
 }
 
 impl<R: Read> Source for R {
-    // True of any reader, since no clause can state what a call did outside the program.
+    // `failed` is true of any reader, since no clause can state what a call did outside the program.
     ghost failed = { Unit {0} };
 
     fn read_once(&mut self, buf: &mut [u8]) -> Result<usize, ReadFault> {
@@ -33,16 +33,17 @@ impl<R: Read> Source for R {
     }
 }
 
-/// A writer, which may fail. A function that is generic in its `Sink` has `failed` only from a write that failed or took 0 bytes.
+/// A writer whose failed writes a contract can name. A clause `failed` of a function that is generic in its `Sink` means that a write failed, or
+/// took 0 bytes: nothing else gives `failed`.
 pub trait Sink: Write {
     ghost use Rattle.std.specs.Prelude.{◌≡◌, ◌<◌, length, IfOk, OnErr};
     ghost use Rattle.std.specs.Io.{WritesAtMost};
     ghost use Rattle.std.specs.Io.KnownBytes.{WriteAppends};
 
-    /// A write failed, or took 0 bytes of more.
+    /// A write failed, or took 0 bytes of a slice that is not empty.
     ghost failed: { Type 0 };
 
-    /// Writes once, as [`Write::write`]. [`WriteFault`] if the write fails, even with `Interrupted`.
+    /// Writes once, as [`Write::write`], and returns how many bytes were written. [`WriteFault`] if the write fails, even with `Interrupted`.
     fn write_once(&mut self, bytes: &[u8]) -> Result<usize, WriteFault>
         ensures bound { WritesAtMost result bytes.now }
         ensures bytes { WriteAppends (Self.contents self.old) (Self.contents self.new) result bytes.now }

@@ -15,7 +15,7 @@ use Rattle.reg_lines.specs.Strict.{StrictEnds}
 use Rattle.reg_lines.specs.declared.answered.Ended.{Ended}
 use Rattle.reg_lines.proofs.ScriptsAndImports.{comes_moves, import_moves, input_moves, strict_import_moves}
 
--- a command line leads from records to records
+-- an untimed line leads from records to records
 pub line_leads : {O : Type 0} (office : Office O) (s t : O) (now : ℕ) (line : List ℕ) (came : LineOutcome) → ComesTo (LineCalls office) now s line came t
     → Leads office.is_clean office.stands (λ signatory before after. ComesTo (Lines office.signs signatory) now before line came after) s t
 line_leads office s t now line came comes =

@@ -74,7 +74,7 @@ module _ {S I R : Type 0} (is_clean : S → Type 0) (stands : I → S → R → 
   asked_moves now s (is_ocsp_line request) came t (given, did, told) =
       follows is_clean stands _ _ (λ i before after made. (given, made, told)) s t (lifts s now (responded request given) t did)
 
-  -- a command line at a moment
+  -- an untimed line at a moment
   pub comes_moves : (now : ℕ) (s : S) (line : List ℕ) (came : LineOutcome) (t : S) → ComesTo answers now s line came t
       → Leads is_clean stands (λ i before after. ComesTo (kept i) now before line came after) s t
   comes_moves now s line came t (inl (meaning, means, did)) =

@@ -36,7 +36,7 @@ refused_of other = None
 abbrev pub unreadable : Answered
 unreadable = Completed Nothing (Err (Refused Syntax))
 
--- the reply to an OCSP request with this response; it is a refusal if it has five bytes, which is only a status (RFC 6960 4.2.1)
+-- the reply to an OCSP request with this response; `is_refusal` says whether the response has five bytes, which are only a status (RFC 6960 4.2.1)
 pub record IsReplyOf (response : List ℕ) (reply : OcspReply) : Type 0 where
   pub line : reply.line.items ≡ with_lf (codes "ocsp " ++ encode_lower response)
   pub refuses : reply.is_refusal ≡ (length response == 5)
@@ -61,19 +61,19 @@ module _ {S : Type 0} (answers : S → ℕ → Call → S → Type 0) where
       (given : Result (List ℕ) NoMemory) × answers s now (responded request given) t
       × OcspLineComesTo given answered
 
-  -- a command line at a moment: the office gets the call that it means; or it is unreadable, and the office gets no call
+  -- an untimed line at a moment: the office gets the call that the line means; or the line is unreadable, and the office gets no call
   abbrev pub ComesTo : ℕ → S → List ℕ → Answered → S → Type 0
   ComesTo now s line answered t =
       ((meaning : Meaning) × LineMeans line meaning × OfficeAnswers now s meaning answered t)
       ⊎ (IsUnreadable line × (answered ≡ unreadable) × (t ≡ s))
 
-  -- a line of a script: a moment and a command line; or it does not begin with a moment, and is unreadable
+  -- a line of a script: a moment and an untimed line; or it does not begin with a moment, and is unreadable
   abbrev pub TimedComesTo : S → List ℕ → Answered → S → Type 0
   TimedComesTo s line answered t =
       ((now : ℕ) × (command : List ℕ) × HasMoment line now command × ComesTo now s command answered t)
       ⊎ (HasNoMoment line × (answered ≡ unreadable) × (t ≡ s))
 
-  -- a line of an input: a command line at a moment that the clock has reached, or a line of a script
+  -- a line of an input: an untimed line at a moment that the clock has reached, or a line of a script
   abbrev pub LineComesTo : (ℕ → Type 0) → Bool → S → List ℕ → Answered → S → Type 0
   LineComesTo reached true = λ s line answered t. (now : ℕ) × reached now × ComesTo now s line answered t
   LineComesTo reached false = TimedComesTo

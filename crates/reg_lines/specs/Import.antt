@@ -37,12 +37,12 @@ Row = List (List ℕ)
 abbrev pub AreCsvRows : List ℕ → List Row → Type 0
 AreCsvRows text rows = AreRecords default_config st.StartRecord (strip_bom text) rows
 
--- these are the first rows of a text
+-- these are the first rows of a text, as `csv` reads them
 abbrev pub AreFirstRows : List ℕ → List Row → Type 0
 AreFirstRows text rows =
     (s : State) × (left : List ℕ) × Reached default_config st.StartRecord (strip_bom text) rows s left
 
--- the four names of the header
+-- these four fields are the names of the header
 abbrev pub are_names : Option (List ℕ × List ℕ × List ℕ × List ℕ) → Bool
 are_names None = false
 are_names (Some names) =
@@ -62,7 +62,7 @@ data_rows (row ∷ rows) = if is_header row then rows else row ∷ rows
 abbrev pub RowMeans : Row → Command → Type 0
 RowMeans row command = SpellsCommand command (codes "register" ∷ row)
 
--- One row and its reply at a moment: the office `s` becomes `t`. If a row spells no command, it is unreadable, and the office gets no call.
+-- One row and its reply at a moment: the office `s` becomes `t`. If a row spells no command, the reply is that of `E22`, and the office gets no call.
 abbrev pub RowReplies : {S : Type 0} → (S → ℕ → Call → S → Type 0) → ℕ → S → Row → List ℕ → S → Type 0
 RowReplies answers now s row reply t =
     ((command : Command) × (outcome : Result Reply Fault) × RowMeans row command
@@ -95,16 +95,17 @@ module _ (text : List ℕ) (out out' : Option (List ℕ)) where
 -- Rows of a text that ran at a moment, in order: the office, and the output, before and after.
 module _ {S : Type 0} (answers : S → ℕ → Call → S → Type 0) (now : ℕ) (s t : S) (out out' : Option (List ℕ))
     (text : List ℕ) where
-  -- the rows that are `Are` of the text (all, or the first ones) ran, and got these replies
+  -- rows of which `Are` holds with the text (all, or the first ones) ran, without a header, and their replies were written
   abbrev pub RowsRan : (List ℕ → List Row → Type 0) → Type 0
   RowsRan Are =
       (ran : RepliedRows text out out' Are)
       × Answered (RowReplies answers now) s (data_rows ran.rows) ran.replies t
 
-  -- all rows ran; or, below, the first ones
+  -- all rows of the text ran
   abbrev pub AllRan : Type 0
   AllRan = RowsRan AreCsvRows
 
+  -- the first rows of the text ran
   abbrev pub FirstRan : Type 0
   FirstRan = RowsRan AreFirstRows
 
@@ -130,7 +131,7 @@ abbrev pub IsTextUnread : Type 0 → Option (List ℕ) → Option (List ℕ) →
 IsTextUnread failed input input' =
     (some : TookSome input input') × ((length some.0 ≡ most_bytes + 1) ⊎ failed)
 
--- Rows that run at a moment, strictly or not: the office, and the output, before and after, and what states that a write of it failed.
+-- Rows that run at a moment, strictly or not: the office, and the output, before and after; `output_failed` states that a write failed.
 module _ {S : Type 0} (answers : S → ℕ → Call → S → Type 0) (is_strict : Bool) (now : ℕ) (s t : S)
     (output_failed : Type 0) where
   -- How the run of a text's rows ends: each ran, or there was a fault. In a strict run all replies are accepted; or only the last one is not, and
@@ -150,8 +151,8 @@ module _ {S : Type 0} (answers : S → ℕ → Call → S → Type 0) (is_strict
       × (IsTrue is_strict → AllByRecursion IsAccepted run.0.replies)
   RowsEnd out out' text (Err other) = ⊥
 
--- How an import ends: the whole text was read, and its rows ran with this result; or the input failed, or there was no memory before the first
--- row, and nothing ran.
+-- How an import ends: the whole text was read, and `Ran` holds of the text and the result; or the input failed or was too long, or there was no
+-- memory for the text, and nothing ran.
 abbrev pub EndsBy
     : {S R W A : Type 0} → (R → Option (List ℕ)) → Type 0 → S → S → R → R → W → W
     → (List ℕ → Result A Fault → Type 0)
@@ -196,13 +197,13 @@ pub record IsAtStart (rows : Reader (Bor (List ℕ))) : Type 0 where
   pub config : reader_config rows ≡ default_config
   pub state : reader_state rows ≡ st.StartRecord
 
--- the bytes that it reads are those of the text
+-- the bytes that the reader reads are those of the text, without a byte order mark at the start
 abbrev pub ReadsText : Reader (Bor (List ℕ)) → List ℕ → Type 0
 ReadsText rows text = source_of (λ (s : Bor (List ℕ)). Some s.now) rows ≡ Some (strip_bom text)
 
 -- One row that runs at a moment, strictly or not.
 module _ {S : Type 0} (answers : S → ℕ → Call → S → Type 0) (is_strict : Bool) (now : ℕ) (s t : S) where
-  -- a row ran, and its reply, or a prefix of that, was written
+  -- a row ran, and its reply, or a proper prefix of the reply, was written
   pub record RanRow (row : Row) (out out' : Option (List ℕ))
       (result : Result Continuation WriteFault) : Type 0 where
     pub reply : List ℕ

@@ -25,7 +25,7 @@ two (a ∷ []) = None
 two (a ∷ b ∷ []) = Some (a, b)
 two (a ∷ b ∷ c ∷ rest) = None
 
--- exactly four
+-- exactly four fields
 abbrev pub four : List (List ℕ) → Option (List ℕ × List ℕ × List ℕ × List ℕ)
 four [] = None
 four (a ∷ []) = None
@@ -50,14 +50,15 @@ abbrev pub alone : {A : Type 0} → A → List (List ℕ) → Option A
 alone value [] = Some value
 alone value (a ∷ rest) = None
 
--- the number, or the serial number, in the only field
+-- the number in the only field
 unfoldable pub number_alone : List (List ℕ) → Option ℕ
 number_alone fields = option_and_then number_of (one fields)
 
+-- the serial number in the only field
 unfoldable pub serial_alone : List (List ℕ) → Option ℕ
 serial_alone fields = option_and_then serial_of (one fields)
 
--- the meaning of each word, with the fields after it: `subscriber NAME`
+-- the command of the fields after its word: `subscriber NAME`
 unfoldable pub subscriber_of : List (List ℕ) → Option Command
 subscriber_of fields = do
   field ← one fields
@@ -101,7 +102,7 @@ hex_of digits = cond (nat_lt 0 (length digits)) (result_ok (decode_of digits)) N
 unfoldable pub ocsp_of : List (List ℕ) → Option (List ℕ)
 ocsp_of fields = option_and_then hex_of (one fields)
 
--- the query or OCSP request of a word and the fields after it; any other word has no meaning
+-- the query or OCSP request of a word and the fields after the word; any other word has no meaning
 unfoldable pub query_by : List ℕ → List (List ℕ) → Option Meaning
 query_by word fields =
     if bytes_eq word (codes "status") then option_map means_query (option_map Status (serial_alone fields))
@@ -113,7 +114,7 @@ query_by word fields =
     else if bytes_eq word (codes "ocsp") then option_map is_ocsp_line (ocsp_of fields)
     else None
 
--- the command of a word for a revocation or a CRL; any other word may be a query
+-- the meaning of a word and the fields after it: `request`, `decline`, `revoke`, `crl`, or one of those above
 unfoldable pub revoking_by : List ℕ → List (List ℕ) → Option Meaning
 revoking_by word fields =
     if bytes_eq word (codes "request") then option_map means_command (request_of fields)

@@ -1,4 +1,4 @@
--- The grammar of script lines: a moment, a space and a command line. A command line spells its meaning: its fields are how the meaning is written.
+-- The grammar of script lines: a moment, a space and an untimed line. An untimed line spells a meaning: its fields write the meaning.
 use Rattle.std.specs.Prelude.{◌≡◌, ℕ, ◌<◌, List, [], ◌∷◌, ◌++◌, length, codes, Ok, unwrap_or}
 use Rattle.std.specs.Result.{result_ok}
 use Rattle.hex.specs.Hex.{decode_of}
@@ -14,7 +14,7 @@ use Rattle.reg_lines.specs.Fields.{fields_of}
 use Rattle.reg_lines.specs.declared.line.ParsedLine.{ParsedLine}
 use Rattle.reg_lines.specs.declared.line.ParsedLine.TheVariants as line
 
--- the meaning of a command line: a command, a query, or the bytes of an OCSP request (RFC 6960 4.1)
+-- the meaning of an untimed line: a command, a query, or the bytes of an OCSP request (RFC 6960 4.1)
 pub data Meaning : Type 0 where
   means_command : Command → Meaning
   means_query : Query → Meaning
@@ -59,17 +59,17 @@ IsHexOf digits bytes = (0 < length digits) × (decode_of digits ≡ Ok bytes)
 abbrev pub SpellsOcsp : List ℕ → List (List ℕ) → Type 0
 SpellsOcsp bytes fields = (digits : List ℕ) × (fields ≡ codes "ocsp" ∷ digits ∷ []) × IsHexOf digits bytes
 
--- the command line is a spelling of the meaning: its fields are separated by one space each
+-- the untimed line spells the meaning, in fields that are separated by one space each
 abbrev pub LineMeans : List ℕ → Meaning → Type 0
 LineMeans line (means_command command) = SpellsCommand command (fields_of line)
 LineMeans line (means_query query) = SpellsQuery query (fields_of line)
 LineMeans line (is_ocsp_line bytes) = SpellsOcsp bytes (fields_of line)
 
--- the command line spells no meaning
+-- the untimed line spells no meaning
 abbrev pub IsUnreadable : List ℕ → Type 0
 IsUnreadable line = (meaning : Meaning) → ¬ LineMeans line meaning
 
--- no command line has two meanings
+-- no untimed line has two meanings
 abbrev pub OneMeaning : Type 0
 OneMeaning = (text : List ℕ) (a b : Meaning) → LineMeans text a → LineMeans text b → a ≡ b
 
@@ -83,7 +83,7 @@ meaning_of (line.Command command) = means_command command
 meaning_of (line.Query query) = means_query query
 meaning_of (line.Ocsp digits) = is_ocsp_line (decoded_bytes digits.now)
 
--- the line of a script begins at this moment: the moment's text, a space (the byte 32), and the command line
+-- the line of a script begins with this moment: it is the moment's text, a space (the byte 32), and an untimed line
 abbrev pub HasMoment : List ℕ → ℕ → List ℕ → Type 0
 HasMoment line now command = (line ≡ moment_text now ++ 32 ∷ command) × IsMoment now
 

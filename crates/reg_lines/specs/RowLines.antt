@@ -1,4 +1,4 @@
--- The rows of an import as lines of a script.
+-- The rows of an import as untimed lines.
 use Rattle.std.specs.Prelude.{◌≡◌, ◌⊎◌, ℕ, Bool, ◌&&◌, List, [], ◌∷◌, ◌++◌, codes, cond, is_some, map, Option, Some, None, Result, Ok, Err}
 use Rattle.std.specs.List.{concat}
 use Rattle.reg_core.specs.declared.refusal.Fault.{Fault}
@@ -12,7 +12,7 @@ fields_listed None = []
 fields_listed (Some all) =
     cond (is_some (register_by all)) ((32 ∷ all.0) ++ (32 ∷ all.1) ++ (32 ∷ all.2) ++ (32 ∷ all.3)) []
 
--- the line of a row with its LF, with its four fields; for a row that spells no registration, `register` alone
+-- the line of a row, with its LF: `register` and the four fields; for a row that spells no registration, `register` alone
 abbrev pub row_line : Option (List ℕ × List ℕ × List ℕ × List ℕ) → List ℕ
 row_line fields = codes "register" ++ fields_listed fields ++ 10 ∷ []
 

@@ -22,7 +22,7 @@ use Rattle.reg_lines.specs.declared.lines.Next.TheVariants.{Held, End}
 abbrev pub longest_line : ℕ
 longest_line = 8192
 
--- the most bytes of a line without a moment of its own: fewer by the bytes of a moment and a space
+-- the most bytes of a line before its LF: for an untimed line (`true`) fewer by the 21 bytes of a moment and a space
 abbrev pub longest_of : Bool → ℕ
 longest_of true = 8171
 longest_of false = longest_line
@@ -40,11 +40,11 @@ pieces (byte ∷ input) = if byte == 10 then (byte ∷ []) ∷ pieces input else
 abbrev pub line_of : List ℕ → List ℕ
 line_of piece = if ends_with_byte 10 piece then strip_last 13 (strip_last 10 piece) else piece
 
--- the line has at most this many bytes
+-- the line has at most this many bytes before its LF
 abbrev pub IsShort : ℕ → List ℕ → Type 0
 IsShort longest piece = length (strip_last 10 piece) ≤ longest
 
--- a line that runs at the moment of a clock has at most 8,171 bytes before its LF
+-- an untimed line has at most 8,171 bytes before its LF
 abbrev pub IsShortCommand : List ℕ → Type 0
 IsShortCommand = IsShort (longest_of true)
 
@@ -52,7 +52,7 @@ IsShortCommand = IsShort (longest_of true)
 abbrev pub HasNoLf : List ℕ → Type 0
 HasNoLf bytes = All (λ byte. byte ≢ 10) bytes
 
--- some bytes and then LF
+-- bytes without an LF, and then an LF
 abbrev pub IsWholeLine : List ℕ → Type 0
 IsWholeLine piece = (prefix : List ℕ) × (piece ≡ prefix ++ 10 ∷ []) × HasNoLf prefix
 
@@ -180,7 +180,7 @@ module _ {S R W : Type 0} (answers : S → ℕ → Call → S → Type 0) (remai
 
 -- Lines that run; the office, and the output, before and after.
 module _ {S : Type 0} (runs : S → List ℕ → List ℕ → S → Type 0) (s t : S) (out out' : Option (List ℕ)) where
-  -- a line ran, and its reply, or a prefix of that, was written; or the clock could not be read, and it did not run
+  -- a line ran, and its reply, or a proper prefix of the reply, was written; or the clock could not be read, and the line did not run
   abbrev pub LineEnds : Type 0 → Type 0 → Bool → List ℕ → Result Continuation Fault → Type 0
   LineEnds clock_failed output_failed is_strict line (Ok passed) =
       (reply : List ℕ) × runs s line reply t × Appends out out' reply × RunContinues is_strict reply passed

@@ -8,10 +8,10 @@ use crate::reply::ReplyText;
 use reg_core::{Command, Fault, Outcome, Query, Refusal};
 use reg_io::{Sink, WriteFault, write_whole};
 
-/// What a line asks of the office.
+/// The kind of a line, by the call of the office that it asks for.
 #[derive(Clone, Copy)]
 pub enum LineKind {
-    /// Nothing: it can't be read.
+    /// The line can't be read, so the office gets no call.
     Nothing,
     Command(Command),
     Query(Query),
@@ -23,7 +23,7 @@ pub enum LineKind {
 pub struct OcspReply {
     /// `ocsp HEX`, with its LF.
     pub line: Vec<u8>,
-    /// Whether the response has only a status: then it is unsigned (RFC 6960 4.2.1).
+    /// Whether the response has only a status, so no signature (RFC 6960 4.2.1).
     pub is_refusal: bool,
 }
 
@@ -33,9 +33,11 @@ pub enum Answered {
     /// The kind of the line, and its outcome: [`Refusal::Syntax`] if it can't be read, and [`Fault::Memory`] for an OCSP request
     /// if there is no memory for its bytes, for the response or for the reply.
     Completed(LineKind, Outcome),
+    /// The reply to an OCSP request.
     Response(OcspReply),
 }
 
+/// A refused command, and its refusal.
 #[derive(Clone, Copy)]
 pub struct RefusedCommand {
     pub command: Command,
@@ -45,9 +47,9 @@ pub struct RefusedCommand {
 /// How a run of lines or rows ended, if no fault of input, output or memory cut it short.
 #[derive(Clone, Copy)]
 pub enum Ended {
-    /// Each of them ran. Of a strict run each was accepted.
+    /// Each line or row ran. In a strict run, each was accepted.
     Whole,
-    /// The run is strict, and the last reply is a refusal or a fault. Nothing ran after it. Has the command, if one was refused.
+    /// The run is strict, and the last reply is a refusal or a fault. Nothing ran after it. The variant has the command, if a command was refused.
     Refused(Option<RefusedCommand>),
     /// The run is strict, and each line or row up to the last line end ran and was accepted. The rest did not run.
     NoLineEnd,
@@ -61,7 +63,7 @@ pub(crate) enum Continuation {
 }
 
 impl Answered {
-    /// Whether it is neither a refusal nor a fault.
+    /// Whether the outcome is neither a refusal nor a fault. An OCSP response is accepted, even if it has only a status.
     pub fn is_accepted(&self) -> bool
         ensures { result ≡ accepts self.now }
     {
@@ -71,7 +73,7 @@ impl Answered {
         }
     }
 
-    /// The command that was refused, if one was.
+    /// The command that was refused, with its refusal; `None` if the line is no command, or was not refused.
     pub fn refused(&self) -> Option<RefusedCommand>
         ensures { result ≡ refused_of self.now }
     {
@@ -86,7 +88,7 @@ impl Answered {
         }
     }
 
-    /// The reply. The line of an outcome is written into `room`, which is empty and has the capacity for it, so nothing is allocated.
+    /// The reply, with its LF. The reply of an outcome is written into `room`, which has the capacity for it, so nothing is allocated.
     pub fn into_reply(self, mut room: Vec<u8>) -> Vec<u8>
         requires empty { room.items ≡ [] }
         requires room { 84 ≤ vec_capacity room }
@@ -134,7 +136,7 @@ impl Answered {
     }
 }
 
-/// The result of a run that is not strict: only its fault, if any.
+/// The result of a run, without where it ended: only its fault, if any.
 pub(crate) fn done<T: Copy>(ran: Result<T, Fault>) -> Result<(), Fault>
     ensures { result ≡ done_of ran }
 {

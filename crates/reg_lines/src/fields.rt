@@ -22,6 +22,7 @@ impl<'a> Model for Fields<'a> {
 }
 
 impl<'a> Fields<'a> {
+    /// All fields of a line: the texts between its spaces.
     pub fn of(line: &'a [u8]) -> Fields<'a>
         ensures { result ≡ fields_of line.now }
     {
@@ -35,7 +36,7 @@ impl<'a> Fields<'a> {
         self.rest.is_none()
     }
 
-    /// Takes the next field, if there is one.
+    /// Takes the next field; `None` if no field is left.
     pub fn next(&mut self) -> Option<&'a [u8]>
         ensures { MatchOption result ((self.old ≡ []) × (self.new ≡ []))
             (λ field. self.old ≡ field.now ∷ self.new) }
@@ -60,7 +61,7 @@ fn first_space(text: &[u8]) -> Option<usize>
     text.iter().position(|byte| *byte == b' ')
 }
 
-/// The only field; `None` for no field or more. `two` and `four` give exactly two and four fields.
+/// The only field; `None` if there is no field, or more than one. `two` and `four` return exactly two and four fields.
 pub(crate) fn one(mut fields: Fields<'_>) -> Option<&[u8]>
     ensures { option_map (λ a. a.now) result ≡ one fields.entry }
 {

@@ -21,7 +21,7 @@ pub trait Host {
     fn is_clocked(&self) -> bool
         ensures { result ≡ clocked self.now };
 
-    /// The moment of the clock; [`Fault::Read`] if it can't be read.
+    /// The moment of the clock; [`Fault::Read`] if the clock can't be read.
     fn moment(&self) -> Result<Moment, Fault>
         ensures told { IfOk result clock_reached }
         ensures err { IfErr result (λ fault. fault ≡ Read) }

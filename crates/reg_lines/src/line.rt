@@ -1,4 +1,4 @@
-//! Reads one line: as a command, a query or an OCSP request.
+//! Reads one untimed line (a line without its moment): as a command, a query or an OCSP request.
 
 ghost use Rattle.std.specs.Prelude.{◌≡◌, ◌<◌, IfNone, IfSome, IsTrue, ◌↔◌, Some, None, option_map, length, cond};
 ghost use Rattle.std.specs.List.{AllPass};
@@ -19,7 +19,7 @@ pub enum ParsedLine<'a> {
     Ocsp(&'a [u8]),
 }
 
-/// Reads a line without its moment and its line end: `None` if it can't be read. No line has two meanings.
+/// Reads an untimed line, given without its line end: `None` if it can't be read. No line has two meanings.
 pub fn read_line(line: &[u8]) -> Option<ParsedLine<'_>>
     ensures found { IfSome result (λ said. LineMeans line.now (meaning_of said)) }
     ensures only { (meaning : Meaning) → LineMeans line.now meaning
@@ -199,7 +199,7 @@ fn read_hex(fields: Fields<'_>) -> Option<&[u8]>
     if is_hex(digits) { Some(digits) } else { None }
 }
 
-/// Whether a text is of hexadecimal digits, an even number of them and at least two.
+/// Whether a text has only hexadecimal digits, an even number of them and at least two.
 fn is_hex(digits: &[u8]) -> bool
     ensures { hex_of digits.now ≡ cond result (Some (decoded_bytes digits.now)) None }
 {

@@ -18,7 +18,7 @@ use std::alloc::Global;
 /// The most bytes of a line before its LF; a CR counts.
 pub const LONGEST_LINE: usize = 8192;
 
-/// The most bytes of a line without its moment and the space after that. A CR counts.
+/// The most bytes of an untimed line before its LF: 8,171, as [`LONGEST_LINE`] without a moment and a space. A CR counts.
 pub const LONGEST_COMMAND: usize = LONGEST_LINE - MOMENT - 1;
 
 /// The most lines of a run.
@@ -208,7 +208,7 @@ fn run_at_own_moment<O: Office>(alloc: Global, office: &mut O, line: &[u8]) -> A
     }
 }
 
-/// Checks that the input is at its end: reads one byte, and fails if there is one.
+/// Checks that the input is at its end: `Read` if there is one more byte, or if a read fails.
 fn end_of_input<R: Source>(reader: &mut R, room: &mut [u8]) -> Result<Ended, Fault>
     requires { length room.old ≡ 1 }
     ensures { EndOrMore R.failed (R.remaining reader.old) (R.remaining reader.new) result }

@@ -1,4 +1,4 @@
-//! The moment at the start of a line of a script, the command line (the rest of that line), and the end of a line.
+//! The parts of a script line: its moment, the untimed line after it, and the line end.
 
 ghost use Rattle.std.specs.Prelude.{◌≡◌, IfNone, IfSome, MatchOption};
 ghost use Rattle.std.specs.Io.BufRead.{strip_last};
@@ -11,7 +11,8 @@ use reg_core::Moment;
 /// The number of bytes of a moment's text.
 pub(crate) const MOMENT: usize = 20;
 
-/// The moment with which a line of a script begins, and the command line after it. No line has two such readings.
+/// The moment with which a script line begins, and the untimed line after it; `None` if the line does not begin with a moment and a space. No line
+/// has two such readings.
 pub fn take_moment(line: &[u8]) -> Option<(Moment, &[u8])>
     ensures found { IfSome result (λ taken. HasMoment line.now taken.0 taken.1.now) }
     ensures none { IfNone result (HasNoMoment line.now) }
@@ -24,7 +25,7 @@ pub fn take_moment(line: &[u8]) -> Option<(Moment, &[u8])>
     Some((now, &line[MOMENT + 1..]))
 }
 
-/// A line that runs at the moment of a clock, without its line end: a command line. `None` if it has too many bytes.
+/// An untimed line without its line end; `None` if it has more than [`LONGEST_COMMAND`] bytes before its LF.
 pub fn command_in(line: &[u8]) -> Option<&[u8]>
     ensures { MatchOption result (¬ IsShortCommand line.now)
         (λ command. (command.now ≡ line_of line.now) × IsShortCommand line.now) }

@@ -8,10 +8,10 @@ ghost use Rattle.reg_lines.specs.Replies.{line_of_status, counts_line, listing_l
 use reg_core::{Counts, Decimal, Listing, Moment, Outcome, Overdue, Reply, Status};
 use std::marker::Model;
 
-/// The bytes of the longest reply with its LF, except that of an OCSP response: three counts of 20 digits.
+/// The bytes of the longest reply with its LF, except that to an OCSP request: the reply to `counts`, with three numbers of 20 digits.
 pub const LONGEST_REPLY: usize = 84;
 
-/// A reply, in an array, so that it needs no allocation. Contracts see the list of its bytes.
+/// The text of a reply in an array, so that it needs no allocation. Contracts see the list of its bytes.
 #[derive(Drop)]
 pub struct ReplyText {
     bytes: [u8; LONGEST_REPLY],
@@ -29,7 +29,7 @@ impl Model for ReplyText {
 }
 
 impl ReplyText {
-    /// The reply for the outcome of a command or query: its line and LF.
+    /// The reply to a command or query with this outcome: a line with its LF.
     #[tactic(auto, unfolding(crate::specs::Replies::outcome_line, crate::specs::Replies::with_lf))]
     pub fn of(outcome: &Outcome) -> ReplyText
         ensures line { result ≡ with_lf (outcome_line outcome.now) }

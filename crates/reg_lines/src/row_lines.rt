@@ -1,4 +1,4 @@
-//! The rows of an import as lines of a script.
+//! The rows of an import as untimed lines.
 
 ghost use Rattle.std.specs.Prelude.{◌≡◌, [], ◌∷◌, ◌++◌, ℕ, List, MatchResult, OnOk, option_map};
 ghost use Rattle.std.specs.Result.{result_map_both};
@@ -13,9 +13,9 @@ use reg_core::Fault;
 use reg_io::Source;
 use std::alloc::{AllocError, Global};
 
-/// The line for each row of a text, in order: `register` and its four fields, without a moment. A first row
+/// The untimed line for each row of a text, in order: `register` and its four fields. A first row
 /// `order,serial,notBefore,notAfter` is skipped. A row that is no registration gives `register` alone, which is refused
-/// (`E22`), so that each row has one line.
+/// (`E22`), so that each row but the header has one line.
 ///
 /// # Errors
 ///
@@ -42,7 +42,7 @@ fn lines_of_text(alloc: Global, text: &[u8]) -> Result<Vec<u8>, Fault>
     }
 }
 
-/// Appends the line of each row of a reader that has read none yet, each in the same `ByteRecord`.
+/// Appends the line of each row of a reader that has read none yet. Each row is read into the same `ByteRecord`.
 fn put_each(
     rows: &mut Reader<&[u8]>,
     row: &mut ByteRecord,

@@ -28,8 +28,8 @@ const PIECE: usize = 4096;
 /// # Errors
 ///
 /// [`Fault::Read`] if a read fails or there are more than 16,777,216 bytes: nothing ran. [`Fault::Write`] if the output
-/// fails in a reply, whose row ran. [`Fault::Memory`] if out of memory for the text or for a row: the rows before it
-/// ran, and their replies were written.
+/// fails in a reply, whose row ran. [`Fault::Memory`] if out of memory for the text, and nothing ran; or for a row, and the rows before
+/// that ran, and their replies were written.
 pub fn import<R: Source, W: Sink, O: Office>(
     alloc: Global,
     reader: &mut R,
@@ -51,6 +51,7 @@ pub fn import<R: Source, W: Sink, O: Office>(
     }
 }
 
+/// The whole text; `Read` if a read fails or there are more than 16,777,216 bytes, `Memory` if out of memory.
 pub(crate) fn read_text<R: Source>(alloc: Global, reader: &mut R) -> Result<Vec<u8>, Fault>
     ensures { TextRead R.failed (R.remaining reader.old) (R.remaining reader.new)
         (result_map_both (λ text. text.items) (λ fault. fault) result) }
@@ -71,7 +72,7 @@ pub(crate) fn read_text<R: Source>(alloc: Global, reader: &mut R) -> Result<Vec<
     Err(Fault::Read)
 }
 
-/// A reader of the rows of a text, each with any number of fields. It has read none yet.
+/// A reader of the rows of a text, each with any number of fields. The reader has read none yet.
 pub(crate) fn rows_of(alloc: Global, text: &[u8]) -> Reader<&[u8]>
     ensures at_start { IsAtStart result }
     ensures reads { ReadsText result text.entry.now }
@@ -99,7 +100,7 @@ pub(crate) fn run_rows<W: Sink, O: Office>(
     run_each(alloc, writer, now, office, is_strict, &mut rows, &mut row)
 }
 
-/// Runs each row of a reader that has read none yet, each in the same `ByteRecord`.
+/// Runs each row of a reader that has read none yet. Each row is read into the same `ByteRecord`.
 fn run_each<W: Sink, O: Office>(
     alloc: Global,
     writer: &mut W,

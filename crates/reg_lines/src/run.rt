@@ -1,4 +1,4 @@
-//! Runs one command line (a line without its moment) in an office.
+//! Runs one untimed line (a line without its moment) in an office.
 
 ghost use Rattle.std.specs.Prelude.{◌≡◌, ◌++◌, Err, IfOk, Ok, codes};
 ghost use Rattle.hex.specs.Hex.{encode_lower};
@@ -17,7 +17,7 @@ use std::alloc::{AllocError, Global};
 /// The length of an OCSP response that has only a status (RFC 6960 4.2.1).
 const STATUS_ONLY_LENGTH: usize = 5;
 
-/// Runs a line, given without its line end, at a moment.
+/// Runs an untimed line, given without its line end, at a moment. A line that can't be read gets [`Refusal::Syntax`], without a call of the office.
 pub fn run_line<O: Office>(alloc: Global, office: &mut O, now: Moment, line: &[u8]) -> Answered
     ensures leads { LeadsIn O.Office
         (λ signatory before after. ComesTo (Lines O.signs signatory) now before line.now result after)

@@ -1,4 +1,4 @@
-//! Runs a script, in which each line begins with a moment, and writes a reply line for each.
+//! Runs a script, in which each line begins with a moment, and writes one reply line for each line.
 
 ghost use Rattle.std.specs.Prelude.{IsFalse};
 ghost use Rattle.reg_office_api.specs.Calls.{LeadsIn};

@@ -12,9 +12,8 @@ use reg_io::{Sink, Source};
 use reg_office_api::Office;
 use std::alloc::Global;
 
-/// Registers each row of a text as [`crate::import`] does, up to the first reply that is a refusal or a fault. A last row
-/// without its line end, a CR or an LF, does not run.
-/// Errors are those of [`crate::import`].
+/// Registers each row of a text as [`crate::import`] does, up to the first reply that is a refusal or a fault. A last row without a line end (a CR
+/// or an LF) does not run. The errors are those of [`crate::import`].
 pub fn import_strictly<R: Source, W: Sink, O: Office>(
     alloc: Global,
     reader: &mut R,

@@ -1,4 +1,4 @@
--- The public key of a certificate (RFC 5280 4.1): the fields of a certificate as a tree, the encoding of a tree, and how it is read.
+-- The public key of a certificate (RFC 5280 4.1): the fields of a certificate as a tree, the encoding of a tree, and how the key is read.
 use Rattle.std.specs.Prelude.{◌≡◌, ℕ, ◌≤◌, ◌==◌, ◌&&◌, nat_le, nat_lt, if◌then◌else◌, List, [], ◌∷◌, ◌++◌, length, Option, Some, None}
 use Rattle.reg_core.specs.Integer.{IsBytes}
 use Rattle.reg_core.specs.Sequence.{◌>>=◌}
@@ -10,9 +10,9 @@ use Rattle.reg_der.specs.TaggedValues.{expect_at, whole_at, optional_at}
 
 -- ---- the tree
 
--- A Certificate. Each field that is not read further is the contents of its value: `version` (if it is written) to `subject`; `algorithm`, of
--- the public key; `signature_algorithm` and `signed`, which are signatureAlgorithm and signatureValue. `key` is the bits of the public key, and
--- `behind` the bytes after subjectPublicKeyInfo in the TBSCertificate (unique identifiers, extensions).
+-- A Certificate. `key` is the bits of subjectPublicKey, and `behind` the bytes after subjectPublicKeyInfo in the TBSCertificate (unique
+-- identifiers, extensions). Every other field is the contents of a value: `version` (if it is written) to `subject`, the public key's `algorithm`,
+-- signatureAlgorithm, and signatureValue (`signed`).
 pub record CertificateTree : Type 0 where
   pub version : Option (List ℕ)
   pub serial : List ℕ
@@ -26,7 +26,7 @@ pub record CertificateTree : Type 0 where
   pub signature_algorithm : List ℕ
   pub signed : List ℕ
 
--- SubjectPublicKeyInfo ::= SEQUENCE { algorithm AlgorithmIdentifier, subjectPublicKey BIT STRING }, without unused bits
+-- SubjectPublicKeyInfo ::= SEQUENCE { algorithm AlgorithmIdentifier, subjectPublicKey BIT STRING }, without unused bits (RFC 5280 4.1.2.7)
 abbrev pub key_info : CertificateTree → List ℕ
 key_info c = tlv 0x30 (tlv 0x30 c.algorithm ++ bits_value c.key)
 
@@ -41,7 +41,8 @@ to_be_signed c =
 abbrev pub certificate : CertificateTree → List ℕ
 certificate c = tlv 0x30 (to_be_signed c ++ (tlv 0x30 c.signature_algorithm ++ tlv 0x03 c.signed))
 
--- the bytes, at most 65,536, are a certificate whose subjectPublicKeyInfo has this AlgorithmIdentifier and these bits of a key
+-- the bytes, at most 65,536, are a certificate whose subjectPublicKeyInfo has this AlgorithmIdentifier (its whole DER value) and this key, of 1 to
+-- 2,048 bytes (RFC 5280 4.1.2.7)
 pub record IsCertificateOf (bytes algorithm key : List ℕ) : Type 0 where
   pub each : IsBytes bytes
   pub short : length bytes ≤ 65536
@@ -59,12 +60,12 @@ pub record Certified : Type 0 where
 
 -- ---- reading a certificate, as functions on lists of bytes
 
--- the bits of a BIT STRING without unused bits
+-- the bits in the contents of a BIT STRING, if none are unused (X.690 8.6.2)
 abbrev pub no_unused : List ℕ → Option (List ℕ)
 no_unused [] = None
 no_unused (unused ∷ bits) = if unused == 0 then Some bits else None
 
--- a key of 1 to 2,048 bytes
+-- the bits of a key, if they are 1 to 2,048 bytes
 abbrev pub as_key : List ℕ → Option (List ℕ)
 as_key bits = if nat_le 1 (length bits) && nat_le (length bits) 2048 then Some bits else None
 
@@ -88,7 +89,7 @@ after_subject_at bytes = do
   subject ← expect_at 0x30 validity.1
   Some subject.1
 
--- the contents of the TBSCertificate of a certificate
+-- the contents of the TBSCertificate of a certificate, which is all of the bytes, at most 65,536
 unfoldable pub signed_part_at : List ℕ → Option (List ℕ)
 signed_part_at bytes =
     if nat_lt 65536 (length bytes) then None

@@ -26,7 +26,7 @@ abbrev pub IsHashAlgorithm : List ℕ → List ℕ → Type 0
 IsHashAlgorithm identifier value =
     (value ≡ algorithm identifier None) ⊎ (value ≡ algorithm identifier (Some null))
 
--- the CertID has this hash algorithm, and its hashes are those of the issuer's Name and key
+-- the CertID has this hash algorithm, and its two hashes are those of the issuer's Name and of its key (RFC 6960 4.1.1)
 pub record IsHashedBy (identifier : List ℕ) (hash : List ℕ → List ℕ) (issuer : core.Issuer)
     (id : Id) : Type 0 where
   pub algorithm : IsHashAlgorithm identifier id.algorithm
@@ -38,7 +38,7 @@ abbrev pub NamesIssuer : core.Issuer → Id → Type 0
 NamesIssuer issuer id =
     IsHashedBy sha1_identifier sha1 issuer id ⊎ IsHashedBy sha256_identifier sha256 issuer id
 
--- the CertID identifies the issuer's certificate with this serial number
+-- the CertID identifies the issuer's certificate with this serial number, 1 to 2^159 - 1 (RFC 5280 4.1.2.2)
 pub record IsMatch (issuer : core.Issuer) (id : Id) (serial : ℕ) : Type 0 where
   pub issued : NamesIssuer issuer id
   pub in_range : IsSerial serial

@@ -40,7 +40,7 @@ pub record RequestTree : Type 0 where
 
 -- ---- the encoding of a tree
 
--- the value with this tag and these contents, if there are contents
+-- the value with this tag and these contents; no bytes for `None`
 abbrev pub optional : ℕ → Option (List ℕ) → List ℕ
 optional tag None = []
 optional tag (Some contents) = tlv tag contents
@@ -50,7 +50,7 @@ abbrev pub boolean : Bool → List ℕ
 boolean true = 0xFF ∷ []
 boolean false = 0x00 ∷ []
 
--- `critical BOOLEAN DEFAULT FALSE`
+-- `critical BOOLEAN DEFAULT FALSE`: no bytes for `None`
 abbrev pub critical : Option Bool → List ℕ
 critical None = []
 critical (Some flag) = tlv 0x01 (boolean flag)
@@ -59,12 +59,12 @@ critical (Some flag) = tlv 0x01 (boolean flag)
 abbrev pub request_extension : Extension → List ℕ
 request_extension e = tlv 0x30 (tlv 0x06 e.identifier ++ (critical e.critical ++ tlv 0x04 e.value))
 
--- Extensions ::= SEQUENCE OF Extension, optional, under an explicit tag
+-- Extensions ::= SEQUENCE OF Extension, under this explicit tag; no bytes for `None`
 abbrev pub extensions : ℕ → Option (List Extension) → List ℕ
 extensions tag None = []
 extensions tag (Some es) = tlv tag (tlv 0x30 (flat_map request_extension es))
 
--- the parameters of an algorithm, if there are any
+-- the parameters of an algorithm: one value, or no bytes for `None`
 abbrev pub parameters : Option Parts → List ℕ
 parameters None = []
 parameters (Some any) = tlv any.tag any.contents
@@ -117,9 +117,11 @@ pub record IsTarget (t : Target) : Type 0 where
   pub low_tag : IfSome t.parameters (λ any. any.tag % 32 < 31)
   pub shortest : IsShortest t.serial
 
+-- each extension is allowed, if extensions are written
 abbrev pub AreExtensions : Option (List Extension) → Type 0
 AreExtensions written = IfSome written (AllByRecursion IsExtension)
 
+-- the CertID and the extensions of a Request are allowed
 pub record IsSingle (s : Single) : Type 0 where
   pub target : IsTarget s.target
   pub extensions : AreExtensions s.extensions
@@ -132,7 +134,7 @@ pub record IsRequestTree (f : RequestTree) : Type 0 where
 
 -- ---- the CertIDs and the nonce of a request
 
--- a CertID in a request: its whole DER value, that of its hashAlgorithm, and the contents of its other fields
+-- a CertID in a request: its whole DER value, the whole DER value of its hashAlgorithm, and the contents of its other fields
 pub record Id : Type 0 where
   pub raw : List ℕ
   pub algorithm : List ℕ
@@ -153,12 +155,12 @@ id_of t =
 abbrev pub cert_id_in : Single → Id
 cert_id_in s = id_of s.target
 
--- the value of the first extension with the nonce's OID
+-- the contents of extnValue of the first extension with the nonce's OID (RFC 6960 4.4.1)
 abbrev pub first_nonce : List Extension → Option (List ℕ)
 first_nonce [] = None
 first_nonce (e ∷ es) = if bytes_eq e.identifier nonce_identifier then Some e.value else first_nonce es
 
--- the response repeats a nonce of 1 to 131 bytes, and leaves out any other
+-- the nonce, if it has 1 to 131 bytes: the response repeats it, and leaves out any other (RFC 9654 2.1)
 abbrev pub echoed_nonce : Option (List ℕ) → Option (List ℕ)
 echoed_nonce None = None
 echoed_nonce (Some nonce) = if nat_le 1 (length nonce) && nat_le (length nonce) 131 then Some nonce else None
@@ -170,7 +172,7 @@ nonce_of (Some es) = echoed_nonce (first_nonce es)
 
 -- ---- the relation
 
--- the bytes are the encoding of this tree, which has these CertIDs and this nonce to repeat
+-- the bytes are the encoding of this tree, which is allowed and has these CertIDs and this nonce to repeat
 pub record IsRequestOf (bytes : List ℕ) (ids : List Id) (nonce : Option (List ℕ))
     (f : RequestTree) : Type 0 where
   pub allowed : IsRequestTree f
@@ -197,7 +199,7 @@ OneReading =
 abbrev pub raw_length : Id → ℕ
 raw_length id = length id.raw
 
--- a nonce that the response repeats
+-- a nonce that the response repeats: 1 to 131 bytes
 pub record IsNonce (value : List ℕ) : Type 0 where
   pub some : 1 ≤ length value
   pub short : length value ≤ 131

@@ -9,7 +9,7 @@ use Rattle.reg_ocsp.specs.Request.{Extension, Id, nonce_identifier, first_nonce,
 
 -- ---- extensions
 
--- the contents of a BOOLEAN
+-- the value of a BOOLEAN with these contents (X.690 8.2.2, 11.1)
 abbrev pub flag_of : List ℕ → Option Bool
 flag_of [] = None
 flag_of (octet ∷ []) = if octet == 0xFF then Some true else (if octet == 0x00 then Some false else None)
@@ -37,13 +37,14 @@ fields_at bytes = do
   if is_refused identifier.0 critical.0 then None
       else Some (record { identifier = identifier.0; critical = critical.0; value = value })
 
+-- the Extension at the front, and the bytes after it
 unfoldable pub extension_at : List ℕ → Option (Extension × List ℕ)
 extension_at bytes = do
   outer ← expect_at 0x30 bytes
   extension ← fields_at outer.0
   Some (extension, outer.1)
 
--- the value of the first nonce in Extensions, which nothing follows
+-- the value of the first nonce in the bytes of one Extensions value
 unfoldable pub nonce_at : List ℕ → Option (Option (List ℕ))
 nonce_at bytes = do
   list ← whole_at 0x30 bytes
@@ -54,7 +55,7 @@ abbrev pub written_nonce : Option (List ℕ) → Option (Option (List ℕ))
 written_nonce None = Some None
 written_nonce (Some contents) = nonce_at contents
 
--- the value of the first nonce in Extensions under this tag, which are all of the bytes; no nonce if there are no bytes
+-- the value of the first nonce in the bytes of one Extensions value under this explicit tag; no nonce if there are no bytes
 unfoldable pub last_nonce_at : ℕ → List ℕ → Option (Option (List ℕ))
 last_nonce_at tag bytes = last_at tag bytes >>= written_nonce
 
@@ -65,7 +66,7 @@ abbrev pub read_all : List ℕ → Option (Parts × List ℕ) → Bool
 read_all bytes None = length bytes == 0
 read_all bytes (Some x) = length x.1 == 0
 
--- the whole DER value of an AlgorithmIdentifier, and the bytes after it
+-- the whole DER value of the AlgorithmIdentifier at the front, and the bytes after it
 unfoldable pub algorithm_at : List ℕ → Option (List ℕ × List ℕ)
 algorithm_at bytes = do
   outer ← expect_at 0x30 bytes
@@ -84,7 +85,7 @@ is_shortest (first ∷ second ∷ rest) =
 unfoldable pub serial_at : List ℕ → Option (List ℕ)
 serial_at bytes = whole_at 0x02 bytes >>= λ serial. if is_shortest serial then Some serial else None
 
--- the hashes of the issuer's name and key, and the serial number
+-- issuerNameHash, issuerKeyHash and the serial number, which nothing follows
 unfoldable pub hashes_and_serial_at : List ℕ → Option (List ℕ × List ℕ × List ℕ)
 hashes_and_serial_at bytes = do
   name ← expect_at 0x04 bytes
@@ -92,6 +93,7 @@ hashes_and_serial_at bytes = do
   serial ← serial_at key.1
   Some (name.0, key.0, serial)
 
+-- the CertID at the front, and the bytes after it
 unfoldable pub target_at : List ℕ → Option (Id × List ℕ)
 target_at bytes = do
   outer ← expect_at 0x30 bytes
@@ -108,6 +110,7 @@ target_at bytes = do
     outer.1,
   )
 
+-- the CertID of the Request at the front, and the bytes after that Request
 unfoldable pub single_at : List ℕ → Option (Id × List ℕ)
 single_at bytes = do
   outer ← expect_at 0x30 bytes
@@ -125,7 +128,7 @@ abbrev pub is_version : Option (List ℕ) → Bool
 is_version None = true
 is_version (Some contents) = bytes_eq contents (0x02 ∷ 0x01 ∷ 0x00 ∷ [])
 
--- the bytes after the version
+-- the bytes after the version, which is v1 or left out
 unfoldable pub version_at : List ℕ → Option (List ℕ)
 version_at bytes = optional_at 0xA0 bytes >>= λ x. if is_version x.0 then Some x.1 else None
 
@@ -151,10 +154,11 @@ tbs_at bytes = do
   signature ← last_at 0xA0 signed.1
   Some signed.0
 
--- the contents of requestList, and the nonce to repeat, in an OCSPRequest
+-- the contents of requestList, and the nonce to repeat, in an OCSPRequest of at most 65,536 bytes
 unfoldable pub parts_at : List ℕ → Option (List ℕ × Option (List ℕ))
 parts_at bytes = if nat_lt 65536 (length bytes) then None else (tbs_at bytes >>= signed_at)
 
+-- the CertIDs, and the nonce to repeat, of an OCSPRequest
 unfoldable pub request_at : List ℕ → Option (List Id × Option (List ℕ))
 request_at bytes = do
   parts ← parts_at bytes

@@ -26,7 +26,7 @@ cert_status Expired = tlv 0x80 []
 cert_status Unknown = tlv 0x82 []
 cert_status (Revoked at reason) = tlv 0xA1 (general_value at ++ reason_part reason)
 
--- a CertID's whole DER value, and the status of its certificate
+-- a CertID's whole DER value, and the status that is answered for it
 pub record SingleAnswer : Type 0 where
   pub raw : List ℕ
   pub status : Status
@@ -88,7 +88,7 @@ unfoldable pub basic_response : List ℕ → List ℕ → List ℕ → Option (L
 basic_response signed algorithm signature certificate =
     tlv 0x30 (basic_fields signed algorithm signature certificate)
 
--- id-pkix-ocsp-basic, 1.3.6.1.5.5.7.48.1.1
+-- id-pkix-ocsp-basic, 1.3.6.1.5.5.7.48.1.1 (RFC 6960 4.2.1)
 abbrev pub basic_identifier : List ℕ
 basic_identifier = 0x2B ∷ 0x06 ∷ 0x01 ∷ 0x05 ∷ 0x05 ∷ 0x07 ∷ 0x30 ∷ 0x01 ∷ 0x01 ∷ []
 
@@ -105,12 +105,12 @@ unfoldable pub ocsp_response : List ℕ → List ℕ → List ℕ → Option (Li
 ocsp_response signed algorithm signature certificate =
     successful_response (response_bytes (basic_response signed algorithm signature certificate))
 
--- malformedRequest(1), internalError(2), tryLater(3)
+-- OCSPResponseStatus: malformedRequest(1), internalError(2), tryLater(3)
 abbrev pub refusal_code : RefusalStatus → ℕ
 refusal_code Malformed = 1
 refusal_code Internal = 2
 refusal_code TryLater = 3
 
--- an OCSPResponse without responseBytes
+-- an OCSPResponse with this status and without responseBytes
 abbrev pub refusal_response : RefusalStatus → List ℕ
 refusal_response status = tlv 0x30 (enumerated (refusal_code status))

@@ -1,9 +1,9 @@
-/// The CertIDs and the nonce of an OCSP request (RFC 6960 4.1.1), as slices of its bytes.
+/// The CertIDs and the nonce of an OCSP request (RFC 6960 4.1.1, 4.4.1), as slices of its bytes.
 #[derive(Drop)]
 pub struct Asked<'a> {
     /// The CertIDs, in the order of the request: at least one.
     pub ids: Vec<CertId<'a>>,
-    /// The value of the first nonce in requestExtensions, if it has 1 to 131 bytes. The response repeats it.
+    /// The contents of extnValue of the first nonce in requestExtensions, if they are 1 to 131 bytes. The response repeats them.
     pub nonce: Option<&'a [u8]>,
 }
 
@@ -14,8 +14,10 @@ pub struct CertId<'a> {
     pub raw: &'a [u8],
     /// The whole DER value of hashAlgorithm, an AlgorithmIdentifier.
     pub algorithm: &'a [u8],
+    /// The contents of issuerNameHash.
     pub name_hash: &'a [u8],
+    /// The contents of issuerKeyHash.
     pub key_hash: &'a [u8],
-    /// The contents octets of the serial number's INTEGER, in the shortest form.
+    /// The contents of serialNumber, an INTEGER in the fewest octets.
     pub serial: &'a [u8],
 }

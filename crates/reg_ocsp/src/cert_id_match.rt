@@ -11,14 +11,14 @@ use reg_core::Serial;
 use reg_der::Issuer;
 use sha2::{Digest, Sha256};
 
-/// SHA-1 without parameters; [`SHA1_NULL`] has NULL as its parameters (RFC 3370 2.1).
+/// The AlgorithmIdentifier of SHA-1 without parameters; [`SHA1_NULL`] has the parameters NULL (RFC 3370 2.1).
 const SHA1: [u8; 9] = [0x30, 0x07, 0x06, 0x05, 0x2B, 0x0E, 0x03, 0x02, 0x1A];
 
 const SHA1_NULL: [u8; 11] = [
     0x30, 0x09, 0x06, 0x05, 0x2B, 0x0E, 0x03, 0x02, 0x1A, 0x05, 0x00,
 ];
 
-/// SHA-256 without parameters; [`SHA256_NULL`] has NULL as its parameters (RFC 5754 2.2).
+/// The AlgorithmIdentifier of SHA-256 without parameters; [`SHA256_NULL`] has the parameters NULL (RFC 5754 2.2).
 const SHA256: [u8; 13] = [
     0x30, 0x0B, 0x06, 0x09, 0x60, 0x86, 0x48, 0x01, 0x65, 0x03, 0x04, 0x02, 0x01,
 ];
@@ -27,8 +27,8 @@ const SHA256_NULL: [u8; 15] = [
     0x30, 0x0D, 0x06, 0x09, 0x60, 0x86, 0x48, 0x01, 0x65, 0x03, 0x04, 0x02, 0x01, 0x05, 0x00,
 ];
 
-/// The serial number of a CertID, 1 to 2^159 - 1, if its hashes are the SHA-1 or the SHA-256 of the issuer's Name and key. The
-/// parameters of the algorithm may be NULL or left out. `None` for every other CertID.
+/// The serial number of a CertID, if it is 1 to 2^159 - 1, and the hashes are the SHA-1, or the SHA-256, of the issuer's Name and key. The
+/// parameters of the hash algorithm may be NULL or left out. `None` for every other CertID.
 pub fn matches(issuer: &Issuer, id: &CertId<'_>) -> Option<Serial>
     ensures found { IfSome result (λ serial. IsMatch issuer.now (id_model id.now) serial) }
     ensures none { IfNone result ((serial : ℕ) → ¬ (IsMatch issuer.now (id_model id.now) serial)) }

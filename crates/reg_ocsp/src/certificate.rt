@@ -1,4 +1,4 @@
-//! Reads the public key of a certificate (RFC 5280 4.1).
+//! Reads the public key of a certificate (RFC 5280 4.1.2.7).
 
 ghost use Rattle.std.specs.Prelude.{◌≡◌, ◌≤◌, ℕ, List, Some, IfOk, IfSome, IsErrOf, length, option_map};
 ghost use Rattle.reg_der.specs.ValueReading.{AgreesWith};
@@ -31,7 +31,8 @@ impl From<AllocError> for CertificateFault {
     }
 }
 
-/// The certificate in `certs` of responses: the responder's, or the issuer's. Its model is its bytes, its public key and the algorithm of that key.
+/// A certificate for the field `certs` of responses (RFC 6960 4.2.1): the responder's, or the issuer's. Contracts see its DER, its public key and
+/// the AlgorithmIdentifier of that key.
 #[derive(Drop)]
 pub struct Certificate {
     der: Vec<u8>,
@@ -50,7 +51,7 @@ impl Model for Certificate {
 }
 
 impl Certificate {
-    /// A certificate from its DER; `Bad` if [`subject_public_key`] gives `None`; `Memory` if out of memory.
+    /// The certificate with this DER. `Bad` if [`subject_public_key`] gives `None` for it; `Memory` if out of memory.
     pub fn new(alloc: Global, der: &[u8]) -> Result<Certificate, CertificateFault>
         ensures der { IfOk result (λ it. it.der ≡ der.now) }
         ensures bad { IsErrOf result CertificateFault.Bad → (algorithm key : List ℕ)
@@ -78,14 +79,14 @@ impl Certificate {
         &self.der
     }
 
-    /// The whole DER value of the AlgorithmIdentifier of its public key (RFC 5280 4.1.2.7).
+    /// The whole DER value of the AlgorithmIdentifier in its subjectPublicKeyInfo (RFC 5280 4.1.2.7).
     pub fn algorithm(&self) -> &[u8]
         ensures { result.now ≡ self.now.algorithm }
     {
         &self.algorithm
     }
 
-    /// The bits of its subjectPublicKey, without the octet that counts the unused bits.
+    /// The bits of its subjectPublicKey, without the octet that counts the unused bits: 1 to 2,048 bytes.
     pub fn key(&self) -> &[u8]
         ensures key { result.now ≡ self.now.key }
         ensures certified { IsCertificateOf self.now.der self.now.algorithm result.now }
@@ -103,9 +104,9 @@ pub struct SubjectPublicKey<'a> {
     pub key: &'a [u8],
 }
 
-/// The public key of a certificate, whose DER is all of the bytes, at most 65,536. Of the other fields, only the tags and lengths are
-/// checked, and of those after subjectPublicKeyInfo in the TBSCertificate, such as the extensions, nothing. `None` exactly for other
-/// bytes, and for a key that has unused bits, is empty, or is longer than 2,048 bytes.
+/// The public key of a certificate in DER, of at most 65,536 bytes. Only the tags and lengths of the other fields are checked, and nothing after
+/// subjectPublicKeyInfo in the TBSCertificate, such as the extensions. `None` exactly for other bytes, and for a key that has unused bits, is
+/// empty, or is longer than 2,048 bytes.
 pub fn subject_public_key(certificate: &[u8]) -> Option<SubjectPublicKey<'_>>
     ensures found { IfSome result (λ it. IsCertificateOf certificate.now it.algorithm.now it.key.now) }
     ensures only { (algorithm key : List ℕ) → IsCertificateOf certificate.now algorithm key
@@ -123,7 +124,7 @@ fn read_certificate(bytes: &[u8]) -> Option<SubjectPublicKey<'_>>
     key_info(info.contents)
 }
 
-/// The contents of the TBSCertificate of a certificate.
+/// The contents of the TBSCertificate of a certificate of at most 65,536 bytes.
 #[tactic(auto, unfolding(crate::specs::Certificate::signed_part_at))]
 fn tbs_contents(bytes: &[u8]) -> Option<&[u8]>
     ensures { AgreesWith (λ x. x.now) result (signed_part_at bytes.now) }
@@ -165,7 +166,7 @@ fn key_info(bytes: &[u8]) -> Option<SubjectPublicKey<'_>>
     })
 }
 
-/// The bits in the contents of a BIT STRING; `None` if some are unused.
+/// The bits in the contents of a BIT STRING; `None` if some are unused, or if there are no contents.
 fn without_unused_bits(contents: &[u8]) -> Option<&[u8]>
     ensures { AgreesWith (λ x. x.now) result (no_unused contents.now) }
 {

@@ -8,8 +8,8 @@ use reg_der::copy_of;
 use std::alloc::Global;
 use std::marker::Model;
 
-/// The fields of a BasicOCSPResponse except the signature (RFC 6960 4.2.1), and the signer's public key. No part is read from the register
-/// later, so the register may change before the signature comes.
+/// The fields of a BasicOCSPResponse except the signature (RFC 6960 4.2.1), and the public key of its signer. To complete the response, nothing
+/// more is read from the register, so the register may change before the signature comes.
 #[derive(Drop)]
 pub struct Draft {
     message: Vec<u8>,
@@ -37,7 +37,8 @@ impl Model for Draft {
 }
 
 impl Draft {
-    /// A draft of the ResponseData (at most 2^27 bytes), the AlgorithmIdentifier (1,024), the signer's key and the certificate (65,536).
+    /// A draft with the ResponseData (at most 2^27 bytes), the AlgorithmIdentifier of the signature (at most 1,024), the signer's public key and the
+    /// certificate (at most 65,536), if there is one. [`Memory`] if out of memory.
     pub fn of(
         alloc: Global,
         message: &[u8],
@@ -88,7 +89,7 @@ impl Draft {
         &self.key
     }
 
-    /// The whole OCSPResponse with this signature (at most 65,536 bytes); internalError without one (RFC 6960 2.3).
+    /// The whole OCSPResponse with this signature (at most 65,536 bytes); internalError without one (RFC 6960 2.3). [`Memory`] if out of memory.
     pub fn response(&self, alloc: Global, signature: Option<&[u8]>) -> Result<Vec<u8>, Memory>
         requires { IfSome (option_copied signature) (λ bytes. length bytes ≤ 65536) }
         ensures { ItemsOnOk result (drafted_response self.now (option_copied signature.entry)) }

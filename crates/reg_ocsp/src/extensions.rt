@@ -19,8 +19,8 @@ pub(crate) struct Extension<'a> {
     value: &'a [u8],
 }
 
-/// The value of the first nonce in Extensions under this tag, which are all of the bytes. `Some(None)` if there are no bytes or no
-/// nonce; `None` if any of the Extensions is invalid.
+/// The value of the first nonce in the bytes: either one Extensions value under this explicit tag, or no bytes. `Some(None)` if there is no
+/// nonce; `None` for any other bytes.
 #[tactic(auto, unfolding(crate::specs::RequestReading::last_nonce_at))]
 pub(crate) fn nonce_under(tag: u8, bytes: &[u8]) -> Option<Option<&[u8]>>
     ensures { AgreesWith (λ x. option_copied x) result (last_nonce_at tag bytes.now) }
@@ -37,7 +37,7 @@ fn written_nonce(extensions: Option<&[u8]>) -> Option<Option<&[u8]>>
     }
 }
 
-/// The value of the first nonce in Extensions, which are all of the bytes.
+/// The value of the first nonce in the bytes of one Extensions value. `Some(None)` if there is no nonce; `None` for any other bytes.
 #[tactic(auto, unfolding(crate::specs::RequestReading::nonce_at))]
 fn first_nonce(bytes: &[u8]) -> Option<Option<&[u8]>>
     ensures { AgreesWith (λ x. option_copied x) result (nonce_at bytes.now) }
@@ -103,7 +103,7 @@ fn critical(bytes: &[u8]) -> Option<(Option<bool>, &[u8])>
     }
 }
 
-/// The value of a BOOLEAN (X.690 8.2.2, 11.1).
+/// The value of a BOOLEAN with these contents (X.690 8.2.2, 11.1).
 fn flag(contents: &[u8]) -> Option<bool>
     ensures { result ≡ flag_of contents.now }
 {

@@ -2,7 +2,7 @@
 
 ghost use Rattle.reg_ocsp.specs.Request.{OneReading};
 
-/// Bytes have at most one reading as a request: the one that `read_request` gives.
+/// Bytes have at most one reading as an OCSP request: the one that `read_request` gives, if it succeeds.
 pub fn one_reading()
     ensures { OneReading }
 {}

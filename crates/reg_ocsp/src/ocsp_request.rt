@@ -23,13 +23,13 @@ const LONGEST_REQUEST: usize = 65_536;
 /// The INTEGER 0, which means version 1 (RFC 6960 4.1.1).
 const VERSION_1: [u8; 3] = [0x02, 0x01, 0x00];
 
-/// The most bytes in the nonce's extnValue: an OCTET STRING of 128 octets, with its header of three (RFC 9654 2.1).
+/// The most contents octets in the extnValue of a nonce that is repeated: the DER of an OCTET STRING of 128 octets (RFC 9654 2.1).
 const LONGEST_NONCE: usize = 131;
 
 /// Reads an OCSP request. `Malformed` exactly if the bytes are not one OCSPRequest in DER of at most 65,536 bytes, with at
 /// least one CertID and no critical extension but the nonce. The defaults (version v1, `critical` FALSE) may be encoded, and Extensions may be empty.
-/// The contents of requestorName, optionalSignature, extnValue, OIDs (not empty) and parameters (with a tag of one octet) are not checked. Bytes have at
-/// most one reading (`laws::one_reading`). `Memory` if out of memory for the CertIDs.
+/// The contents of requestorName, optionalSignature, extnValue, OIDs (not empty) and parameters (one value, its tag of one octet) are not checked.
+/// Bytes have at most one reading (`laws::one_reading`). `Memory` if out of memory for the CertIDs.
 pub fn read_request(alloc: Global, bytes: &[u8]) -> Result<Asked<'_>, RequestFault>
     ensures found { IfOk result
         (λ a. IsOcspRequest bytes.now (ids_model a.ids.items) (option_copied a.nonce)) }
@@ -54,7 +54,7 @@ fn request(alloc: Global, bytes: &[u8]) -> Result<Asked<'_>, RequestFault>
     Ok(Asked { ids, nonce })
 }
 
-/// The contents of requestList, and the nonce to repeat.
+/// The contents of requestList, and the nonce to repeat, from an OCSPRequest of at most 65,536 bytes.
 #[tactic(auto, unfolding(crate::specs::RequestReading::parts_at))]
 fn parts(bytes: &[u8]) -> Option<(&[u8], Option<&[u8]>)>
     ensures { AgreesWith (λ x. (x.0.now, option_copied x.1)) result (parts_at bytes.now) }
@@ -65,7 +65,7 @@ fn parts(bytes: &[u8]) -> Option<(&[u8], Option<&[u8]>)>
     signed_parts(to_be_signed(bytes)?)
 }
 
-/// The contents of the TBSRequest.
+/// The contents of the TBSRequest in an OCSPRequest.
 #[tactic(auto, unfolding(crate::specs::RequestReading::tbs_at))]
 fn to_be_signed(bytes: &[u8]) -> Option<&[u8]>
     ensures { AgreesWith (λ x. x.now) result (tbs_at bytes.now) }
@@ -114,7 +114,7 @@ fn echoed_nonce(nonce: Option<&[u8]>) -> Option<&[u8]>
     nonce.filter(|value| !value.is_empty() && value.len() <= LONGEST_NONCE)
 }
 
-/// The CertIDs in the contents of requestList: at least one.
+/// The CertIDs in the contents of requestList; `Malformed` if there is none.
 #[tactic(auto, unfolding(crate::specs::RequestReading::ids_at))]
 fn ids(alloc: Global, bytes: &[u8]) -> Result<Vec<CertId<'_>>, RequestFault>
     ensures { GivesUnlessMemory (λ ids. ids_model ids.items) result (ids_at bytes.now) }

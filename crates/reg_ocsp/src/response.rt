@@ -48,11 +48,12 @@ pub fn refusal(status: RefusalStatus) -> [u8; 5]
     [SEQUENCE, 3, ENUMERATED, 1, code]
 }
 
-/// The ResponseData, which is to be signed (RFC 6960 4.2.1), of an issuer that is its own responder; responderID is the SHA-1 of its key.
+/// The ResponseData, which is to be signed (RFC 6960 4.2.1), of an issuer that is its own responder: responderID is the SHA-1 of the issuer's key.
 ///
 /// producedAt and each thisUpdate are `now`, each nextUpdate is `next`. Each CertID is repeated byte for byte, in the order
 /// of `answers`. An expired certificate that isn't revoked is `good`, and the reason 0 is left out. There are at most
 /// 65,536 CertIDs with 65,536 bytes in all, and the nonce has at most 131, as `read_request` gives them. The result has at most 2^27 bytes.
+/// [`Memory`] if out of memory.
 pub fn response_data(
     alloc: Global,
     issuer: &Issuer,
@@ -69,8 +70,8 @@ pub fn response_data(
     response_data_by(alloc, issuer.key(), now, next, answers, nonce)
 }
 
-/// As [`response_data`], for any responder: `key` is the bits of the responder's subjectPublicKey, and responderID is
-/// their SHA-1 (RFC 6960 4.2.1).
+/// As [`response_data`], for any responder: `key` is the bits of the responder's subjectPublicKey, and responderID is the SHA-1 of these bits
+/// (RFC 6960 4.2.1).
 #[tactic(auto, using(crate::proofs::Answering::few_answers, crate::proofs::Answering::short_answers), unfolding(crate::specs::Response::response_data))]
 pub fn response_data_by(
     alloc: Global,
@@ -114,8 +115,8 @@ fn put_data_fields(
     put_nonce(alloc, out, nonce)
 }
 
-/// The whole OCSPResponse with a BasicOCSPResponse (RFC 6960 4.2.1). It has the ResponseData that was signed, at most 2^27 bytes,
-/// the signature's AlgorithmIdentifier, at most 1,024, and the signature, at most 65,536.
+/// The whole OCSPResponse of status successful, with a BasicOCSPResponse (RFC 6960 4.2.1). `signed` is the ResponseData (at most 2^27 bytes),
+/// `algorithm` the AlgorithmIdentifier of the signature (at most 1,024 bytes). `signature` has at most 65,536 bytes. [`Memory`] if out of memory.
 pub fn basic(
     alloc: Global,
     signed: &[u8],

@@ -18,8 +18,8 @@ use Rattle.reg_store_tables.specs.AfterStop.{AreARegisters, ShowsDerivedAfterSto
 use Rattle.reg_core_laws.specs.Run.{Happens, Run}
 use Rattle.reg_office.specs.Stands.{SoundFor, Stands, HasOutcome}
 
--- the rows show the records after the command, which was accepted over `records`; the derived tables match them, and they are sound for the
--- office's signer
+-- the rows show the records after the command, which was accepted over `records`; these are sound for the office's signer, and the derived tables
+-- match them
 pub record IsDone (signs : Signs) (identity : Identity) (records : Records) (now : ℕ) (command : Command)
     (trees : Trees) : Type 0 where
   pub answer : Reply
@@ -28,7 +28,7 @@ pub record IsDone (signs : Signs) (identity : Identity) (records : Records) (now
   pub rests : ShowsDerivedAfterStop after trees
   pub sound : SoundFor signs identity after
 
--- the rows after a command of an office, which was accepted over the records before it
+-- the rows after a command that an office accepted over the records before it
 abbrev pub Does : {C : Type 0} → Ghosts C → Signs → Held C → Identity → ℕ → Command → Trees → Type 0
 Does g signs old identity now command trees =
     (records : Records) → Stands g signs old identity records
@@ -77,7 +77,7 @@ ShowsPrefix signs identity records commands outcomes trees =
     PartlyRun signs identity (λ after. ShowsDerivedAfterStop after trees)
     (λ after now command. IsDone signs identity after now command trees) records commands outcomes
 
--- what the clauses of `run_one` say of one command, from one state of an office's tables to the next
+-- the clauses of `run_one` for one command, from one state of an office's tables to the next
 pub record IsRunOne {C : Type 0} (g : Ghosts C) (signs : Signs) (identity : Identity) (old new : Held C)
     (now : ℕ) (command : Command) (outcome : Result Reply Fault) : Type 0 where
   pub step : (records : Records) → Stands g signs old identity records → HasCleanDisk (state g new)
@@ -109,7 +109,7 @@ pub data ChangingCall : Type 0 where
   schedule_call : List (ℕ × ℕ) → ChangingCall
   identifier_call : List ℕ → ChangingCall
 
--- the rows show the records after the call, which was not reported as accepted
+-- the rows show the records after the call: after an accepted command, or with this schedule or this key identifier
 abbrev pub IsCallDone : Signs → Identity → Records → ChangingCall → Trees → Type 0
 IsCallDone signs identity records (command_call now command) trees =
     IsDone signs identity records now command trees
@@ -118,8 +118,8 @@ IsCallDone signs identity records (schedule_call steps) trees =
 IsCallDone signs identity records (identifier_call octets) trees =
     ShowsDerivedAfterStop (with_key_identifier records octets) trees
 
--- If a stop after a call, or in the middle of it, leaves a register's tables, they show `records`, or those after the interrupted call. A call
--- is interrupted only if the disk's failure closes the connection in it, as a stop does.
+-- If a stop after a call, or in the middle of it, leaves a register's tables, they show `records`, or those after the interrupted call. If a call
+-- was interrupted, the connection is closed: a disk failure during the call closed it.
 pub record LeavesReported {C : Type 0} (g : Ghosts C) (signs : Signs) (held : Held C) (identity : Identity)
     (records : Records) (interrupted : Option ChangingCall) : Type 0 where
   pub closed : HasCleanDisk (state g held) → IfSome interrupted (λ call. IsFalse (state g held).is_open)

@@ -12,10 +12,10 @@ use Rattle.reg_ocsp.specs.Request.{Id}
 use Rattle.reg_ocsp.specs.Response.{SingleAnswer, cert_status}
 use Rattle.reg_office_api.specs.Ocsp.{IsOcspData}
 
--- An answer agrees with the records. If its CertID names the issuer's certificate of a serial number, it says revoked, with
--- the recorded time and reason, if the serial number is revoked; good if it is registered and not revoked; unknown if it is
--- not registered. If the CertID names none, it says unknown. So if the serial number has an entry in a CRL, the answer says
--- revoked, with that entry's time and reason.
+-- An answer agrees with the records. If its CertID identifies the issuer's certificate with a serial number, the answer says revoked, with
+-- the recorded moment and reason, if the serial number is revoked; good if it is registered and not revoked; unknown if it is
+-- not registered. If the CertID identifies none, the answer says unknown. If the serial number is in the entries of any CRL number, the answer
+-- says revoked, with that entry's moment and reason.
 pub record Agrees (records : Records) (id : Id) (answer : SingleAnswer) : Type 0 where
   pub repeated : answer.raw ≡ id.raw
   pub revoked : (serial : ℕ) (revocation : RevocationRow)

@@ -26,8 +26,8 @@ IsBegun signs responder records now request (Ready response) =
     IsOcspResponse signs responder records now request response.kind response.bytes.items
 IsBegun signs responder records now request (Unsigned draft) = IsDraft responder records now request draft
 
--- What holds in any state of the store: the response is malformedRequest exactly if the bytes are no request, and internalError if the
--- signer failed. A draft is made only if the bytes are a request.
+-- In any state of the store, a ready response is malformedRequest exactly if the bytes are no request, and internalError if the signer failed. A
+-- draft is made only if the bytes are a request.
 abbrev pub RefusesRequest : List ℕ → ReadyOrUnsigned OcspResponse Drafted → Type 0
 RefusesRequest request (Ready response) =
     ((response.bytes.items ≡ refusal_response status.Malformed) ↔ HasNoReading request)

@@ -19,14 +19,15 @@ use Rattle.reg_office.specs.Commands.{RunsCommand}
 use Rattle.reg_office.specs.Stands.{Stands}
 use Rattle.reg_office.specs.declared.office.Office.{Office}
 
--- the store shows the records, which are sound for the signer of CRLs; a stop leaves them, or those after the interrupted call
+-- the office has these signers, and its store shows the records, which are sound for the signer of CRLs; a stop leaves these records, or those
+-- after the interrupted call
 abbrev pub StandsWith
     : {C : Type 0} → Ghosts C → Signs → Held C × Signatory → Signatory → Records → Option ChangingCall → Type 0
 StandsWith g signs office signatory records interrupted =
     (office.1 ≡ signatory) × Stands g signs office.0 signatory.crls records
     × LeavesReported g signs office.0 signatory.crls records interrupted
 
--- the same, for some interrupted call or none
+-- the same, whichever call was interrupted, or none
 abbrev pub StandsFor : {C : Type 0} → Ghosts C → Signs → Held C × Signatory → Signatory → Records → Type 0
 StandsFor g signs office signatory records =
     (interrupted : Option ChangingCall) × StandsWith g signs office signatory records interrupted
@@ -38,7 +39,7 @@ LeadsOver {C = C} g signs step =
     Leads (λ (office : Held C × Signatory). HasCleanDisk (state g office.0))
     (λ signatory office records. StandsFor g signs office signatory records) step
 
--- an office as these relations take it: its store, and the identities of its signers
+-- an office in the form that these relations take: its store, and the identities of its signers
 abbrev pub seen : {C S : Type 0} → Signer S → Office C S → Held C × Signatory
 seen signer office =
     (office.store, signatory_of signer.identity (signer.identity office.signer) office.responder)
@@ -48,14 +49,14 @@ abbrev pub OfficeLeads : {C S : Type 0} → Ghosts C → Signer S → (Signatory
     → Office C S → Office C S → Type 0
 OfficeLeads g signer step old new = LeadsOver g signer.signs step (seen signer old) (seen signer new)
 
--- the result of a call of an office tells this of its records, which do not change
+-- a call of an office that does not change the records, and for whose result `Tells` holds of them
 abbrev pub OfficeTells
     : {C S : Type 0} → Ghosts C → Signer S → (Records → Type 0) → Office C S → Office C S → Type 0
 OfficeTells g signer Tells old new =
     OfficeLeads g signer (λ signatory before after. Tells before × (after ≡ before)) old new
 
--- The interrupted call before a call `it` with this result (`first`), and after it (`last`). If there is a first one, `it` fails, and the first one
--- stays. Else there is none after a success or a refusal, and none or `it` after a fault.
+-- `first` is the interrupted call before a call `it` with this result, `last` the one after it. If there is a first one, `it` fails, and the first
+-- one stays. Else there is none after a success or a refusal, and none or `it` after a fault.
 abbrev pub MayInterrupt
     : {T : Type 0} → Option ChangingCall → ChangingCall → Result T Fault → Option ChangingCall → Type 0
 MayInterrupt (Some first) it result last = IsErr result × (last ≡ Some first)
@@ -63,7 +64,8 @@ MayInterrupt None it (Ok done) last = last ≡ None
 MayInterrupt None it (Err (Refused why)) last = last ≡ None
 MayInterrupt None it (Err fault) last = (last ≡ None) ⊎ (last ≡ Some it)
 
--- A call `it` as a step of the records, as `Leads`, with the interrupted call before and after it. So `StandsWith` says what a stop in the call leaves.
+-- A call `it` as a step of the records, as in `Leads`, with the interrupted call before and after it. By `StandsWith`, a stop in the call leaves the
+-- records after it, or those after the interrupted call.
 abbrev pub StopsOver
     : {C T : Type 0} → Ghosts C → Signs → ChangingCall → Result T Fault
     → (Signatory → Records → Records → Type 0) → Held C × Signatory → Held C × Signatory → Type 0
@@ -85,7 +87,7 @@ OfficeStops g signer it result step old new =
 abbrev pub StandsIn : {C S : Type 0} → Ghosts C → Signer S → Office C S → Records → Type 0
 StandsIn g signer office records = Stands g signer.signs office.store (signer.identity office.signer) records
 
--- a command was run in an office
+-- a command was run in an office, with this outcome (`RunsCommand`)
 abbrev pub RanIn : {C S : Type 0} → Ghosts C → Signer S → ℕ → Command → Result Reply Fault → Office C S
     → Office C S → Type 0
 RanIn g signer now command outcome old new =
@@ -100,7 +102,7 @@ abbrev pub answer_failures_in : {C S : Type 0} → Signer S → Office C S → �
 answer_failures_in signer office =
     failures_of signer.failure_count (signer.failure_count office.signer) office.responder
 
--- A look-up of an office: no table changes, the signers have the same identities, and `Holds` holds of the office's records.
+-- A look-up of an office: no table changes, the signers have the same identities, and `Holds` holds of the office's records, if the disk is clean.
 pub record OfficeLooks {C S : Type 0} (g : Ghosts C) (signer : Signer S) (Holds : Records → Type 0)
     (old new : Office C S) : Type 0 where
   pub looked : Looked g old.store new.store

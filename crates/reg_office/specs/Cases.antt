@@ -1,4 +1,4 @@
--- The rows by which a request is declined or its certificate revoked.
+-- The rows over which `decline` and `revoke` are decided.
 use Rattle.std.specs.Prelude.{◌≡◌, ℕ, option_and_then}
 use Rattle.reg_core.specs.Records.{Records, certificate_in, request_in, revocation_in}
 use Rattle.reg_office.specs.declared.requests.Case.{Case}

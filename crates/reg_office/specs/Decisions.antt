@@ -31,7 +31,7 @@ IsStepOf signed records now command replied changes (Err refused) =
 IsStepOf signed records now command replied changes (Ok answer) =
     Step signed records now command (Ok (replied answer)) (changed_by records now (changes answer))
 
--- the decision on a subscriber
+-- the decision on `subscriber` is the step of that command
 abbrev pub SubscribersAreSteps : (CertList → List ℕ → Type 0) → Type 0
 SubscribersAreSteps signed =
     (records : Records) (now : ℕ) (name : List ℕ) (result : Result SubscriberRow Refusal)
@@ -40,7 +40,7 @@ SubscribersAreSteps signed =
     → IsStepOf signed records now (Subscriber name) (λ row. SubscriberEntered row.id)
     (λ row. change.Subscriber row) result
 
--- on an order
+-- the decision on `order` is the step of that command
 abbrev pub OrdersAreSteps : (CertList → List ℕ → Type 0) → Type 0
 OrdersAreSteps signed =
     (records : Records) (now subscriber days : ℕ) (result : Result OrderRow Refusal)
@@ -49,16 +49,17 @@ OrdersAreSteps signed =
     → IsStepOf signed records now (Order subscriber days) (λ row. OrderEntered row.id)
     (λ row. change.Order row) result
 
--- the reply and the change for a certificate to register, or for none: it is registered already, with the same fields
+-- the reply for a certificate to register; none if it is registered already, with the same fields
 abbrev pub registration_reply : Option CertRow → Reply
 registration_reply None = Same
 registration_reply (Some row) = Registered
 
+-- the change for it; none only sets the last accepted moment
 abbrev pub registration_change : Option CertRow → Change
 registration_change None = change.Touch
 registration_change (Some row) = change.Certificate row
 
--- on a registration, over sound records
+-- the decision on `register` is the step of that command, over sound records
 abbrev pub RegistrationsAreSteps : (CertList → List ℕ → Type 0) → Type 0
 RegistrationsAreSteps signed =
     (records : Records) (now : ℕ) (wanted : CertRow) (result : Result (Option CertRow) Refusal)
@@ -73,7 +74,7 @@ RegistrationsAreSteps signed =
     → IsStepOf signed records now (Register wanted.order wanted.serial wanted.not_before wanted.not_after)
     registration_reply registration_change result
 
--- on a request for revocation
+-- the decision on `request` is the step of that command
 abbrev pub RequestsAreSteps : (CertList → List ℕ → Type 0) → Type 0
 RequestsAreSteps signed =
     (records : Records) (now serial : ℕ) (word : List ℕ) (result : Result RequestRow Refusal)
@@ -82,7 +83,7 @@ RequestsAreSteps signed =
     → IsStepOf signed records now (Request serial word) (λ row. RequestEntered row.id (deadline row))
     (λ row. change.Request row) result
 
--- on declining a request; no table grows, so any `held` will do
+-- the decision on `decline` is the step of that command; no table grows, so any row count `held` will do
 abbrev pub DeclinesAreSteps : (CertList → List ℕ → Type 0) → Type 0
 DeclinesAreSteps signed =
     (records : Records) (now held id : ℕ) (result : Result RequestRow Refusal)
@@ -90,8 +91,8 @@ DeclinesAreSteps signed =
     (certificate_of_request records id) (revocation_of_request records id) result
     → IsStepOf signed records now (Decline id) (λ row. Declined) (λ row. change.Decline row.id) result
 
--- on revoking the certificate of a request: the revocation, and whether it is late. Any `held` will do, since the table of revocations has
--- no cap, and any `not_after`, which goes only into a derived table.
+-- The decision on `revoke` is the step of that command: it gives the revocation, and whether that is late. Any row count `held` will do, since the
+-- table of revocations has no cap, and any `not_after`, which goes only into a derived table.
 abbrev pub RevocationsAreSteps : (CertList → List ℕ → Type 0) → Type 0
 RevocationsAreSteps signed =
     (records : Records) (now held id not_after : ℕ) (result : Result (RevocationRow × Bool) Refusal)
@@ -114,7 +115,7 @@ IsIssue signed records now (Ok row) =
     → Step signed records now IssueCrl (Ok (CrlIssued row.number (length (content records row.number))))
     (with_crl records now (record { number = row.number; this_update = row.this_update; bytes = bytes }))
 
--- on a CRL
+-- the decision on `crl` is the step of that command
 abbrev pub CrlsAreSteps : (CertList → List ℕ → Type 0) → Type 0
 CrlsAreSteps signed =
     (records : Records) (now : ℕ) (result : Result CrlRow Refusal)

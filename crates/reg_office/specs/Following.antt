@@ -1,4 +1,4 @@
--- A key after the placeholder digest: how the CRLs of a register are signed.
+-- The signatures of a register's CRLs, if it switched from the placeholder digest to a key.
 use Rattle.std.specs.Prelude.{◌≡◌, ℕ, List, Result}
 use Rattle.sha1.specs.Sha1.{sha1}
 use Rattle.sqlite_trees.specs.declared.store.Store.{Ghosts}
@@ -14,11 +14,11 @@ use Rattle.reg_office_api.specs.Signatories.{Signs}
 use Rattle.reg_core_laws.specs.Run.{Run}
 use Rattle.reg_office.specs.Stands.{SoundFor, Stands}
 
--- a law about signed CRLs, for any signer
+-- a law about signed CRLs, for any signer, if the signer signed all of them
 abbrev pub Signed : {S : Type 0} → Signer S → ((CertList → List ℕ → Type 0) → Type 0) → Type 0
 Signed {S = S} signer Law = (it : S) → Law (signed_by signer.signs (signer.identity it))
 
--- a law about signed CRLs, for any signer, and for CRLs with the placeholder digest below any number
+-- a law about signed CRLs, for any signer, and any number below which CRLs have the placeholder digest
 abbrev pub SignedOrDigest : {S : Type 0} → Signer S → ((CertList → List ℕ → Type 0) → Type 0) → Type 0
 SignedOrDigest {S = S} signer Law =
     (it : S) (since : ℕ) → Law (signed_since since signer.signs (signer.identity it))

@@ -29,7 +29,7 @@ CallStep signs (schedule_set steps result) = λ signatory. ReplacesSchedule step
 CallStep signs (identifier_set octets result) = λ signatory. SetsKeyIdentifier octets result
 CallStep signs looked_up = λ signatory before after. after ≡ before
 
--- the clauses of the call, of the office before it and after it: its store, and its signers
+-- the clauses of the call, over the office before and after it (its store, and its signers)
 abbrev pub IsCall : {C : Type 0} → Ghosts C → Signs → Held C × Signatory → OfficeCall → Held C × Signatory → Type 0
 IsCall g signs old (command_ran now command outcome) new =
     StopsOver g signs (command_call now command) outcome (CommandStep signs now command outcome) old new
@@ -46,7 +46,7 @@ AreCalls g signs first [] last = last ≡ first
 AreCalls {C = C} g signs first (call ∷ calls) last =
     (next : Held C × Signatory) × IsCall g signs first call next × AreCalls g signs next calls last
 
--- the same as steps of the records
+-- calls one after another, as steps of the records
 abbrev pub AreCallSteps : Signs → Signatory → Records → List OfficeCall → Records → Type 0
 AreCallSteps signs signatory before [] after = after ≡ before
 AreCallSteps signs signatory before (call ∷ calls) after =
@@ -59,7 +59,7 @@ changing (schedule_set steps result) = Some (schedule_call steps)
 changing (identifier_set octets result) = Some (identifier_call octets)
 changing looked_up = None
 
--- the call did not succeed in a change
+-- the call failed, or is a look-up
 abbrev pub HasNotChanged : OfficeCall → Type 0
 HasNotChanged (command_ran now command outcome) = IsErr outcome
 HasNotChanged (schedule_set steps result) = IsErr result

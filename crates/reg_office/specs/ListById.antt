@@ -1,4 +1,4 @@
--- The lists by ids: the row for an id, and the cursor past an id; and the lists of certificates.
+-- The lists by ids: the row for an id, and the cursor after an id; and the lists of certificates.
 use Rattle.std.specs.Prelude.{ℕ, ◌-◌, ◌==◌, List, Option, Some, None, cond, length, option_and_then, option_map, slice_get}
 use Rattle.reg_core.specs.Records.{Records, order_in, request_in, subscriber_in}
 use Rattle.reg_core.specs.declared.rows.CertRow.{CertRow}
@@ -19,7 +19,7 @@ numbered_table Requests = OfRequests
 numbered_table Subscribers = OfSubscribers
 numbered_table Orders = OfOrders
 
--- the cursor of the list, past an id
+-- the cursor of the list, after an id
 abbrev pub cursor_of : ListById → ℕ → Cursor
 cursor_of OpenRequests after = cursor.OpenRequests after
 cursor_of Overdue after = cursor.Overdue after
@@ -35,12 +35,12 @@ row_at records now Requests id = option_and_then (history_row records now) (requ
 row_at records now Subscribers id = option_and_then subscriber_row (subscriber_in records.subscribers id)
 row_at records now Orders id = option_and_then (order_row records) (order_in records.orders id)
 
--- the cursor of the certificates, past a serial number; or of those that are good and end before a moment
+-- the cursor after a serial number, of all certificates, or of the good ones whose notAfter is before a moment
 abbrev pub certificates_after : Option ℕ → Option ℕ → Cursor
 certificates_after None after = cursor.Certificates after
 certificates_after (Some before) after = cursor.Ending before after
 
--- that list's row for a certificate; none if the list does not select it
+-- the row of a certificate in one of these two lists; none if the list does not select it
 abbrev pub certificate_listed : Records → ℕ → Option ℕ → CertRow → Option Row
 certificate_listed records now None certificate = certificate_row records now certificate
 certificate_listed records now (Some before) certificate = expiring_row records now before certificate

@@ -17,7 +17,7 @@ use Rattle.reg_core.specs.declared.refusal.Refusal.{Refusal}
 use Rattle.reg_store_tables.specs.LookUps.{LooksUp}
 use Rattle.reg_office.specs.Faults.{IsTableFault}
 
--- a decision, of which `IsDecision` holds; or the refusal that applies; a fault says nothing of the records
+-- a decision, of which `IsDecision` holds; or the refusal that applies; any other fault says nothing of the records
 abbrev pub IsDecidedOr : {T : Type 0} → Option Refusal → (T → Type 0) → Result T Fault → Type 0
 IsDecidedOr refused IsDecision (Ok decided) = IsDecision decided
 IsDecidedOr refused IsDecision (Err (Refused why)) = refused ≡ Some why
@@ -27,7 +27,7 @@ IsDecidedOr refused IsDecision (Err Signer) = Unit {0}
 IsDecidedOr refused IsDecision (Err Read) = Unit {0}
 IsDecidedOr refused IsDecision (Err Write) = Unit {0}
 
--- look-ups, and a decision over their answers: the refusal that applies to the records, or what is decided
+-- look-ups, and a decision over their results: the refusal that applies to the records, the decision, or the fault `Memory` or `Store`
 pub record LooksAndDecides {C T : Type 0} (g : Ghosts C) (old new : Held C)
     (refused : Records → Option Refusal) (IsDecision : Records → T → Type 0)
     (result : Result T Fault) : Type 0 where

@@ -17,7 +17,7 @@ use Rattle.reg_store_tables.specs.Schema.{register_schema}
 use Rattle.reg_office.specs.AfterStoppedCommand.{AreRunByOne, ChangingCall, Does, PartlyRun, command_call, schedule_call, identifier_call}
 use Rattle.reg_office.specs.Stands.{Stands, HasOutcome}
 
--- the command was accepted over the records, and the store shows those after it
+-- the command was accepted over the records, and the store shows the records after it
 pub record ShowsAccepted {C : Type 0} (g : Ghosts C) (signs : Signs) (held : Held C) (identity : Identity)
     (records : Records) (now : ℕ) (command : Command) : Type 0 where
   pub answer : Reply
@@ -53,7 +53,7 @@ OpensAfterAPrefix {C = C} g signs =
 
 -- ---- over any calls
 
--- the store shows the records after the call, which was not reported as accepted
+-- the store shows the records after the call: after an accepted command, or with this schedule or this key identifier
 abbrev pub ShowsCallDone : {C : Type 0} → Ghosts C → Signs → Held C → Identity → Records → ChangingCall → Type 0
 ShowsCallDone g signs held identity records (command_call now command) =
     ShowsAccepted g signs held identity records now command
@@ -62,7 +62,8 @@ ShowsCallDone g signs held identity records (schedule_call steps) =
 ShowsCallDone g signs held identity records (identifier_call octets) =
     ShowsKept g held (with_key_identifier records octets)
 
--- if the machine stops, and a register is opened again from what the disk left, it shows these records, or those after the interrupted call
+-- if the machine stops, and a register is opened again from the rows that the disk kept, it shows these records, or those after the interrupted
+-- call
 abbrev pub OpensReported
     : {C : Type 0} → Ghosts C → Signs → Held C → Identity → Records → Option ChangingCall → Type 0
 OpensReported {C = C} g signs held identity records interrupted =

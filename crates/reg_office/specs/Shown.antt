@@ -2,7 +2,7 @@
 --
 -- A register shows in three ways whether a certificate is revoked: by the status of its serial number, by answers to
 -- OCSP requests (RFC 6960), and by the CRLs that it issues (RFC 5280 5). This file says what each shows after any run of
--- commands. It holds in the middle of a run too: the commands that ran so far are a run themselves.
+-- commands. The same holds in the middle of a run: the commands that ran so far are a run themselves.
 use Rattle.std.specs.Prelude.{◌≡◌, ◌⊎◌, ℕ, Bool, ◌+◌, ◌<◌, ◌≤◌, nat_lt, List, [], ◌∷◌, ◌++◌, find, ◌==◌, Option, Some, None, Result, Ok, Err, MatchBool, IsFalse, IsSome, IsSomeAnd}
 use Rattle.std.specs.List.{AllByRecursion, AllZip}
 use Rattle.reg_core.specs.Checks.{clock_end}
@@ -45,8 +45,8 @@ pub record SoundRun (signs : Signs) (identity : Identity) : Type 0 where
   pub sound : SoundFor signs identity start
   pub ran : Run (signed_by signs identity) start commands outcomes after
 
--- a revocation that a run accepted: one command of the run was to revoke by the request with this id, at this moment, and
--- its reply was `RevokedNow`
+-- a revocation that a run accepted: one command of the run was `revoke` for the request with this id, at this moment, and its reply was
+-- `RevokedNow`
 pub record AcceptedRevocation {signs : Signs} {identity : Identity}
     (run : SoundRun signs identity) : Type 0 where
   pub id : ℕ
@@ -97,7 +97,7 @@ AnswersStatuses signs responder records moment serial IsSo asked reply =
 
 -- WHAT CRLS SHOW
 
--- what is signed in a recorded CRL (RFC 5280 5.1.2)
+-- the fields that are signed in a recorded CRL (RFC 5280 5.1.2)
 abbrev pub signed_in : Records → Crl → CertList
 signed_in records crl = cert_list records crl.number crl.this_update
 
@@ -105,7 +105,7 @@ signed_in records crl = cert_list records crl.number crl.this_update
 abbrev pub entry_in : Records → Crl → ℕ → Option Entry
 entry_in records crl serial = find (λ entry. entry.serial == serial) (signed_in records crl).entries
 
--- CRLs in the order of issue: each has the entry, up to and including the first whose thisUpdate is past notAfter, and
+-- CRLs in the order of issue: each has the entry, up to and including the first whose thisUpdate is after notAfter, and
 -- none after that one has an entry of the serial number (RFC 5280 3.3)
 abbrev pub ListedThroughFirstPast : Records → Entry → ℕ → List Crl → Type 0
 ListedThroughFirstPast records entry not_after [] = Unit {0}
@@ -132,10 +132,10 @@ revoked_at at request = Revoked at (reason_of request.ground)
 abbrev pub entry_at : ℕ → RequestRow → Entry
 entry_at at request = record { serial = request.serial; at = at; reason = reason_of request.ground }
 
--- from the acceptance of a revocation on, it is shown everywhere
+-- from its acceptance on, a revocation is shown everywhere
 pub record IsShownEverywhere {signs : Signs} {identity : Identity} {run : SoundRun signs identity}
     (its : AcceptedRevocation run) : Type 0 where
-  -- its request was recorded, for the serial number of a registered certificate that had not ended
+  -- its request was recorded, for the serial number of a registered certificate whose notAfter was not past
   pub request : RequestRow
   pub requested : request_in its.before.requests its.id ≡ Some request
   pub certificate : CertRow
@@ -146,7 +146,7 @@ pub record IsShownEverywhere {signs : Signs} {identity : Identity} {run : SoundR
   pub by_status : (moment : ℕ)
       → IsReached run.after moment
       → status run.after request.serial moment ≡ revoked_at its.at request
-  -- the status is the same however long after the certificate's end: it is never expired
+  -- the status is the same at notAfter and however long after it: it is never expired
   pub past_its_end : (seconds : ℕ)
       → status run.after request.serial (certificate.not_after + seconds) ≡ revoked_at its.at request
   -- a query for the status is answered with it, or fails: out of memory, or a failure of the store
@@ -163,11 +163,11 @@ pub record IsShownEverywhere {signs : Signs} {identity : Identity} {run : SoundR
       → IsOcspReply signs responder run.after moment asked reply
       → AnswersStatuses signs responder run.after moment request.serial
       (λ told. told ≡ revoked_at its.at request) asked reply
-  -- each CRL that was issued later in the run has its entry, up to and including the first one past the certificate's end
+  -- each CRL that was issued later in the run has the entry, up to and including the first one past the certificate's notAfter
   pub later : List Crl
   pub issued_later : run.after.crls ≡ its.before.crls ++ later
   pub by_crls : ListedThroughFirstPast run.after (entry_at its.at request) certificate.not_after later
-  -- and each CRL is signed over exactly its entries, or has their placeholder digest
+  -- and each CRL is signed over exactly its entries, or has a placeholder digest over them
   pub signed_so : AreSignedSo run.sound.since signs identity run.after
 
 -- NOTHING ELSE IS SHOWN AS REVOKED
@@ -199,5 +199,5 @@ pub record IsNowhereShown {signs : Signs} {identity : Identity} (run : SoundRun 
       (λ told. IsFalse (is_revoked told)) asked reply
   -- no CRL has an entry for it
   pub by_crls : AllByRecursion (λ crl. entry_in run.after crl serial ≡ None) run.after.crls
-  -- and each CRL is signed over exactly its entries, or has their placeholder digest
+  -- and each CRL is signed over exactly its entries, or has a placeholder digest over them
   pub signed_so : AreSignedSo run.sound.since signs identity run.after

@@ -28,7 +28,7 @@ pub record Stands {C : Type 0} (g : Ghosts C) (signs : Signs) (held : Held C) (i
   pub shown : ShowsKept g held records
   pub sound : SoundFor signs identity records
 
--- one command at a moment had this outcome over the records, and the store shows the records after it
+-- a command at a moment had this outcome over the records, and the store shows the records after it
 pub record HasOutcome {C : Type 0} (g : Ghosts C) (signs : Signs) (held : Held C) (identity : Identity)
     (records : Records) (now : ℕ) (command : Command) (outcome : Result Reply Fault) : Type 0 where
   pub after : Records

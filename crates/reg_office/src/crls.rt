@@ -61,7 +61,7 @@ fn signed_crl<S: Signer>(
     Ok(crl_whole(alloc, &tbs, signer.algorithm(), &signature)?)
 }
 
-// The command that issues a CRL waits for its signature, so a signature is requested even during the signer's back-off.
+// Requests the signature even during the signer's back-off, because the command `crl` waits for it.
 fn signature_of<S: Signer>(
     alloc: Global,
     signer: &mut S,
@@ -76,7 +76,7 @@ fn signature_of<S: Signer>(
     signer.sign(alloc, message)
 }
 
-/// The row of the next CRL, and its nextUpdate.
+/// The row of the next CRL, and its nextUpdate; or the refusal of the command `crl`.
 fn next_row<C: Alter>(tables: &mut Tables<C>, now: Moment) -> Result<(CrlRow, Moment), Fault>
     requires { now < clock_end }
     ensures { LooksAndDecides C.Store tables.old tables.new (λ records. refusal records now IssueCrl)
@@ -103,7 +103,7 @@ fn listed<C: Alter>(
     Ok((issuer, entries))
 }
 
-/// The DER of the CRL of a row, signed, and how many entries it has.
+/// The DER of the signed CRL with the number and the thisUpdate of a row, and how many entries it has.
 fn made_crl<C: Alter, S: Signer>(
     tables: &mut Tables<C>,
     signer: &mut S,
@@ -126,7 +126,7 @@ fn made_crl<C: Alter, S: Signer>(
     Ok((der, listed))
 }
 
-/// The tbsCertList of the next CRL at a moment (RFC 5280 5.1.2), as DER.
+/// The DER of the TBSCertList (RFC 5280 5.1.2) of the next CRL, or the refusal of the command `crl` at this moment.
 pub(crate) fn next_message<C: Alter>(
     tables: &mut Tables<C>,
     alloc: Global,
@@ -150,7 +150,7 @@ pub(crate) fn next_message<C: Alter>(
     )?)
 }
 
-/// Issues a CRL. It is made and signed before the store changes.
+/// Issues a CRL. The CRL is made and signed before the store changes.
 pub(crate) fn issue_crl<C: Alter, S: Signer>(
     store: &mut Store<C>,
     signer: &mut S,

@@ -1,4 +1,4 @@
-//! What decisions read of the tables, and what a decision returns.
+//! The input that decisions read from the tables, and the result of a decision.
 
 ghost use Rattle.std.specs.Prelude.{◌≡◌, ◌<◌, ◌^◌, option_map, IfOk, IfSome, IsTrue};
 ghost use Rattle.reg_core.specs.Calendar.{clock_end};
@@ -15,7 +15,7 @@ use sqlite::Alter;
 /// The reply to a command that is accepted, and the one change that it makes.
 pub(crate) type Decided = (Reply, Change<'static>);
 
-/// What a decision needs besides rows: the moments, the policy, and the number of rows of the table to which it would add one.
+/// The input of a decision besides its rows: the moments, the policy, and the number of rows of the table to which it would add one.
 pub(crate) fn head_at<C: Alter>(
     tables: &mut Tables<C>,
     now: Moment,
@@ -35,8 +35,8 @@ pub(crate) fn head_at<C: Alter>(
     })
 }
 
-/// The same for a decision that adds no row to a table with a cap. Such a decision uses only the moments, so the policy and the row count
-/// here are placeholders: neither is read from the tables.
+/// The same for `decline` and `revoke`, which add no row to a table with a cap. These decisions use only the moments, so the policy and the row
+/// count are placeholders: neither is read from the tables.
 pub(crate) fn clock_head<C: Alter>(
     tables: &mut Tables<C>,
     now: Moment,
@@ -67,14 +67,14 @@ pub(crate) fn certificate_of<C: Alter>(
     Ok((certificate, revocation))
 }
 
-/// Whether a register can have written this CRL number and this thisUpdate.
+/// Whether the CRL number is below 10^18, and thisUpdate before `CLOCK_END`: a register writes no others.
 fn can_be_written(crl: &CrlRow) -> bool
     ensures { IsTrue result → (crl.now.number < 10 ^ 18) × (crl.now.this_update < clock_end) }
 {
     crl.number < 1_000_000_000_000_000_000 && crl.this_update < Moment::CLOCK_END
 }
 
-/// The row of the CRL that was issued last; `Store` if no register can have written it.
+/// The row of the CRL that was issued last; `Store` for values that no register writes.
 pub(crate) fn latest_crl<C: Alter>(tables: &mut Tables<C>) -> Result<Option<CrlRow>, DatabaseFault>
     ensures looks { Learns C.Store tables.old tables.new result (λ records row.
         row ≡ option_map row_of (latest records.crls)) }

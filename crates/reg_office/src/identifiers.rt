@@ -28,7 +28,7 @@ fn next_crl_number<C: Alter>(tables: &mut Tables<C>) -> Result<u64, DatabaseFaul
     next_number_after(latest).ok_or(DatabaseFault::Store)
 }
 
-/// The number of the next CRL, 1 if there is no CRL yet; `None` if the latest one has the greatest `u64`.
+/// The number of the next CRL: 1 if there is no CRL yet; `None` if the latest one has the number `u64::MAX`.
 fn next_number_after(latest: Option<CrlRow>) -> Option<u64>
     ensures { IfSome result (λ number. number ≡ number_after latest) }
 {
@@ -59,7 +59,7 @@ fn identified<C: Alter>(
     }
 }
 
-/// Gives the issuer a key identifier of its own, which its CRLs have from the next one on.
+/// Sets a key identifier of the issuer's own, which its CRLs have from the next one on (RFC 5280 5.2.1).
 pub(crate) fn set_key_identifier<C: Alter>(
     store: &mut Store<C>,
     alloc: Global,

@@ -12,8 +12,8 @@ ghost use Rattle.reg_office.specs.Shown.{SoundRun, AcceptedRevocation, IsShownEv
 use reg_crl::{CrlSigner, Signer};
 use sqlite::Alter;
 
-/// The main theorem: what holds for every list of commands that an office runs from sound records, with any signer (RFC 5280 3.3, RFC 6960 2.2).
-/// CRLs below some number may have the placeholder digest: they were issued before the register had a key.
+/// The main theorem, for any signer (RFC 5280 3.3, RFC 6960 2.2). A new register is sound, every list of commands keeps it sound, and the other
+/// clauses are about sound registers and runs. CRLs below some number may have the placeholder digest, from before the register had a key.
 pub fn headline<S: Signer>()
     ensures created { SignedOrDigest S.Signer CreatedSound }
     ensures since { (signer : S) → RunsSince S.signs (S.identity signer) }
@@ -52,8 +52,8 @@ pub fn decisions_are_steps<S: Signer>()
     ensures crls { Signed S.Signer CrlsAreSteps }
 {}
 
-/// A revoked certificate is shown as revoked everywhere from its revocation on: by its status, by OCSP (RFC 6960 2.2), and by each CRL up
-/// to and including the first past its notAfter (RFC 5280 3.3).
+/// A revoked certificate is shown as revoked everywhere from its revocation on: by its status, by OCSP (RFC 6960 2.2), and by each later CRL up
+/// to and including the first one past its notAfter (RFC 5280 3.3).
 pub fn a_revoked_certificate_is_shown_as_revoked_everywhere<S: Signer>()
     ensures { (signer : S) (run : SoundRun S.signs (S.identity signer)) (its : AcceptedRevocation run)
         → IsShownEverywhere its }
@@ -70,7 +70,7 @@ pub fn nothing_else_is_shown_as_revoked<S: Signer>()
     reg_core_laws::laws::revocations::<CrlSigner<S>>();
 }
 
-/// A register that is opened after a stop in a command shows the records before the command, or those after its acceptance; they are sound.
+/// A register that is opened after a stop in a command shows the records before the command, or those after its acceptance. Both are sound.
 pub fn a_register_opened_after_a_stop_stands_before_or_after<C: Alter, S: Signer>()
     ensures { OpensBeforeOrAfter C.Store S.signs }
 {}

@@ -26,8 +26,8 @@ use reg_store::Tables;
 use sqlite::Alter;
 use std::alloc::Global;
 
-/// The response (RFC 6960 4.2.1) to the bytes of a request at a moment. If it needs a signature, and its signer has a key, it is a draft
-/// without the signature. No table changes.
+/// The response (RFC 6960 4.2.1) to the bytes of a request at a moment; or, if the response needs a signature and its signer has a key, a draft
+/// without the signature. No table changes. [`Memory`] if out of memory.
 pub(crate) fn begin_ocsp<C: Alter, S: Signer>(
     alloc: Global,
     tables: &mut Tables<C>,
@@ -75,7 +75,7 @@ pub(crate) fn sign_draft<S: Signer>(
     draft.response(alloc, slice_of(&signature))
 }
 
-/// [`begin_ocsp`] by one signer. `responder_fields` is what the response says of the responder: its own key, if it has one, and its certificate.
+/// [`begin_ocsp`] with this signer of the response, and the responder's fields in the response.
 fn begin<C: Alter, S: Signer>(
     alloc: Global,
     tables: &mut Tables<C>,
@@ -124,7 +124,7 @@ fn refused(
     Ok(ReadyOrUnsigned::Ready(OcspResponse { bytes, kind }))
 }
 
-/// The ResponseData for a request. Its ResponderID is by the responder's own key, or else by the issuer's.
+/// The ResponseData for a request. Its ResponderID has the hash of the responder's own key, or else of the issuer's.
 fn ocsp_data<C: Alter>(
     alloc: Global,
     tables: &mut Tables<C>,
@@ -153,7 +153,7 @@ fn key_of<'a>(own: Option<&'a [u8]>, issuer: &'a Issuer) -> &'a [u8]
     }
 }
 
-/// The issuer, and the nextUpdate of an answer given now; `Clock` if the clock checks refuse the moment.
+/// The issuer, and the nextUpdate of an answer at this moment; `Clock` if the clock checks refuse the moment.
 fn issuer_and_next_update<C: Alter>(
     tables: &mut Tables<C>,
     now: Moment,
@@ -210,7 +210,7 @@ fn respond<S: Signer>(
     }
 }
 
-/// A signature of a ResponseData; `None` if the signer failed, and counted the failure.
+/// A signature of a ResponseData; `None` if the signer failed and counted the failure.
 fn signature_by<S: Signer>(
     alloc: Global,
     signer: &mut S,

@@ -1,4 +1,4 @@
-//! Why no ResponseData is made for a request that was read.
+//! The faults after which no ResponseData is made for a request that was read.
 
 ghost use Rattle.std.specs.Prelude.{◌≡◌, ◌⊎◌};
 ghost use Rattle.reg_office.specs.declared.ocsp_faults.ResponseFault.TheVariants as to;
@@ -7,7 +7,7 @@ use reg_core::{Memory, Refusal};
 use reg_store_tables::DatabaseFault;
 use std::alloc::AllocError;
 
-/// `Clock`: the clock checks refuse the moment.
+/// Why there is no ResponseData. `Clock`: the clock checks refuse the moment.
 #[derive(Clone, Copy, PartialEq, Eq)]
 pub(crate) enum ResponseFault {
     Clock,

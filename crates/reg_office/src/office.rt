@@ -1,4 +1,4 @@
-//! The office over a store: a register's tables, and its signers.
+//! The office over a store: a register's tables, and the signers of its CRLs and OCSP answers.
 
 ghost use Rattle.std.specs.Prelude.{◌≡◌, None};
 ghost use Rattle.reg_office.specs.declared.responder.Responder.TheVariants.{Issuer};
@@ -34,7 +34,7 @@ pub struct Office<C: Alter, S: Signer> {
 }
 
 impl<C: Alter, S: Signer + Drop> Office<C, S> {
-    /// The store and the signer of CRLs, unchanged. The responder is dropped.
+    /// The store and the signer of CRLs, unchanged. The responder is dropped, and with it the signer of a [`Responder::Delegate`].
     pub fn into_parts(self) -> (Store<C>, S)
         ensures store { result.0 ≡ self.store }
         ensures signer { result.1 ≡ self.signer }
@@ -110,8 +110,8 @@ impl<C: Alter, S: Signer> reg_office_api::Office for Office<C, S> {
 
     ghost answer_failures = { λ office. answer_failures_in S.Signer office };
 
-    /// If the disk fails in the commit and the failure closes the connection, a register that is opened again has all of the change or none of
-    /// it (clause `ran`, in its `changed`). Until then no later call changes the records (`stops`).
+    /// If a disk failure during the commit closes the connection, the register has all of the change or none of it when it is opened again
+    /// (clause `ran`, in its `changed`). Until then no later call changes the records (`stops`).
     fn run_one(&mut self, alloc: Global, now: Moment, command: &Command) -> Outcome
         ensures runs { OfficeLeads C.Store S.Signer
             (CommandStep S.signs now command.now result) self.old self.new }
@@ -156,7 +156,7 @@ impl<C: Alter, S: Signer> reg_office_api::Office for Office<C, S> {
     }
 
     /// The OCSPResponse (RFC 6960 4.2.1): malformedRequest exactly if the bytes are no request; else internalError if the store or the
-    /// signer fails, tryLater if the clock checks refuse the moment, or a signed response.
+    /// signer fails, tryLater if the clock checks refuse the moment, or a signed response. [`Memory`] if out of memory.
     fn ocsp(&mut self, alloc: Global, now: Moment, request: &[u8]) -> Result<Vec<u8>, Memory>
         ensures answers { OfficeLeads C.Store S.Signer
             (OcspStep S.signs now request.now (items_of result)) self.old self.new }

@@ -1,4 +1,4 @@
-//! Pages of lists. A page reads the first rows past a key, at most as many as the caller allows, and returns those of them that the
+//! Pages of lists. A page reads the first rows after a key, at most as many as the caller allows, and returns those of them that the
 //! list selects. So the cost of a page is bounded, even if the list selects few rows.
 
 ghost use Rattle.std.specs.Prelude.{◌≡◌, ℕ, ◌+◌, ◌++◌, ◌∷◌, ◌-◌, ◌==◌, ◌&&◌, nat_lt, [], Some, None, cond, filter_map, min, option_map, IfOk, OnOk};
@@ -30,7 +30,7 @@ pub(crate) enum ListById {
     Orders,
 }
 
-/// A page of a list from a cursor on, at a moment, over at most `most` rows.
+/// A page of a list from a cursor on, at a moment, over at most `most` rows of its table.
 pub(crate) fn page<C: Alter>(
     tables: &mut Tables<C>,
     alloc: Global,
@@ -91,7 +91,7 @@ fn put(rows: &mut Vec<Row>, row: Option<Row>) -> Result<(), DatabaseFault>
 
 // ---- the lists by serial numbers
 
-/// A page of the certificates, or of those that are good and end before a moment.
+/// A page of the certificates, or of the good ones whose notAfter is before a moment.
 fn certificates<C: Alter>(
     tables: &mut Tables<C>,
     alloc: Global,
@@ -269,7 +269,7 @@ fn last_crl(found: &[CrlRow], most: u64) -> Option<u64>
 
 // ---- the lists by ids
 
-/// A page of a list by ids: the next `most` ids, up to the last one of the table.
+/// A page of a list by ids: it reads the next `most` ids, up to the last one of the table.
 fn page_by_ids<C: Alter>(
     tables: &mut Tables<C>,
     alloc: Global,
@@ -292,7 +292,7 @@ fn page_by_ids<C: Alter>(
     Ok(Page { rows, next })
 }
 
-/// The cursor of the next page, past `end`, if this page read `most` ids; `None` if there are no more pages.
+/// The cursor of the next page, after `end`, if this page read `most` ids; `None` if there are no more pages.
 fn next_of(list: ListById, after: u64, end: u64, most: u64) -> Option<Cursor>
     ensures { result ≡ cond (nat_lt after end && ((end - after) == most)) (Some (cursor_of list end)) None }
 {

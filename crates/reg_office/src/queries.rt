@@ -45,7 +45,8 @@ fn reply_to<C: Alter>(tables: &mut Tables<C>, now: Moment, query: &Query) -> Res
     }
 }
 
-/// Which CRLs list a serial number; `UnknownSerial` if it is not registered.
+/// The first CRL that lists a serial number, issued or not yet, and the last one, if issued; `None` if the serial number is not revoked;
+/// `UnknownSerial` if it is not registered.
 fn listing<C: Alter>(tables: &mut Tables<C>, serial: Serial) -> Result<Option<Listing>, Fault>
     ensures { LooksAndDecides C.Store tables.old tables.new
         (λ records. first_refusal (query_checks records (AskListing serial))) (λ records found.
@@ -57,7 +58,7 @@ fn listing<C: Alter>(tables: &mut Tables<C>, serial: Serial) -> Result<Option<Li
     }
 }
 
-/// The moment of the earliest revocation that no CRL lists yet; `Store` if no register can have written it.
+/// The moment of the earliest revocation that no CRL lists yet; `Store` for a moment that no register writes.
 fn earliest_unlisted<C: Alter>(tables: &mut Tables<C>) -> Result<Option<Moment>, DatabaseFault>
     ensures looks { Learns C.Store tables.old tables.new result (λ records at.
         at ≡ earliest (unlisted records)) }
@@ -70,6 +71,7 @@ fn earliest_unlisted<C: Alter>(tables: &mut Tables<C>) -> Result<Option<Moment>,
     }
 }
 
+/// The moment at which the next CRL is due; `None`: at once.
 fn next_crl<C: Alter>(tables: &mut Tables<C>) -> Result<Option<Moment>, DatabaseFault>
     ensures { Learns C.Store tables.old tables.new result (λ records at. at ≡ due records) }
 {

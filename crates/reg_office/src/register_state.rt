@@ -1,4 +1,4 @@
-//! Summaries of a register: its row counts and latest CRL, its open requests, and the longest validity for an order.
+//! Look-ups for the front ends: the summary of a register, its open requests, and the longest validity for an order.
 
 ghost use Rattle.std.specs.Prelude.{◌≡◌, ◌<◌, ◌^◌, IfErr};
 ghost use Rattle.reg_office_api.specs.LookUps.{HasRequestLoad, HasLongest, HasOpen, HasSummary, IsOfStore, rows_in};
@@ -9,6 +9,7 @@ use reg_office_api::{RegisterSummary, RequestLoad, Rows};
 use reg_store::{DatabaseFault, Table, Tables};
 use sqlite::Alter;
 
+/// The summary of the register that the tables show.
 #[tactic(auto, using(crate::proofs::Composing::answer_of_fault))]
 pub(crate) fn standing_in<C: Alter>(tables: &mut Tables<C>) -> Result<RegisterSummary, Fault>
     ensures looks { LooksUp C.Store tables.old tables.new (λ records. HasSummary records result) }

@@ -9,13 +9,13 @@ use reg_ocsp::Certificate;
 /// The signer of an office's OCSP responses (RFC 6960 2.2, 4.2.2.2).
 #[derive(Drop)]
 pub enum Responder<S> {
-    /// The signer of its CRLs. Each response includes the certificate, if there is one.
+    /// The signer of the office's CRLs. Each response includes the certificate, if there is one.
     Issuer(Option<Certificate>),
-    /// Another signer, with a certificate of its own, which each response includes.
+    /// Another signer, with its own certificate, which each response includes.
     Delegate(S, Certificate),
 }
 
-/// What a response says of its responder.
+/// The fields of a response that depend on its responder (RFC 6960 4.2.1).
 #[derive(Clone, Copy)]
 pub(crate) struct ResponderFields<'a> {
     /// The key that names the responder in the ResponderID; `None` if it is the issuer's.
@@ -24,7 +24,7 @@ pub(crate) struct ResponderFields<'a> {
     pub(crate) certificate: Option<&'a [u8]>,
 }
 
-/// What responses say of the issuer as responder. They include the certificate, if there is one.
+/// The fields for the issuer as responder: named by its key, with the certificate, if there is one.
 pub(crate) fn of_issuer(certificate: &Option<Certificate>) -> ResponderFields<'_>
     ensures own { option_copied result.own_key ≡ None }
     ensures certificate { option_copied result.certificate ≡ option_map (λ it. it.der) certificate.now }
@@ -43,7 +43,7 @@ fn der_of(certificate: &Option<Certificate>) -> Option<&[u8]>
     Some(certificate.as_ref()?.der())
 }
 
-/// What responses say of a responder with a certificate of its own.
+/// The fields for a responder with its own certificate: named by the key in it, with the certificate.
 pub(crate) fn of_delegate(certificate: &Certificate) -> ResponderFields<'_>
     ensures own { option_copied result.own_key ≡ Some certificate.now.key }
     ensures certificate { option_copied result.certificate ≡ Some certificate.now.der }

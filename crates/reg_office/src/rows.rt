@@ -1,4 +1,4 @@
-//! The rows of lists: the fields of one record, and what is looked up for it.
+//! The rows of lists: the fields of one record, and of the records that are looked up for it.
 
 ghost use Rattle.std.specs.Prelude.{◌≡◌, ◌-◌, Some, None, cond, nat_lt, option_map, IfOk};
 ghost use Rattle.reg_core.specs.Due.{deadline};
@@ -19,7 +19,7 @@ use reg_core_lists::{
 use reg_store::{DatabaseFault, Tables};
 use sqlite::Alter;
 
-// ---- records to which others refer: a register has them all, so a missing one is the fault `Store`
+// ---- records to which other records refer: a register has them all, so a missing one is the fault `Store`
 
 pub(crate) fn subscriber_at<C: Alter>(
     tables: &mut Tables<C>,
@@ -138,7 +138,7 @@ pub(crate) fn certificate_row<C: Alter>(
     Ok(Some(Row::Certificate(line)))
 }
 
-/// The row of a certificate in the list of those that are good and end before a moment.
+/// The row of a certificate in the list of good ones whose notAfter is before a moment; `None` if the list does not select it.
 pub(crate) fn expiring_row<C: Alter>(
     tables: &mut Tables<C>,
     now: Moment,
@@ -183,7 +183,7 @@ fn row_if_good(line: ListedCertificate) -> Option<Row>
     }
 }
 
-/// The row of a revocation in the list of revoked certificates: its certificate, and the request that led to it.
+/// The row of a revocation in the list of revoked certificates: its certificate, and the request that led to it, with the deadline.
 pub(crate) fn revoked_row<C: Alter>(
     tables: &mut Tables<C>,
     now: Moment,
@@ -206,7 +206,7 @@ pub(crate) fn revoked_row<C: Alter>(
 
 // ---- requests
 
-/// The row of a request in the list of open ones: it is not declined, and its certificate is good.
+/// The row of a request in the list of open ones; `None` if it is declined, or its certificate is not good.
 pub(crate) fn open_row<C: Alter>(
     tables: &mut Tables<C>,
     now: Moment,
@@ -263,7 +263,7 @@ fn due_of(request: &RequestRow) -> Result<Moment, DatabaseFault>
     Ok(request.deadline())
 }
 
-/// The row of a request in the list of those that are open and whose deadline is past.
+/// The row of a request in the list of overdue ones; `None` if it is not open, or its deadline is not past.
 pub(crate) fn overdue_row<C: Alter>(
     tables: &mut Tables<C>,
     now: Moment,
@@ -307,7 +307,7 @@ pub(crate) fn history_row<C: Alter>(
     })))
 }
 
-/// For how many seconds past its deadline a request was open, or has been open so far; `None` if it was declined. `Store` as in [`due_of`].
+/// For how many seconds after its deadline a request was open, or has been open so far; `None` if it was declined. `Store` as for [`due_of`].
 fn lateness_of(
     now: Moment,
     request: &RequestRow,

@@ -37,8 +37,7 @@ pub(crate) fn answers<'a, C: Alter>(
     Ok(answers)
 }
 
-/// The status for a CertID at a moment: that of the issuer's certificate that it names; `Unknown` if it names
-/// none.
+/// The status for a CertID at a moment: that of its serial number, if the CertID identifies a certificate of the issuer; else `Unknown`.
 fn status_for_id<C: Alter>(
     tables: &mut Tables<C>,
     issuer: &Issuer,

@@ -20,12 +20,12 @@ IsAnswered records now query (Err Signer) = ⊥
 IsAnswered records now query (Err Read) = ⊥
 IsAnswered records now query (Err Write) = ⊥
 
--- the requested CRL: the one with a number, or the latest
+-- the CRL with a number, or the latest one if no number is given
 abbrev pub crl_for_number : Records → Option ℕ → Option Crl
 crl_for_number records (Some number) = crl_in records.crls number
 crl_for_number records None = latest records.crls
 
--- the outcome of a request for a CRL: its bytes, the refusal NoCrl if there is none, or out of memory or a failure of the store
+-- the outcome of a request for the bytes of a CRL: the bytes; the refusal `NoCrl`, if there is no such CRL; out of memory; or a failure of the store
 abbrev pub IsGiven : Records → Option ℕ → Result (List ℕ) Fault → Type 0
 IsGiven records number (Ok bytes) = option_map (λ crl. crl.bytes) (crl_for_number records number) ≡ Some bytes
 IsGiven records number (Err (Refused refusal)) = (refusal ≡ NoCrl) × (crl_for_number records number ≡ None)

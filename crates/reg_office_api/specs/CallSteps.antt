@@ -31,7 +31,7 @@ AnswersOcsp signs signatory before now request (Err memory) after = after ≡ be
 abbrev pub GivesCrl : Records → Option ℕ → Result (List ℕ) Fault → Records → Type 0
 GivesCrl before number given after = IsGiven before number given × (after ≡ before)
 
--- ---- each as a step from the records before it to those after it, given the signers
+-- ---- the same calls, each as a step from the records before it to those after it, given the signers
 
 abbrev pub CommandStep : Signs → ℕ → Command → Result Reply Fault → Signatory → Records → Records → Type 0
 CommandStep signs now command outcome =

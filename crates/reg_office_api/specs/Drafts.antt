@@ -40,7 +40,7 @@ abbrev pub Drafts : Signatory → Records → ℕ → List ℕ → Drafted → R
 Drafts signatory before now request draft after =
     IsDraft signatory.answers before now request draft × (after ≡ before)
 
--- the outcome of `begin_ocsp`: a ready response or out of memory, of which `replies` holds, or a draft, of which `drafts` holds
+-- the outcome of `begin_ocsp`: `replies` holds of a ready response and of out of memory, `drafts` of a draft
 abbrev pub Begins : {S : Type 0} → (S → ℕ → List ℕ → Result (ResponseKind × List ℕ) NoMemory → S → Type 0)
     → (S → ℕ → List ℕ → Drafted → S → Type 0) → S → ℕ → List ℕ
     → Result (ReadyOrUnsigned OcspResponse Drafted) NoMemory → S → Type 0

@@ -1,4 +1,4 @@
--- What a call does to an office that keeps records.
+-- A call of an office as a step of the records that the office keeps.
 use Rattle.std.specs.Prelude.{◌≡◌}
 
 -- A call of an office, which is `s` before and `t` after it, as a step of the records that the office keeps. If the disk is clean

@@ -1,4 +1,4 @@
--- What the calls of an office return of its records, besides the answers to queries.
+-- The results of calls that look up an office's records, besides the answers to queries.
 use Rattle.std.specs.Prelude.{◌≡◌, ℕ, ◌==◌, ◌&&◌, min, filter, length, Option, option_map, Result, IfOk}
 use Rattle.reg_core.specs.Crls.{latest, row_of}
 use Rattle.reg_core.specs.Due.{is_open}
@@ -41,13 +41,13 @@ IsRegisterSummary records summary =
 abbrev pub HasSummary : Records → Result RegisterSummary Fault → Type 0
 HasSummary records result = IfOk result (IsRegisterSummary records)
 
--- how many requests for revocation are open, if the call succeeds
+-- how many requests for revocation are open at a moment, if the call succeeds
 abbrev pub HasOpen : Records → ℕ → Result ℕ Fault → Type 0
 HasOpen records now result =
     IfOk result (λ count. count ≡ length (filter (is_open records now) records.requests))
 
--- the state of the requests at a moment: the last accepted moment, the cap, how many requests there are, and how many for a serial number
--- are open, at most `most` of them
+-- the state of the requests at a moment: the last accepted moment, the cap of each table, how many requests there are, and how many requests for
+-- a serial number are open, counted up to `most`
 abbrev pub request_load_in : Records → ℕ → ℕ → ℕ → RequestLoad
 request_load_in records now serial most = record {
   last = records.last;
@@ -62,7 +62,7 @@ abbrev pub HasRequestLoad : Records → ℕ → ℕ → ℕ → Result RequestLo
 HasRequestLoad records now serial most result =
     IfOk result (λ request_load. request_load ≡ request_load_in records now serial most)
 
--- the longest validity in days that an order and the policy allow from a moment on; none if there is no such order
+-- the longest validity in days that an order and the policy allow for a notBefore; none if there is no such order
 abbrev pub longest_allowed : Records → ℕ → ℕ → Option ℕ
 longest_allowed records order not_before =
     option_map (λ row. min row.days (longest_at records.policy.schedule not_before))
@@ -73,6 +73,6 @@ abbrev pub HasLongest : Records → ℕ → ℕ → Result (Option ℕ) Fault �
 HasLongest records order not_before result =
     IfOk result (λ days. days ≡ longest_allowed records order not_before)
 
--- a page of a list, as a step that does not change the records
+-- the result for a page of a list over sound records, as a step that does not change the records
 abbrev pub PageStep : ℕ → ℕ → Cursor → Result Page Fault → Signatory → Records → Records → Type 0
 PageStep now most from given = λ signatory before after. Pages before now most from given after

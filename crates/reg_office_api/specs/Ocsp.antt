@@ -13,18 +13,17 @@ use Rattle.reg_ocsp.specs.Response.{SingleAnswer, ocsp_response, refusal_respons
 use Rattle.reg_ocsp.specs.declared.response.RefusalStatus.TheVariants.{Malformed, Internal, TryLater}
 use Rattle.reg_office_api.specs.Signatories.{Responder, Signs, responder_key}
 
--- the bytes are no OCSP request (RFC 6960 4.1.1)
+-- the bytes are no OCSP request that `IsOcspRequest` accepts (RFC 6960 4.1.1)
 abbrev pub HasNoReading : List ℕ → Type 0
 HasNoReading bytes = (ids : List Id) (nonce : Option (List ℕ)) → ¬ (IsOcspRequest bytes ids nonce)
 
--- the status for a CertID: that of the issuer's certificate that it names; unknown if it names none
--- (RFC 6960 2.2)
+-- the status for a CertID: that of the serial number, if the CertID identifies a certificate of the issuer; else unknown (RFC 6960 2.2)
 abbrev pub IsStatusFor : Records → ℕ → Id → Status → Type 0
 IsStatusFor records now id told =
     ((serial : ℕ) × IsMatch records.issuer id serial × (told ≡ status records serial now))
     ⊎ (((serial : ℕ) → ¬ (IsMatch records.issuer id serial)) × (told ≡ Unknown))
 
--- the answer to a CertID: the CertID, repeated byte for byte, and its status (SingleResponse, RFC 6960 4.2.1)
+-- the answer for a CertID: the CertID, repeated byte for byte, and its status (SingleResponse, RFC 6960 4.2.1)
 pub record IsAnswer (records : Records) (now : ℕ) (id : Id) (answer : SingleAnswer) : Type 0 where
   pub repeated : answer.raw ≡ id.raw
   pub told : IsStatusFor records now id answer.status

@@ -19,7 +19,7 @@ use Rattle.reg_office_api.specs.declared.effects.StoreEffect.TheVariants as stor
 use Rattle.reg_office_api.specs.declared.response.ResponseKind.{ResponseKind}
 use Rattle.reg_office_api.specs.declared.response.ResponseKind.TheVariants.{Signed, Malformed, TryLater, StoreFailure, SignerFailure}
 
--- a response of this kind to a request that was read
+-- a response of this kind to a request that was read: signed, if the clock checks pass; tryLater, if they refuse; else internalError
 abbrev pub IsReadResponse : Signs → Responder → Records → ℕ → List Id → Option (List ℕ)
     → ResponseKind → List ℕ → Type 0
 IsReadResponse signs responder records now ids echo Signed bytes =
@@ -50,7 +50,7 @@ Replies signs signatory before now request (Ok response) after =
     IsOcspResponse signs signatory.answers before now request response.0 response.1 × (after ≡ before)
 Replies signs signatory before now request (Err memory) after = after ≡ before
 
--- whether the signature was requested, and the signer made it
+-- whether a signature was requested, and whether the signer made it
 abbrev pub signature_of : ResponseKind → SignatureOutcome
 signature_of Signed = signature.Made
 signature_of SignerFailure = signature.Failed

@@ -1,4 +1,4 @@
--- How calls that are no commands change a register's settings.
+-- The calls that are no commands but change a register's settings.
 use Rattle.std.specs.Prelude.{◌≡◌, ℕ, List, Result, Ok, Err}
 use Rattle.reg_core.specs.Changes.{with_schedule}
 use Rattle.reg_core.specs.Records.{Records}

@@ -3,7 +3,7 @@ use Rattle.std.specs.Prelude.{ℕ, List, Option, None, unwrap_or}
 use Rattle.reg_core.specs.Records.{Records}
 use Rattle.reg_crl.specs.Signing.{Identity}
 
--- which bytes are a signature: `signs identity message signature`
+-- the relation of signatures: `signs identity message signature` says that the signer with this identity gave the signature for the message
 abbrev pub Signs : Type 1
 Signs = Identity → List ℕ → List ℕ → Type 0
 

@@ -5,25 +5,26 @@ ghost use Rattle.reg_office_api.specs.Responses.{store_of_fault};
 
 use reg_core::Fault;
 
-/// Whether an exchange or a line requested a signature, and the signer made it.
+/// Whether an exchange or a line requested a signature, and whether the signer made it.
 #[derive(Clone, Copy, PartialEq, Eq)]
 pub enum SignatureOutcome {
     NotRequested,
     Made,
-    /// The signer failed, or gave no answer in time.
+    /// The signer failed, gave no answer in time, or was not asked during its back-off.
     Failed,
 }
 
 /// The effect of an exchange or a line on the store: an accepted command was written, the store failed, or neither.
 #[derive(Clone, Copy, PartialEq, Eq)]
 pub enum StoreEffect {
-    /// It ran no accepted command, and the store did not fail.
+    /// The exchange or line ran no accepted command, and the store did not fail.
     Unwritten,
     Written,
     Failed,
 }
 
 impl StoreEffect {
+    /// The effect of a call that returned this fault: `Failed` only for [`Fault::Store`], else `Unwritten`.
     pub fn of_fault(fault: &Fault) -> StoreEffect
         ensures { result ≡ store_of_fault fault.now }
     {
@@ -34,7 +35,7 @@ impl StoreEffect {
     }
 }
 
-/// How a line was answered.
+/// The kind of the reply to a line.
 #[derive(Clone, Copy, PartialEq, Eq)]
 pub enum LineReply {
     Accepted,

@@ -1,4 +1,4 @@
-//! The interface of a register's office for its front ends, whatever stores its records.
+//! The interface of a register's office, which runs commands and answers queries, for the front ends. It does not say where records are stored.
 #![tactic(auto)]
 
 mod effects;

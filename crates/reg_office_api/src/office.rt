@@ -38,8 +38,8 @@ pub trait Office {
     /// How many failures the signer of its OCSP answers has counted.
     ghost answer_failures: { Self → ℕ };
 
-    /// Runs a command at its moment. Errors, after which the records stay: the first refusal that applies; `Memory`; `Store`;
-    /// `Signer` for a CRL, only if the signer of CRLs counted a failure.
+    /// Runs a command at its moment. Errors, after which the office keeps its records: the first refusal that applies; `Memory`; `Store`;
+    /// `Signer`, only for a CRL, and only if the signer of CRLs counted a failure.
     fn run_one(&mut self, alloc: Global, now: Moment, command: &Command) -> Outcome
         ensures runs { Leads is_clean stands (CommandStep signs now command.now result) self.old self.new }
         ensures counts { IsErrOf result Signer → failures self.old < failures self.new };
@@ -49,13 +49,14 @@ pub trait Office {
         ensures asks { Leads is_clean stands (QueryStep now query.now result) self.old self.new }
         ensures unsigned { ¬ (IsErrOf result Signer) };
 
-    /// The OCSP response (RFC 6960 4.2) to the bytes of a request, at its moment.
+    /// The whole OCSPResponse (RFC 6960 4.2.1) to the bytes of a request at a moment: signed, or malformedRequest, internalError or tryLater
+    /// (RFC 6960 2.3). [`Memory`] if out of memory.
     fn ocsp(&mut self, alloc: Global, now: Moment, request: &[u8]) -> Result<Vec<u8>, Memory>
         ensures { Leads is_clean stands (OcspStep signs now request.now (items_of result))
             self.old self.new };
 
-    /// Begins the response of [`Office::ocsp`]: if the signer has a key, the response is left unsigned, and the caller requests its
-    /// signature. The response of a signer without a key is ready, and so is a refusal.
+    /// Begins the response of [`Office::ocsp`]: if the signer of OCSP answers has a key, the response is left unsigned, and the caller requests its
+    /// signature. A response with the placeholder digest is ready, and so is one without responseBytes. [`Memory`] if out of memory.
     fn begin_ocsp(
         &mut self,
         alloc: Global,
@@ -67,57 +68,59 @@ pub trait Office {
             IsSignerFailure begun ↔ (answer_failures self.old < answer_failures self.new)) }
         ensures never_falls { answer_failures self.old ≤ answer_failures self.new };
 
-    /// The bytes of the CRL (RFC 5280 5) with this number, or of the latest. Errors: `NoCrl` if there is none; `Memory`; `Store`.
+    /// The DER of the CRL (RFC 5280 5.1) with this number, or of the latest one. Errors: `NoCrl` if there is none; `Memory`; `Store`.
     fn crl_bytes(&mut self, alloc: Global, number: Option<u64>) -> Result<Vec<u8>, Fault>
         ensures { Leads is_clean stands (CrlStep number (items_of result)) self.old self.new };
 
-    /// The bytes to sign of the next CRL at a moment (RFC 5280 5.1.2). `None` if none would be issued then, if the signer has no
-    /// key (placeholder digest), and if memory or the store fails. Nothing is signed.
+    /// The DER of the TBSCertList (RFC 5280 5.1.2) of the CRL that would be issued at a moment. `None` if none would be issued then, if the signer
+    /// of CRLs has no key (as with the placeholder digest), or if memory or the store fails. Nothing is signed.
     fn crl_message(&mut self, alloc: Global, now: Moment) -> Option<Vec<u8>>
         ensures { Leads is_clean stands (λ signatory before after. after ≡ before) self.old self.new };
 
-    /// A page of a list from a cursor on, at a moment, over at most `most` rows. Errors: `ClockEnd`, `ClockBack`; `Memory`, `Store`.
+    /// A page of a list from a cursor on, at a moment, over at most `most` rows of its table. Errors: `ClockEnd`, `ClockBack`; `Memory`, `Store`.
     fn page(&mut self, alloc: Global, now: Moment, from: Cursor, most: u64) -> Result<Page, Fault>
         ensures { Leads is_clean stands (PageStep now most from result) self.old self.new };
 
     /// The register's summary: the last accepted moment, the latest CRL, the life of CRLs, the cap, and how many rows the tables have.
+    /// Errors: `Memory`, `Store`.
     fn summary(&mut self) -> Result<RegisterSummary, Fault>
         ensures looks { Looks is_clean stands (λ records. HasSummary records result) self.old self.new }
         ensures faults { IfErr result IsOfStore };
 
-    /// How many requests for revocation are open at a moment, by a walk over all requests.
+    /// How many requests for revocation are open at a moment. The call goes through all requests. Errors: `Memory`, `Store`.
     fn open_count(&mut self, now: Moment) -> Result<u64, Fault>
         ensures looks { Looks is_clean stands (λ records. HasOpen records now result) self.old self.new }
         ensures faults { IfErr result IsOfStore };
 
     /// How full the requests table is, and how many requests for a serial number are open at a moment, counted up to `most`.
-    /// It walks the requests. Errors: `Memory`, `Store`.
+    /// The call may go through all requests. Errors: `Memory`, `Store`.
     fn request_load(&mut self, now: Moment, serial: Serial, most: u64) -> Result<RequestLoad, Fault>
         requires { most < 2 ^ 63 }
         ensures looks { Looks is_clean stands (λ records. HasRequestLoad records now serial most result)
             self.old self.new }
         ensures faults { IfErr result IsOfStore };
 
-    /// The longest validity in days that an order and the policy allow from a moment on; `None` if there is no such order.
+    /// The longest validity in days that an order and the policy allow for a notBefore; `None` if there is no order with this id.
     /// Errors: `Memory`, `Store`.
     fn longest(&mut self, order: u64, not_before: Moment) -> Result<Option<u64>, Fault>
         ensures looks { Looks is_clean stands
             (λ records. HasLongest records order not_before result) self.old self.new };
 
     /// Sets the schedule of longest validities, which is no command: nothing else changes, and at an error nothing does.
+    /// Errors: `Memory`, `Store`.
     fn set_schedule(&mut self, alloc: Global, schedule: Schedule) -> Result<(), Fault>
         ensures sets { Leads is_clean stands (λ signatory. ReplacesSchedule schedule result)
             self.old self.new }
         ensures faults { IfErr result IsOfStore };
 
-    /// Gives the issuer a key identifier of its own, which its CRLs have from the next one on (RFC 5280 5.2.1). It is no command:
-    /// nothing else changes, and at an error nothing does.
+    /// Sets a key identifier of the issuer's own, which its CRLs have from the next one on (RFC 5280 5.2.1). This is no command:
+    /// nothing else changes, and at an error nothing does. Errors: `Memory`, `Store`.
     fn set_key_identifier(&mut self, alloc: Global, octets: Label) -> Result<(), Fault>
         ensures sets { Leads is_clean stands (λ signatory. SetsKeyIdentifier octets result)
             self.old self.new }
         ensures faults { IfErr result IsOfStore };
 
-    /// How many signatures the signer of CRLs and that of OCSP answers failed to make; the same count twice if one signer makes both.
+    /// How many failures the signer of CRLs (first) and the signer of OCSP answers have counted; the same count twice if one signer makes both.
     fn failure_counts(&self) -> (u64, u64)
         ensures crls { result.0 ≡ failures self.now }
         ensures answers { result.1 ≡ answer_failures self.now };

@@ -2,10 +2,12 @@
 
 use reg_core::{CrlRow, Moment};
 
-/// A summary of a register: its last accepted moment, its latest CRL, and how many rows its tables have.
+/// A summary of a register.
 #[derive(Clone, Copy, PartialEq, Eq)]
 pub struct RegisterSummary {
+    /// The last accepted moment.
     pub last: Moment,
+    /// The CRL that was issued last, without its bytes; `None` if there is none.
     pub latest: Option<CrlRow>,
     /// The seconds from thisUpdate to nextUpdate of a CRL.
     pub crl_life: u64,

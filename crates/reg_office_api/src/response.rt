@@ -8,7 +8,9 @@ use crate::effects::{SignatureOutcome, StoreEffect};
 /// The kind of an OCSP response (OCSPResponseStatus, RFC 6960 4.2.1). The two causes of internalError are kept apart.
 #[derive(Clone, Copy, PartialEq, Eq)]
 pub enum ResponseKind {
+    /// successful: signed, or with the placeholder digest.
     Signed,
+    /// malformedRequest: the bytes are no request.
     Malformed,
     /// tryLater: the clock checks refuse the moment.
     TryLater,
@@ -26,7 +28,7 @@ pub struct OcspResponse {
 }
 
 impl ResponseKind {
-    /// Whether the signature was requested, and the signer made it.
+    /// Whether a signature was requested, and whether the signer made it.
     pub fn signature(self) -> SignatureOutcome
         ensures { result ≡ signature_by self }
     {
@@ -37,7 +39,7 @@ impl ResponseKind {
         }
     }
 
-    /// Whether the response shows that the store failed.
+    /// `Failed` if the response shows that the store failed, else `Unwritten`: an OCSP request writes nothing.
     pub fn store(self) -> StoreEffect
         ensures { result ≡ store_by self }
     {

@@ -17,15 +17,15 @@ use Rattle.reg_store_migration.specs.Older.{ShowsOlder}
 use Rattle.reg_store_migration.specs.declared.version.OlderVersion.{OlderVersion}
 use Rattle.reg_store_opening.specs.AfterStoppedOpening.{IsCreated, IsOpened}
 
--- the machine stopped, and the database was opened again from what the stop left: the disk had returned what was written until then, and the new
--- connection obeys the schema that it found, and shows rows that a stop at that moment may leave
+-- The machine stopped, and the database was opened again. The disk had returned what was written until then. The new connection obeys the
+-- schema that it found, and shows rows that a stop at that moment may leave.
 pub record IsOpenedAgain {S : Type 0} (g : Ghosts S) (held again : Held S) : Type 0 where
   pub honest : HasCleanDisk (state g held)
   pub opens : Opens (state g again)
   pub live : IsLive (state g again)
   pub found : ∥ (state g held).may_leave (state g again).committed.trees ∥₁
 
--- after a stop while a register is made, the database that is opened shows what was there before, or the whole register, without records
+-- after a stop while a register is made, the opened database is as last committed before, or it was empty and is a register without records
 abbrev pub OpensEmptyOrMade : {S : Type 0} → Ghosts S → Type 0
 OpensEmptyOrMade {S = S} g =
     (old new again : Held S) (issuer : Issuer) (policy : Terms)
@@ -34,8 +34,8 @@ OpensEmptyOrMade {S = S} g =
     → ∥ ((state g again).now ≡ (state g old).committed)
     ⊎ ((old.schema ≡ no_schema) × ShowsKept g again (no_records issuer policy)) ∥₁
 
--- After a stop while a register is opened: one of the program's version is as it was, and shows what it showed. One of an older version, with
--- sound records, shows the same records, in the tables of that version or of the program's, with derived tables that match them.
+-- After a stop while a register is opened: one of the program's version is as last committed, and shows the records that it showed. One of an
+-- older version shows its sound records in the tables of that version, or in the program's with derived tables that match them.
 abbrev pub OpensWithTheSame : {S : Type 0} → Ghosts S → Type 0
 OpensWithTheSame {S = S} g =
     (old new again : Held S)
@@ -46,7 +46,7 @@ OpensWithTheSame {S = S} g =
     × ((version : OlderVersion) (records : Records) → ShowsOlder version g old records → SoundRows records
     → ∥ ShowsOlder version g again records ⊎ ShowsKept g again records ∥₁)
 
--- after a stop while a schedule is set, the register that is opened shows the records with the schedule before the call, or with the new one
+-- after a stop while a schedule is set, the opened register shows the records with the schedule before the call, or with the new one
 abbrev pub OpensWithASchedule : {S : Type 0} → Ghosts S → Type 0
 OpensWithASchedule {S = S} g =
     (old new again : Held S) (records : Records) (steps : List (ℕ × ℕ))
@@ -54,8 +54,8 @@ OpensWithASchedule {S = S} g =
     → Survives (state g old) (state g new) (IsScheduled g old steps) → IsOpenedAgain g new again
     → ∥ ShowsKept g again records ⊎ ShowsKept g again (with_schedule records steps) ∥₁
 
--- after a stop while an issuer with the same key as before is set, the register that is opened shows the records with the issuer before the call,
--- or with the new one
+-- after a stop while an issuer with the same key is set, the opened register shows the records with the issuer before the call, or with the
+-- new one
 abbrev pub OpensWithAnIssuer : {S : Type 0} → Ghosts S → Type 0
 OpensWithAnIssuer {S = S} g =
     (old new again : Held S) (records : Records) (issuer : Issuer)

@@ -12,14 +12,15 @@ use reg_store_tables::DatabaseFault;
 use sqlite::Alter;
 
 impl<S: Alter> Store<S> {
-    /// Makes a change at a moment, in one transaction. Errors, here and of the methods below: those of [`reg_store_changes::apply`].
+    /// Makes a change at a moment, in one transaction. Errors, here and of the methods up to [`Store::add_crl`]: those of
+    /// [`reg_store_changes::apply`].
     pub fn apply(&mut self, now: Moment, change: &Change<'_>) -> Result<(), DatabaseFault>
         ensures { MakesChange S.Store self.old self.new now change.now result }
     {
         reg_store_changes::apply(&mut self.tables.connection, now, change)
     }
 
-    /// Sets the last accepted moment.
+    /// Sets only the last accepted moment.
     pub fn touch(&mut self, now: Moment) -> Result<(), DatabaseFault>
         ensures { MakesChange S.Store self.old self.new now Touch result }
     {
@@ -61,7 +62,7 @@ impl<S: Alter> Store<S> {
         self.apply(now, &Change::Decline(id))
     }
 
-    /// Adds the revocation of a certificate, whose notAfter the caller gives. `Store` if the certificate is not good.
+    /// Adds the revocation of a certificate, whose notAfter the caller gives. `Store` too if the certificate is not good.
     pub fn add_revocation(
         &mut self,
         now: Moment,
@@ -73,22 +74,22 @@ impl<S: Alter> Store<S> {
         self.apply(now, &Change::Revocation(row, not_after))
     }
 
-    /// Adds a CRL, with its bytes. It becomes the last CRL of each revocation that has no last one yet and whose certificate ended before it.
+    /// Adds a CRL, with its bytes, and records it as the last CRL of each revocation without one whose notAfter is before this thisUpdate.
     pub fn add_crl(&mut self, now: Moment, row: CrlRow, der: &[u8]) -> Result<(), DatabaseFault>
         ensures { MakesChange S.Store self.old self.new now (Crl row der.entry) result }
     {
         self.apply(now, &Change::Crl(row, der))
     }
 
-    /// Sets the schedule of longest validities. This is no command: nothing else changes.
+    /// Sets the schedule of longest validities. This is no command: nothing else changes. Errors: those of [`reg_store_changes::set_schedule`].
     pub fn set_schedule(&mut self, schedule: Schedule) -> Result<(), DatabaseFault>
         ensures { SetsSchedule S.Store self.old self.new schedule result }
     {
         reg_store_changes::set_schedule(&mut self.tables.connection, &schedule)
     }
 
-    /// Sets the issuer's Name and the key identifiers that were set for it. The issuer must have the same key as before; this is not checked. This is
-    /// no command: nothing else changes.
+    /// Sets the issuer's Name and the key identifiers that were set for it. The issuer must have the same key as before; this is not checked.
+    /// This is no command: nothing else changes. Errors: those of [`reg_store_changes::set_issuer`].
     pub fn set_issuer(&mut self, issuer: &Issuer) -> Result<(), DatabaseFault>
         ensures { SetsIssuer S.Store self.old self.new issuer.now result }
     {

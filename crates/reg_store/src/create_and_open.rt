@@ -10,7 +10,8 @@ use reg_store_tables::{StoreFault, Tables};
 use sqlite::{Alter, Connection};
 use std::alloc::Global;
 
-/// A connection over which no store was created or opened, and why. It is in no transaction. Unless the disk failed, its tables are as they were.
+/// The connection over which no store was created or opened, and why. The connection is in no transaction. Unless the disk failed, its
+/// tables are as they were.
 #[derive(Drop)]
 pub struct Unopened<S: Alter> {
     pub fault: StoreFault,
@@ -18,8 +19,7 @@ pub struct Unopened<S: Alter> {
 }
 
 impl<S: Alter> Store<S> {
-    /// Makes a register with no records in an empty database. Errors: `NotEmpty` if it has a table, an index or a view; `Memory`;
-    /// `Store` if the database fails.
+    /// Makes a register with no records in an empty database. Errors: those of [`reg_store_opening::create`].
     pub fn create(
         connection: Connection<S>,
         issuer: Issuer,
@@ -40,7 +40,7 @@ impl<S: Alter> Store<S> {
         }
     }
 
-    /// Opens the register in a database. Tables of version 1 or 2 are migrated to the program's version in one transaction; they then
+    /// Opens the register in a database. Tables of version 1 or 2 are migrated to the program's version in one transaction, and then
     /// show the same records. Errors: those of [`reg_store_opening::open`].
     pub fn open(alloc: Global, connection: Connection<S>) -> Result<Store<S>, Unopened<S>>
         requires { connection.in_transaction ≡ false }

@@ -1,4 +1,4 @@
--- The rows that a stop may leave in a register's file after a change was begun.
+-- The rows in a register's file after a change, which a stop may leave once it was begun.
 use Rattle.std.specs.Prelude.{◌≡◌, ◌≤◌, ℕ, List}
 use Rattle.sqlite_trees.specs.Tree.{Trees}
 use Rattle.sqlite_trees.specs.declared.store.Store.{Ghosts}
@@ -12,18 +12,19 @@ use Rattle.reg_store_tables.specs.Kept.{ShowsKept}
 use Rattle.reg_der.specs.Issuers.{with_issuer}
 use Rattle.reg_store_tables.specs.AfterStop.{ShowsDerivedAfterStop}
 
--- the rows after a change: they show the records after it, with derived tables that match them
+-- Let the tables show sound records that the change fits, at a moment not before the last accepted one. Then the rows show the changed
+-- records, with derived tables that match them.
 abbrev pub IsChanged : {S : Type 0} → Ghosts S → Held S → ℕ → Change → Trees → Type 0
 IsChanged g old now change trees =
     (records : Records) → ShowsKept g old records → SoundRows records → records.last ≤ now
     → Fits records now change → ShowsDerivedAfterStop (changed_by records now change) trees
 
--- the rows after a schedule was set
+-- if the tables showed records, the rows show these with the new schedule, with derived tables that match them
 abbrev pub IsScheduled : {S : Type 0} → Ghosts S → Held S → List (ℕ × ℕ) → Trees → Type 0
 IsScheduled g old steps trees =
     (records : Records) → ShowsKept g old records → ShowsDerivedAfterStop (with_schedule records steps) trees
 
--- the rows after an issuer with the same key was set
+-- if the tables showed records with the same key, the rows show these with the new issuer, with derived tables that match them
 abbrev pub IsIssuerSet : {S : Type 0} → Ghosts S → Held S → Issuer → Trees → Type 0
 IsIssuerSet g old issuer trees =
     (records : Records) → ShowsKept g old records → records.issuer.key ≡ issuer.key

@@ -11,12 +11,12 @@ use Rattle.reg_store_changes.specs.DerivedEffects.{with_expired, ended_by, with_
 abbrev pub crl_of : CrlRow → List ℕ → Crl
 crl_of row bytes = record { number = row.number; this_update = row.this_update; bytes = bytes }
 
--- how many good certificates a change revokes
+-- how many certificates a change revokes
 abbrev pub lost : Change → ℕ
 lost (Revocation row not_after) = 1
 lost change = 0
 
--- how many good certificates a change adds
+-- how many certificates a change adds
 abbrev pub added : Change → ℕ
 added (Certificate row) = 1
 added change = 0

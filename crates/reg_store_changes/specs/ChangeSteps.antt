@@ -25,7 +25,7 @@ Revokes row not_after old new =
     → (good_at row.serial columns ≡ 1) × AreRecordsAndDerived new (with_revocation records records.last row)
     (with_unlisted row not_after (with_revoked_letter row.serial columns))
 
--- the rows of a change are written, and those of the derived tables except the counts
+-- over sound records that a change fits, its rows are written, and those of the derived tables except the counts; `one`: see `TurnsOne`
 pub record Puts (change : Change) (old new : Database) : Type 0 where
   pub turns : (records : Records) (columns : DerivedRows) (now : ℕ) → SoundRows records
       → Fits records now change → AreRecordsAndDerived old records columns
@@ -33,7 +33,7 @@ pub record Puts (change : Change) (old new : Database) : Type 0 where
   pub one : (records : Records) (columns : DerivedRows) → AreRecordsAndDerived old records columns
       → TurnsOne change columns
 
--- a whole change is made at a moment, if these counts are the stored ones
+-- over sound records that a change fits, with these stored counts, the whole change is made at a moment; `one`: see `TurnsOne`
 pub record Enters (now : ℕ) (change : Change) (counts : Counts) (old new : Database) : Type 0 where
   pub turns : (records : Records) (columns : DerivedRows) → counts ≡ columns.counts → SoundRows records
       → Fits records now change → AreRecordsAndDerived old records columns
@@ -52,7 +52,7 @@ ReplacesIssuer issuer =
 abbrev pub ClearsSteps : Database → Database → Type 0
 ClearsSteps old new = (base : Trees) (steps : List (ℕ × ℕ)) → IsStaged base steps old → IsStaged base [] new
 
--- these steps of the schedule replace those before
+-- these steps are a schedule, and replace the steps before
 pub record WritesSchedule (steps : List (ℕ × ℕ)) (old new : Database) : Type 0 where
   pub sound : IsSchedule steps
   pub staged : (base : Trees) (before : List (ℕ × ℕ)) → IsStaged base before old

@@ -8,12 +8,12 @@ use Rattle.reg_store_tables.specs.DerivedRows.{Letter, good, revoked, expired, i
 abbrev pub lettered : Letter → Standing → Standing
 lettered letter row = record row { letter = letter }
 
--- the letters of good certificates that ended before a moment become expired
+-- the letters of good certificates whose notAfter is before a moment become expired
 abbrev pub with_expired : ℕ → DerivedRows → DerivedRows
 with_expired now columns =
     record columns { letters = map (turned (ends_before now) (lettered expired)) columns.letters }
 
--- how many good certificates ended before a moment
+-- how many good certificates have a notAfter before a moment
 abbrev pub ended_by : ℕ → DerivedRows → ℕ
 ended_by now columns = length (filter (ends_before now) columns.letters)
 
@@ -52,7 +52,7 @@ with_unlisted row not_after columns =
       }) ∷ [];
     }
 
--- the revocation has no last CRL yet, and its certificate ended before a moment
+-- the revocation has no last CRL yet, and its certificate's notAfter is before a moment
 abbrev pub has_passed : ℕ → Listed → Bool
 has_passed now row = is_none row.last && nat_lt row.not_after now
 
@@ -60,7 +60,7 @@ has_passed now row = is_none row.last && nat_lt row.not_after now
 abbrev pub with_last_listing : ℕ → Listed → Listed
 with_last_listing number row = record row { last = Some number }
 
--- a CRL becomes the last one of each revocation that has no last one yet and whose certificate ended before it
+-- the CRL with this number becomes the last one of each revocation that has none yet and whose notAfter is before a moment
 abbrev pub with_last_listings : ℕ → ℕ → DerivedRows → DerivedRows
 with_last_listings number now columns =
     record columns { listed = map (turned (has_passed now) (with_last_listing number)) columns.listed }

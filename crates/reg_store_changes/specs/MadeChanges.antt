@@ -17,13 +17,13 @@ use Rattle.reg_store_changes.specs.AfterStoppedChange.{IsChanged, IsIssuerSet, I
 use Rattle.reg_store_changes.specs.ChangeEffects.{TurnsOne}
 use Rattle.reg_store_changes.specs.DerivedEffects.{with_expired}
 
--- if the tables show records that the change fits, the office's row keeps its days
+-- if the tables show sound records that the change fits, and the call succeeds, the office's row keeps its days
 abbrev pub LeavesOfficeDays : {S A E : Type 0} → Ghosts S → Held S → Held S → ℕ → Change → Result A E → Type 0
 LeavesOfficeDays g old new now change result =
     (records : Records) → ShowsKept g old records → SoundRows records → Fits records now change
     → OnOk result (KeepsOfficeDays g old new)
 
--- The change was made at a moment, or nothing has changed. If the records are sound and allow it, the tables show those after it, with derived
+-- The change was made at a moment, or nothing has changed. If sound records allow it, the tables show the changed ones, with derived
 -- tables that match them, and the office keeps its days. A serial number that it revoked had one good letter. An error leaves the tables as
 -- they were. A stop leaves what it would have left before, or the whole change.
 pub record MakesChange {S A E : Type 0} (g : Ghosts S) (old new : Held S) (now : ℕ) (change : Change)

@@ -17,7 +17,7 @@ use reg_core::{CertRow, Change, Counts, CrlRow, Moment, RevocationRow};
 use reg_store_tables::{DatabaseFault, set_counts};
 use sqlite::{Alter, Transaction};
 
-/// The counts after `ended` good certificates expired and the change was made.
+/// The counts after `ended` good certificates expired and the change was made. `Store` if a count goes below 0 or above 2^64 - 1.
 fn counts_after(counts: Counts, ended: usize, change: &Change<'_>) -> Result<Counts, DatabaseFault>
     ensures shifted { IfOk result (λ next. next ≡ shifted counts ended (lost change.now) (added change.now)) }
 {
@@ -76,7 +76,7 @@ fn register<S: Alter>(tx: &mut Transaction<'_, S>, row: CertRow) -> Result<(), D
     put_letter(tx, serial, not_after)
 }
 
-/// Adds a revocation and its row of `listed`, and sets its certificate's state letter. `Store` if the certificate was not good.
+/// Adds a revocation and its row of `listed`, and sets its certificate's state letter to `R`. `Store` too if the letter was not `G`.
 fn revoke<S: Alter>(
     tx: &mut Transaction<'_, S>,
     row: RevocationRow,
@@ -94,7 +94,7 @@ fn revoke<S: Alter>(
     }
 }
 
-/// Adds a CRL. It becomes the last one of each revocation that has no last one yet and whose certificate ended before it.
+/// Adds a CRL, and records it as the last CRL of each revocation that has none yet and whose notAfter is before this thisUpdate.
 fn issue<S: Alter>(
     tx: &mut Transaction<'_, S>,
     row: CrlRow,
@@ -128,7 +128,8 @@ fn put<S: Alter>(tx: &mut Transaction<'_, S>, change: &Change<'_>) -> Result<(),
     }
 }
 
-/// Makes a change: sets the letters of good certificates that ended before now to expired, writes the change, and sets the counts and the last accepted moment.
+/// Makes a change. It sets the letters of good certificates whose notAfter is before now to expired, and writes the rows of the change. Then
+/// it sets the counts and the last accepted moment.
 pub(crate) fn enter<S: Alter>(
     tx: &mut Transaction<'_, S>,
     now: Moment,

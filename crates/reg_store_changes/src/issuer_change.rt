@@ -22,8 +22,9 @@ fn set_name<S: Alter>(tx: &mut Transaction<'_, S>, issuer: &Issuer) -> Result<()
     Ok(())
 }
 
-/// Sets the issuer's Name and the key identifiers that were set for it. The issuer must have the same key as before; this is not checked. It is no
-/// command: other records, the derived tables and the last accepted moment don't change. An error changes nothing, unless the disk failed in the commit.
+/// Sets the issuer's Name and the key identifiers that were set for it. The issuer must have the same key as before; this is not checked. The
+/// call is no command: other records, the derived tables and the last accepted moment don't change. Errors: `Memory`; `Store` if the database
+/// fails. An error changes nothing, unless the disk failed in the commit.
 pub fn set_issuer<S: Alter>(conn: &mut Connection<S>, issuer: &Issuer) -> Result<(), DatabaseFault>
     requires { conn.old.in_transaction ≡ false }
     ensures sets { SetsIssuer S.Store conn.old conn.new issuer.now result }

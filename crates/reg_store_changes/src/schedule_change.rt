@@ -31,8 +31,9 @@ fn write_schedule<S: Alter>(
     put_schedule_steps(tx, schedule.steps())
 }
 
-/// Sets the schedule of longest validities. It is no command: other records, the derived tables, the last accepted moment and
-/// the column `days` of the office don't change. An error changes nothing, unless the disk failed in the commit.
+/// Sets the schedule of longest validities. The call is no command: other records, the derived tables, the last accepted moment and
+/// the column `days` of the office don't change. Errors: `Memory`; `Store` if the database fails. An error changes nothing, unless the
+/// disk failed in the commit.
 pub fn set_schedule<S: Alter>(
     conn: &mut Connection<S>,
     schedule: &Schedule,

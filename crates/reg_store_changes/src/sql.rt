@@ -1,4 +1,4 @@
-//! The SQL of the statements that write. An UPDATE with a WHERE finds its rows by a key or an index, except `MARK_LISTED`,
+//! The SQL of the statements of a change. An UPDATE with a WHERE finds its rows by a key or an index, except `MARK_LISTED`,
 //! which scans the table `listed`.
 
 pub(crate) const SWEEP: &str =

@@ -1,4 +1,5 @@
-//! The statements of the changes, inside a transaction.
+//! The statements of the changes, inside a transaction. Errors: `Memory`; `Store` if the database fails or refuses a row, or for a number above
+//! 2^63 - 1.
 
 ghost use Rattle.std.specs.Prelude.{◌≡◌, ◌+◌, length};
 ghost use Rattle.reg_core.specs.Changes.{touched, with_subscriber, with_order, with_certificate, with_request, with_declined, with_revocation, with_crl};
@@ -18,7 +19,7 @@ use reg_store_tables::write_statements::{
 use sqlite::types::ValueRef;
 use sqlite::{Alter, Transaction};
 
-/// Sets the letter of each good certificate that ended before now to expired, and returns how many there were.
+/// Sets the letter of each good certificate whose notAfter is before now to expired, and returns how many there were.
 pub fn expire_ended<S: Alter>(
     tx: &mut Transaction<'_, S>,
     now: Moment,
@@ -29,7 +30,7 @@ pub fn expire_ended<S: Alter>(
     write(tx, sql::SWEEP, &[sql_moment(now)])
 }
 
-/// Sets the letter of the good certificate with this serial number to revoked, and returns how many there were.
+/// Sets the letter of the good certificate with this serial number to revoked, and returns how many such certificates there were: 0 or 1.
 pub fn mark_revoked<S: Alter>(
     tx: &mut Transaction<'_, S>,
     serial: Serial,
@@ -42,7 +43,7 @@ pub fn mark_revoked<S: Alter>(
     write(tx, sql::MARK_REVOKED, &[ValueRef::Blob(&bytes)])
 }
 
-/// Records this CRL as the last one of each revocation that has no last one yet and whose certificate ended before its thisUpdate.
+/// Records this CRL as the last one of each revocation that has no last one yet and whose certificate's notAfter is before its thisUpdate.
 pub(crate) fn set_last_listed<S: Alter>(
     tx: &mut Transaction<'_, S>,
     number: u64,
@@ -58,7 +59,6 @@ pub(crate) fn set_last_listed<S: Alter>(
     Ok(())
 }
 
-/// Sets the last accepted moment.
 pub(crate) fn set_last<S: Alter>(
     tx: &mut Transaction<'_, S>,
     now: Moment,

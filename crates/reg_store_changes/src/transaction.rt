@@ -1,5 +1,5 @@
-//! The call that makes a change. It may be called with any change, but its contract says what the tables show afterwards only for
-//! a change that the records allow (`Fits`).
+//! The call that makes a change. It may be called with any change. Its contract says what the tables show afterwards only if sound records
+//! allow the change (`Fits`), and the moment is not before the last accepted one.
 
 ghost use Rattle.std.specs.Prelude.{◌≡◌, false};
 ghost use Rattle.reg_store_changes.specs.ChangeSteps.{Enters};
@@ -11,8 +11,9 @@ use reg_core::{Change, Counts, Moment};
 use reg_store_tables::{DatabaseFault, stored_counts_at_last, write_statements};
 use sqlite::{Alter, Connection};
 
-/// Makes a change at a moment, in one transaction. Errors: `Memory`; `Store` if the database fails, a count is missing or too
-/// small, or the certificate to revoke is not good. An error changes nothing, unless the disk failed in the commit.
+/// Makes a change at a moment, in one transaction. Errors: `Memory`; `Store` if the database fails or refuses a row, or a number is above
+/// 2^63 - 1; `Store` too if a count is missing or too small, or the certificate to revoke is not good. An error changes nothing, unless the
+/// disk failed in the commit.
 pub fn apply<S: Alter>(
     conn: &mut Connection<S>,
     now: Moment,

@@ -14,7 +14,7 @@ use Rattle.sqlite.specs.Listing.{understood}
 use Rattle.sqlite.specs.State.{text_of}
 use Rattle.reg_store_tables.specs.ReadStatements.{command_of}
 
--- the one statement of a text
+-- the text of the first statement in a text; empty if it does not compile
 abbrev pub statement_of : List ℕ → Result Compiled CompileError → List ℕ
 statement_of text (Ok compiled) = text_of text compiled
 statement_of text (Err error) = []

@@ -7,7 +7,7 @@ use Rattle.sqlite_trees.specs.Tree.{Trees, rowid}
 use Rattle.sqlite_schema.specs.declared.schema.Schema.{Schema}
 use Rattle.sqlite.specs.Effect.{Database}
 
--- the rowid of a row is a number, as in each SQL table
+-- the rowid of a row is an integer, as in each SQL table
 abbrev pub IsNumbered : Row → Type 0
 IsNumbered row = (n : ℤ) × (rowid row ≡ Int n)
 
@@ -20,6 +20,6 @@ pub record HasRows (tables : Schema) (trees : Trees) (db : Database) : Type 0 wh
 abbrev pub with_rows : ℕ → List Row → Trees → Trees
 with_rows tree those rows = λ n. cond (n == tree) those (rows n)
 
--- the rows of the tables of the records, whose trees come first, and no rows in any other table
+-- the rows of the tables of the office and the records, whose trees have the numbers below 12, and no rows in any other table
 abbrev pub records_alone : Trees → Trees
 records_alone rows = λ n. cond (nat_lt n 12) (rows n) []

@@ -21,12 +21,12 @@ use Rattle.reg_store_migration.specs.NumberedRows.{IsNumbered}
 use Rattle.reg_store_migration.specs.declared.version.OlderVersion.{OlderVersion}
 use Rattle.reg_store_migration.specs.declared.version.OlderVersion.TheVariants.{First, Second}
 
--- the number in the row of the office
+-- the number of the version in the row of the office
 abbrev pub version_number : OlderVersion → ℕ
 version_number First = 1
 version_number Second = 2
 
--- version 1 has the tables of the records, version 2 also the derived tables; neither has the indexes of version 3
+-- version 1 has the tables of the office and the records, version 2 also the derived tables; neither has the indexes of version 3
 abbrev pub older_schema : OlderVersion → Schema
 older_schema First = record_tables
 older_schema Second = with_derived_tables
@@ -37,7 +37,7 @@ stored_older version days issuer policy last =
     number 1 ∷ Null ∷ number (version_number version) ∷ Blob issuer.name ∷ Blob issuer.key ∷ number days
     ∷ number policy.crl_life ∷ number policy.ocsp_life ∷ number policy.cap ∷ number last ∷ []
 
--- each record is one row of its table, and each row is one record, as in a register of the program's version
+-- each record is one row of its table, and each row is one record, as in a register of the program's version; serial numbers are valid
 pub record AreRecords (trees : Trees) (records : Records) : Type 0 where
   pub subscribers : trees 1 ≡ map stored_subscriber records.subscribers
   pub orders : trees 3 ≡ map stored_order records.orders
@@ -53,14 +53,14 @@ pub record AreRecords (trees : Trees) (records : Records) : Type 0 where
   pub request_serials : HaveSerials (λ row. row.serial) records.requests
   pub revocation_serials : HaveSerials (λ row. row.serial) records.revocations
 
--- the derived tables of version 2 may have any rows whose rowids are numbers: they are rebuilt
+-- the derived tables of version 2 may have any rows whose rowids are integers: they are rebuilt; version 1 has no derived tables
 abbrev pub HasDerivedRows : OlderVersion → Trees → Type 0
 HasDerivedRows First trees = Unit {0}
 HasDerivedRows Second trees =
     AllByRecursion IsNumbered (trees 12) × AllByRecursion IsNumbered (trees 14)
     × AllByRecursion IsNumbered (trees 15)
 
--- the database has the schema of an older version, and its tables show the records, whose schedule has one step
+-- the database has the schema of an older version, and its tables show the records, whose policy is valid and whose schedule has one step
 pub record IsShownByOlder (version : OlderVersion) (db : Database) (records : Records) : Type 0 where
   pub schema : db.schema ≡ older_schema version
   pub days : ℕ
@@ -70,6 +70,6 @@ pub record IsShownByOlder (version : OlderVersion) (db : Database) (records : Re
   pub rows : AreRecords db.trees records
   pub beside : HasDerivedRows version db.trees
 
--- if the disk returned what was written, and the connection is open, its tables are of an older version, and show the records
+-- if the disk returned what was written, and the connection is open, its tables are of an older version, show the records, and are committed
 abbrev pub ShowsOlder : {S : Type 0} → OlderVersion → Ghosts S → Held S → Records → Type 0
 ShowsOlder version g h records = Holds g h (λ db. IsShownByOlder version db records)

@@ -26,7 +26,7 @@ use Rattle.reg_store_migration.specs.Older.{with_derived_tables, older_schema, s
 use Rattle.reg_store_migration.specs.Refilled.{no_derived_rows, no_counts, with_letters, AreIssued, listed_by, with_listed, HasRelisted, HasKept, HasGreatestDays}
 use Rattle.reg_store_migration.specs.declared.version.OlderVersion.{OlderVersion}
 
--- a text that defines a table or an index makes it, and all rows stay
+-- a text that defines a table or an index makes it, the new table has no rows, and all rows stay
 pub record Defines (text : List ℕ) (old new : Database) : Type 0 where
   pub table : (schema : Schema) (table : Table) (rows : Trees) → DefinesTable schema text table
       → rows (next_tree schema) ≡ [] → HasRows schema rows old
@@ -35,12 +35,12 @@ pub record Defines (text : List ℕ) (old new : Database) : Type 0 where
       → DefinesIndex schema text at table index → HasRows schema rows old
       → HasRows (indexed schema table index) rows new
 
--- the derived tables are made
+-- the derived tables are made, without rows
 abbrev pub AddsDerivedTables : Database → Database → Type 0
 AddsDerivedTables old new =
     (rows : Trees) → HasRows record_tables rows old → HasRows with_derived_tables (records_alone rows) new
 
--- the table of the schedule is made, and the indexes
+-- the table of the schedule is made, without rows, and the indexes
 abbrev pub AddsSchedule : Database → Database → Type 0
 AddsSchedule old new =
     (rows : Trees) → rows 17 ≡ [] → HasRows with_derived_tables rows old → HasRows register_schema rows new
@@ -65,14 +65,14 @@ PutsCounts old new =
     (rows : Trees) → rows 14 ≡ [] → HasRows register_schema rows old
     → HasRows register_schema (with_rows 14 (stored_counts no_counts ∷ []) rows) new
 
--- older tables become those of the program's version, with empty derived tables
+-- older tables become those of the program's version, with derived tables that have only counts of 0
 pub record BeginsTables (version : OlderVersion) (days : ℕ) (old new : Database) : Type 0 where
   pub both : (records : Records) → records.policy.schedule ≡ one_step days
       → IsShownByOlder version old records
       → AreRecordsAndDerived new records (no_derived_rows records.policy.schedule)
   pub schema : old.schema ≡ older_schema version → new.schema ≡ register_schema
 
--- each certificate gets its letter at the last accepted moment
+-- if there are no letters, each certificate of sound records gets its letter at the last accepted moment
 abbrev pub FillsLetters : ℕ → Database → Database → Type 0
 FillsLetters last old new =
     (records : Records) (columns : DerivedRows) → SoundRows records → records.last ≡ last
@@ -106,7 +106,7 @@ Relists old new =
     (records : Records) → SoundRows records → HasRelisted old records 0
     → HasRelisted new records (length records.revocations)
 
--- the derived tables are rebuilt: they match the records at the last accepted moment
+-- the derived tables are rebuilt: they match sound records at the last accepted moment, and the office has the greatest days of the schedule
 pub record RebuildsDerived (last : ℕ) (old new : Database) : Type 0 where
   pub kept : (records : Records) → SoundRows records → records.last ≡ last
       → AreRecordsAndDerived old records (no_derived_rows records.policy.schedule)
@@ -115,7 +115,7 @@ pub record RebuildsDerived (last : ℕ) (old new : Database) : Type 0 where
 
 -- Tables of an older version, with this longest validity in days and this last accepted moment, become those of the program's version.
 pub record MigratesTables (version : OlderVersion) (days last : ℕ) (old new : Database) : Type 0 where
-  -- the tables show the same records, with derived tables that match them, and the office has the greatest days of their schedule
+  -- the tables show the same sound records, with derived tables that match them, and the office has the greatest days of their schedule
   pub kept : (records : Records) → IsShownByOlder version old records → SoundRows records
       → records.policy.schedule ≡ one_step days → records.last ≡ last
       → HasKept new records × HasGreatestDays new records × IsDatabase new

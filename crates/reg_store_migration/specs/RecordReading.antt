@@ -9,7 +9,7 @@ use Rattle.reg_store_tables.specs.ReadStatements.{command_of}
 use Rattle.reg_store_tables.specs.Schema.{register_schema}
 use Rattle.reg_store_tables.specs.Shows.{AreRecordsAndDerived, IsShownBy}
 
--- the rows are what a text reads of a register's tables
+-- if the schema is a register's, the rows are those that a text reads of the tables
 abbrev pub AreAnswer : List ℕ → Row → List Row → Database → Type 0
 AreAnswer text params rows db =
     db.schema ≡ register_schema → Reads (command_of (understood register_schema text)) db params rows

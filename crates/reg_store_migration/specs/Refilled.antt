@@ -25,7 +25,7 @@ no_derived_rows schedule =
 abbrev pub with_letters : List Standing → DerivedRows → DerivedRows
 with_letters letters columns = record columns { letters = letters }
 
--- one letter for each certificate, as at the last accepted moment
+-- one letter for each certificate, that at the last accepted moment, in any order
 abbrev pub HasLetters : DerivedRows → Records → Type 0
 HasLetters columns records = IsPermutation (map (standing_of records) records.certificates) columns.letters
 
@@ -33,7 +33,7 @@ HasLetters columns records = IsPermutation (map (standing_of records) records.ce
 abbrev pub AreIssued : List CrlRow → Type 0
 AreIssued crls = NumberedFrom (λ crl. crl.number) 1 crls × NeverDecreases (λ crl. crl.this_update) crls
 
--- the number of the first CRL from a number on whose thisUpdate is past a moment (RFC 5280 3.3)
+-- the number of the first CRL from a number on whose thisUpdate is after a moment (RFC 5280 3.3); `None` if there is none
 abbrev pub last_in : List CrlRow → ℕ → ℕ → Option ℕ
 last_in crls first not_after =
     option_map (λ crl. crl.number)
@@ -54,7 +54,7 @@ listed_by crls revocation not_after = record {
 abbrev pub with_listed : Listed → DerivedRows → DerivedRows
 with_listed row columns = record columns { listed = columns.listed ++ row ∷ [] }
 
--- the letters match the records, the first `n` revocations have their rows of `listed`, and the office's days are the greatest of the schedule
+-- the letters match the records, `listed` has the rows of the first `n` revocations, and the office's days are the greatest of the schedule
 abbrev pub HasRelisted : Database → Records → ℕ → Type 0
 HasRelisted db records n =
     (columns : DerivedRows) × AreRecordsAndDerived db records columns × HasLetters columns records

@@ -17,15 +17,15 @@ use reg_store_tables::write_statements::{sql_moment, sql_number, sql_reason, wri
 use sqlite::types::ValueRef;
 use sqlite::{Alter, Transaction};
 
-/// Whether the CRL can list the revocation whose first CRL this is, and is past its certificate's notAfter.
+/// Whether the CRL's number is at least `first` and its thisUpdate is after `not_after`.
 fn is_past(crl: &CrlRow, first: u64, not_after: Moment) -> bool
     ensures { result ≡ (nat_le first crl.now.number && nat_lt not_after crl.now.this_update) }
 {
     first <= crl.number && not_after < crl.this_update
 }
 
-/// The number of the first CRL, from the number `first` on, whose thisUpdate is after `not_after`. The numbers rise and the
-/// thisUpdates do not fall, so a binary search finds it.
+/// The number of the last CRL that lists a revocation: the first, from the number `first` on, whose thisUpdate is after `not_after`.
+/// `None` if there is none yet. If the numbers rise and the thisUpdates do not fall, a binary search finds it.
 fn last_listing(crls: &[CrlRow], first: u64, not_after: Moment) -> Option<u64>
     ensures { AreIssued crls.now → result ≡ last_in crls.now first not_after }
 {

@@ -20,7 +20,7 @@ fn set_version<S: Alter>(tx: &mut Transaction<'_, S>) -> Result<(), DatabaseFaul
     Ok(())
 }
 
-/// Writes the row of the table `kept`, with counts of 0.
+/// Inserts the row of the table `kept`, with counts of 0. Errors: `Memory`; `Store` if the database fails or already has the row.
 pub fn put_counts<S: Alter>(tx: &mut Transaction<'_, S>) -> Result<(), DatabaseFault>
     ensures made { MakesRows S.Store tx.old tx.new result PutsCounts }
     ensures stepped { Stepped S.Store tx.old tx.new }

@@ -1,4 +1,4 @@
-//! The tables and indexes that an older version lacks.
+//! Makes the tables and indexes that an older version lacks. Errors: those of [`define`].
 
 ghost use Rattle.reg_store_tables.specs.Schema.{register_schema};
 ghost use Rattle.reg_store_tables.specs.Stays.{Stepped};
@@ -12,7 +12,7 @@ use reg_store_tables::write_statements::write;
 use reg_store_tables::{DatabaseFault, schema};
 use sqlite::{Alter, Transaction};
 
-/// Makes one table or index. `Store` too if the database already has that name.
+/// Makes one table or index. Errors: `Memory`; `Store` if the database fails or already has that name.
 pub fn define<S: Alter>(tx: &mut Transaction<'_, S>, sql: &str) -> Result<(), DatabaseFault>
     ensures made { Makes S.Store tx.old tx.new result (Defines sql.now) }
     ensures stepped { Stepped S.Store tx.old tx.new }
@@ -21,7 +21,7 @@ pub fn define<S: Alter>(tx: &mut Transaction<'_, S>, sql: &str) -> Result<(), Da
     Ok(())
 }
 
-/// Makes the derived tables.
+/// Makes the derived tables, without rows.
 pub fn make_derived_tables<S: Alter>(tx: &mut Transaction<'_, S>) -> Result<(), DatabaseFault>
     ensures made { Makes S.Store tx.old tx.new result AddsDerivedTables }
     ensures stepped { Stepped S.Store tx.old tx.new }
@@ -55,7 +55,7 @@ fn make_or_clear_derived_tables<S: Alter>(
     }
 }
 
-/// Makes the table of the schedule, and the indexes.
+/// Makes the table of the schedule, without rows, and the indexes `crl_at` and `standing_due`.
 pub fn make_schedule_and_indexes<S: Alter>(tx: &mut Transaction<'_, S>) -> Result<(), DatabaseFault>
     ensures made { Makes S.Store tx.old tx.new result AddsSchedule }
     ensures stepped { Stepped S.Store tx.old tx.new }
@@ -65,7 +65,7 @@ pub fn make_schedule_and_indexes<S: Alter>(tx: &mut Transaction<'_, S>) -> Resul
     define(tx, schema::STANDING_DUE)
 }
 
-/// Makes all tables and indexes that the version lacks, with empty derived tables.
+/// Makes all tables and indexes that the version lacks. Afterwards the derived tables have no rows.
 pub(crate) fn make_missing<S: Alter>(
     tx: &mut Transaction<'_, S>,
     version: OlderVersion,

@@ -19,7 +19,6 @@ use reg_store_tables::sql::CERT_BY_SERIAL;
 use sqlite::types::ValueRef;
 use sqlite::{Alter, Row, Transaction, params};
 
-/// The rows that a query returns.
 pub(crate) fn ask<S: Alter>(
     tx: &mut Transaction<'_, S>,
     sql: &str,
@@ -53,7 +52,7 @@ pub(crate) fn crls<S: Alter>(tx: &mut Transaction<'_, S>) -> Result<Vec<CrlRow>,
     Ok(rows_in::<CrlRow>(*found.allocator(), &found)?)
 }
 
-/// The notAfter in the only row. `Store` for any other rows.
+/// The notAfter of the certificate in the only row. `Store` for any other rows.
 fn end_in(rows: &[Row]) -> Result<Moment, DatabaseFault>
     ensures read { IfOk result (λ end. (row : Values) × (rows.now ≡ row ∷ [])
         × ((certificate : CertRow) → IsSerial certificate.serial → row ≡ shown_certificate certificate

@@ -18,8 +18,8 @@ abbrev pub IsCreated : {S : Type 0} → Held S → Issuer → Terms → Trees �
 IsCreated old issuer policy trees =
     (old.schema ≡ no_schema) × ShowsDerivedAfterStop (no_records issuer policy) trees
 
--- the rows after an opening that writes: tables of an older version were migrated to the program's version, and show the same
--- records, with derived tables that match them
+-- the rows after an opening that writes: the tables were of an older version; if they showed sound records, the rows show the same
+-- records in tables of the program's version, with derived tables that match them
 abbrev pub IsOpened : {S : Type 0} → Ghosts S → Held S → Trees → Type 0
 IsOpened g old trees =
     IsOlder (state g old).now × ((version : OlderVersion) (records : Records)

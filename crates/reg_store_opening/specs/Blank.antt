@@ -26,7 +26,7 @@ IsBlank tables db = HasRows tables no_rows db
 abbrev pub entry_tables : Schema
 entry_tables = created (created (created (created no_schema office) subscriber) orders) cert
 
--- empty tables are added to a database with empty tables
+-- if the tables of a schema have no rows, they become those of a later schema, without rows
 abbrev pub Grows : Schema → Schema → Database → Database → Type 0
 Grows tables later old new = IsBlank tables old → IsBlank later new
 
@@ -35,12 +35,12 @@ abbrev pub office_alone : Issuer → Terms → Trees
 office_alone issuer policy =
     with_rows 0 (stored_office (pos (greatest_of policy.schedule)) issuer policy 0 ∷ []) no_rows
 
--- the office's row is inserted into the empty tables of a register
+-- the office's row is inserted into the empty tables of a register, and the policy is valid
 abbrev pub PutsOffice : Issuer → Terms → Database → Database → Type 0
 PutsOffice issuer policy old new =
     IsBlank register_schema old → IsPolicy policy × HasRows register_schema (office_alone issuer policy) new
 
--- tables of a schema, which have no rows, become those of a register with no records, and obey their schema
+-- if the tables of a schema have no rows, they become those of a register with no records, and obey their schema
 abbrev pub CreatesRegister : Schema → Issuer → Terms → Database → Database → Type 0
 CreatesRegister tables issuer policy old new =
     IsBlank tables old

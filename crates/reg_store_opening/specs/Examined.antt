@@ -21,7 +21,7 @@ HasVersionAndOffice db None = IsCurrent db
 HasVersionAndOffice db (Some older) =
     HasVersion db (version_number older.version) × ReadsOlder db older.days older.last
 
--- the result matches the records that tables of a version show: for an older version, their schedule and their last accepted moment
+-- the result matches records of a version: none for the program's; for an older one, the version, their schedule and last accepted moment
 abbrev pub IsFoundOf : Option OlderVersion → Records → Option OlderOffice → Type 0
 IsFoundOf None records found = found ≡ None
 IsFoundOf (Some version) records None = ⊥
@@ -34,21 +34,22 @@ found_version None = None
 found_version (Some older) = Some older.version
 
 module _ {S : Type 0} (g : Ghosts S) (old new : Held S) where
-  -- `IsSo` holds of a result and of the database, which was open
+  -- if the call succeeds, and the disk returned what was written, the connection was open, and `IsSo` holds of the result and the database
   abbrev pub ReportsState : {T E : Type 0} → Result T E → (T → Database → Type 0) → Type 0
   ReportsState result IsSo =
       HasCleanDisk (state g new)
       → IfOk result (λ found. IsTrue (state g old).is_open × IsSo found (state g old).now)
 
-  -- `NewVersion` is reported only of a database with a newer version, and `NotARegister` (below) only of one of which `Refused` holds
+  -- `NewVersion` is reported only of a database with a newer version, if the disk returned what was written
   abbrev pub ReportsNewer : {T : Type 0} → Result T StoreFault → Type 0
   ReportsNewer result = HasCleanDisk (state g new) → result ≡ Err NewVersion → IsNewer (state g old).now
 
+  -- `NotARegister` is reported only of a database of which `Refused` holds, if the disk returned what was written
   abbrev pub ReportsNone : {T : Type 0} → Result T StoreFault → (Database → Type 0) → Type 0
   ReportsNone result Refused =
       HasCleanDisk (state g new) → result ≡ Err NotARegister → Refused (state g old).now
 
-  -- If the tables show records, what was found matches them; and if these are in their ranges, only a failure of memory or the database refuses them.
+  -- If the tables show records, a result is one of which `Found` holds; an error is of memory or the database, if the records are `InRange`.
   abbrev pub Finds : {T : Type 0} → Result T StoreFault → (Database → Records → Type 0)
       → (T → Records → Type 0) → Type 0
   Finds result Shown Found =

@@ -34,7 +34,7 @@ use Rattle.reg_store_schema.specs.declared.versions.Version.{Version}
 use Rattle.reg_store_schema.specs.declared.versions.Version.TheVariants as version
 use Rattle.reg_store_migration.specs.declared.version.OlderVersion.TheVariants.{First, Second}
 
--- a failure of memory, of the disk or the connection, or by the limit on steps that the caller has set
+-- the error is out of memory, of the disk, of a closed connection, or of the limit on steps that the caller has set
 abbrev pub is_call_error : Error → Bool
 is_call_error (SqliteFailure code.OutOfMemory) = true
 is_call_error (SqliteFailure code.SystemIoFailure) = true
@@ -44,18 +44,19 @@ is_call_error (SqliteFailure code.Closed) = true
 is_call_error (SqliteFailure code.OperationInterrupted) = true
 is_call_error _ = false
 
--- whatever the tables are, the text is one statement that only reads, without parameters or the time
+-- the text is one statement, without RETURNING, the time or parameters
 pub record NeverWrites (text : List ℕ) (compiled : Compiled) : Type 0 where
   pub returning : compiled.returning ≡ None
   pub formats : compiled.formats ≡ []
   pub names : length compiled.names ≡ 0
   pub whole : length text ≤ compiled.tail
 
+-- `NeverWrites` holds of the text over each schema over which it compiles
 abbrev pub IsQuery : List ℕ → Type 0
 IsQuery text =
     (schema : Schema) (compiled : Compiled) → understood schema text ≡ Ok compiled → NeverWrites text compiled
 
--- over the tables of a schema, the statement fails only if memory or the disk does, or by the limit on steps
+-- over a schema, the text compiles without RETURNING, reads neither the time nor the list of tables, and its errors pass `is_call_error`
 pub record IsNeverRefused (schema : Schema) (text : List ℕ) : Type 0 where
   pub plain : IsPlain (understood schema text)
   pub unlisted : reads_listing schema text ≡ false
@@ -74,7 +75,7 @@ pub record IsRead (db : Database) (text : List ℕ) (rows : List Row) : Type 0 w
 abbrev pub IsOne : (Row → Type 0) → List Row → Type 0
 IsOne P rows = (row : Row) × (rows ≡ row ∷ []) × P row
 
--- the number of the program's version, or of an older one
+-- the number of the version; `None` is the program's
 abbrev pub version_of : Option OlderVersion → ℕ
 version_of None = 3
 version_of (Some version) = version_number version
@@ -95,7 +96,7 @@ pub record IsOfVersion (version : Option OlderVersion) (db : Database) : Type 0 
 abbrev pub AreVersionRows : ℕ → List Row → Type 0
 AreVersionRows version rows = IsOne (λ row. column row 0 ≡ number version) rows
 
--- the one row of the office has this version
+-- the statement `VERSION` returns one row, with this version
 abbrev pub HasVersion : Database → ℕ → Type 0
 HasVersion db version = (rows : List Row) × IsRead db VERSION.now rows × AreVersionRows version rows
 
@@ -108,11 +109,11 @@ abbrev pub IsShownAs : Option OlderVersion → Database → Records → Type 0
 IsShownAs None db records = IsShownBy db records
 IsShownAs (Some version) db records = IsShownByOlder version db records
 
--- `IsShownAs`, if the disk returned what was written, and the connection is open
+-- `IsShownAs`, and all is committed, if the disk returned what was written, and the connection is open
 abbrev pub ShowsAs : {S : Type 0} → Option OlderVersion → Ghosts S → Held S → Records → Type 0
 ShowsAs version g held records = Holds g held (λ db. IsShownAs version db records)
 
--- the rows are these steps of a schedule
+-- the rows begin with the columns of these steps, one row for each
 abbrev pub AreSteps : List Row → List (ℕ × ℕ) → Type 0
 AreSteps [] [] = Unit {0}
 AreSteps [] (step ∷ steps) = ⊥
@@ -124,7 +125,7 @@ AreSteps (row ∷ rows) (step ∷ steps) =
 abbrev pub HaveMoments : List (ℕ × ℕ) → Type 0
 HaveMoments steps = AllByRecursion (λ step. IsMoment step.0) steps
 
--- the row of an office has this policy, with this schedule
+-- the row of an office has this policy, which is valid and has this schedule
 abbrev pub HasPolicy : List (ℕ × ℕ) → Row → Terms → Type 0
 HasPolicy schedule row policy =
     IsPolicy policy × (policy.schedule ≡ schedule)
@@ -135,7 +136,7 @@ HasPolicy schedule row policy =
 abbrev pub HasLast : Row → ℕ → Type 0
 HasLast row last = (last < clock_end) × (column row 5 ≡ number last)
 
--- the row of an office has this issuer, which is within its limits
+-- the row of an office has this issuer, which is valid
 abbrev pub HasIssuer : Row → Issuer → Type 0
 HasIssuer row issuer = IsIssuer issuer × (column row 0 ≡ Blob issuer.name) × (column row 1 ≡ Blob issuer.key)
 
@@ -209,20 +210,20 @@ abbrev pub IsRefusedText : Database → List ℕ → Type 0
 IsRefusedText db text =
     ((error : CompileError) × (understood db.schema text ≡ Err error)) ⊎ IsRefusedOverRows db text
 
--- the tables have no version: its statement fails, or does not return one row with a number from 1 on
+-- the tables have no version: the statement `VERSION` fails, or does not return one row with a number from 1 on
 abbrev pub HasNoVersion : Database → Type 0
 HasNoVersion db =
     IsRefusedText db VERSION.now
     ⊎ ((rows : List Row) × IsRead db VERSION.now rows × ((n : ℕ) → 1 ≤ n → ¬ AreVersionRows n rows))
 
--- the tables have no office: its statements fail, or a value is out of its range
+-- the tables have no office: one of the two statements fails, or their rows are not `AreOfficeRows`
 abbrev pub HasNoOfficeRow : Database → Type 0
 HasNoOfficeRow db =
     (IsRefusedText db OFFICE.now ⊎ IsRefusedText db STEPS.now)
     ⊎ ((rows : List Row) × (steps : List Row) × IsRead db OFFICE.now rows × IsRead db STEPS.now steps
     × (¬ AreOfficeRows rows steps))
 
--- the tables have no older office: its statement fails, or a value is out of its range
+-- the tables have no older office: its statement fails, or its rows are not `AreOlderOffice`
 abbrev pub HasNoOlderOffice : Database → Type 0
 HasNoOlderOffice db =
     IsRefusedText db OLDER_OFFICE.now ⊎ ((rows : List Row) × IsRead db OLDER_OFFICE.now rows
@@ -248,13 +249,13 @@ abbrev pub HasOfficeRowOf : Option OlderVersion → Database → Type 0
 HasOfficeRowOf None db = HasOfficeRow db
 HasOfficeRowOf (Some version) db = HasOlderOffice db
 
--- without a view, a version from 1 on that the tables have is at most the program's, and its office is missing or the schema is not its own
+-- if there is no view, a version that the tables have is 0, or at most the program's, and then its office is missing or the schema differs
 abbrev pub HoldsNoRegister : Database → Type 0
 HoldsNoRegister db =
     db.schema.views ≡ [] → (n : ℕ) → 1 ≤ n → HasVersion db n → (version : Option OlderVersion)
     × (n ≡ version_of version) × ((¬ HasOfficeRowOf version db) ⊎ (db.schema ≢ schema_of version))
 
--- the issuer, the moments of the schedule, and the last accepted moment are within their ranges, as those of a register always are
+-- the issuer, the moments of the schedule, and the last accepted moment are within their ranges
 pub record InRange (records : Records) : Type 0 where
   pub issuer : IsIssuer records.issuer
   pub moments : HaveMoments records.policy.schedule

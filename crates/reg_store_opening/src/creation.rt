@@ -49,8 +49,9 @@ fn found<S: Alter>(
     commit(tx)
 }
 
-/// Makes the tables of a register with no records, with this issuer, this policy, and 0 as last accepted moment. Errors: `NotEmpty`
-/// if the database has a table, an index or a view; `Memory`; `Store` if the database fails. An error changes nothing, unless the disk failed in the commit.
+/// Makes the tables of a register with no records, with this issuer, this policy, and 1970-01-01T00:00:00Z as last accepted moment. Errors:
+/// `NotEmpty` if the database has a table, an index or a view; `Memory`; `Store` if the database fails. An error changes nothing, unless the
+/// disk failed in the commit.
 pub fn create<S: Alter>(
     conn: &mut Connection<S>,
     issuer: &Issuer,

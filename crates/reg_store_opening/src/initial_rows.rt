@@ -36,7 +36,6 @@ fn put_office<S: Alter>(
     Ok(())
 }
 
-/// Writes the first rows into empty tables.
 pub(crate) fn fill<S: Alter>(
     tx: &mut Transaction<'_, S>,
     issuer: &Issuer,

@@ -31,7 +31,7 @@ fn version_in(rows: &[Row]) -> Option<u64>
     number_at(only(rows)?, 0)
 }
 
-/// The version of the tables if it is older than the program's; `None` if it is the program's.
+/// The version in the only row if it is older than the program's; `None` for 3. `NewVersion` above 3; `NotARegister` for 0 and other rows.
 pub(crate) fn version_in_rows(rows: &[Row]) -> Result<Option<OlderVersion>, StoreFault>
     ensures ok { IfOk result (λ found. AreVersionRows (version_of found) rows.now) }
     ensures newer { result ≡ Err StoreFault.NewVersion → (n : ℕ) × (3 < n) × AreVersionRows n rows.now }

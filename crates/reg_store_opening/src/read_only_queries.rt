@@ -1,4 +1,4 @@
-//! Runs statements that only read, whatever the tables are.
+//! Runs statements that only read, over any tables, perhaps not a register's.
 
 ghost use Rattle.std.specs.Prelude.{◌≡◌, ◌⊎◌, false, IsTrue, IfErr};
 ghost use Rattle.sqlite.specs.Held.{state};
@@ -12,8 +12,8 @@ ghost use Rattle.reg_store_tables.specs.Steps.{Asks, WhileOpen};
 use reg_store_tables::StoreFault;
 use sqlite::{Alter, Error, ErrorCode, Row, Transaction};
 
-/// The fault for a statement that failed: the tables are not a register's, unless memory, the disk, a closed connection or the
-/// limit on steps is the cause.
+/// The fault for a statement that failed: `Memory`; `Store` if the disk, a closed connection or the limit on steps is the cause; otherwise
+/// `NotARegister`.
 fn unread(error: Error) -> StoreFault
     ensures call { IsTrue (is_call_error error) → IsDatabaseFault result }
     ensures other { is_call_error error ≡ false → result ≡ StoreFault.NotARegister }
@@ -29,7 +29,6 @@ fn unread(error: Error) -> StoreFault
     }
 }
 
-/// The rows that a query returns.
 pub(crate) fn read_rows<S: Alter>(
     tx: &mut Transaction<'_, S>,
     sql: &str,

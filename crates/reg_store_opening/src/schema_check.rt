@@ -9,7 +9,7 @@ use reg_store_schema::{Version, version_of};
 use sqlite::{Alter, Connection};
 use std::alloc::{AllocError, Global};
 
-/// Whether `tables`, the version that has the schema, is `version`; `None` of `version` is the program's version.
+/// Whether `tables`, the version that has the schema, is `version`, which is `None` for the program's version.
 pub(crate) fn is_same(tables: Option<Version>, version: Option<OlderVersion>) -> bool
     ensures { IsTrue result ↔ (tables ≡ Some (version_or_current version)) }
 {
@@ -20,8 +20,8 @@ pub(crate) fn is_same(tables: Option<Version>, version: Option<OlderVersion>) ->
     }
 }
 
-/// The version whose schema the database has; `None` if it is that of no version. No transaction is under way, so it is the schema that
-/// was committed last.
+/// The version whose schema the database has; `None` if no version has it. No transaction is under way, so the schema is the one that
+/// was committed last. Error: out of memory.
 pub(crate) fn schema_version<S: Alter>(
     alloc: Global,
     conn: &Connection<S>,

@@ -6,9 +6,9 @@ pub const PUT_OFFICE: &str =
 
 pub const VERSION: &str = "SELECT version FROM office";
 
-/// The other columns of that row, except `days`, which in version 3 only an audit reads.
+/// The columns of the row of `office` that an opening checks after the version. In version 3 only an audit reads `days`.
 pub const OFFICE: &str = "SELECT name, pubkey, crl_life, ocsp_life, cap, last_at FROM office";
 
-/// The other columns of that row in an older version. The schedule is the one step of its `days`.
+/// The same columns in an older version, and `days`: the schedule is the one step of these days.
 pub const OLDER_OFFICE: &str =
     "SELECT name, pubkey, crl_life, ocsp_life, cap, last_at, days FROM office";

@@ -15,7 +15,7 @@ use std::alloc::{AllocError, Global};
 
 // Here only an allocation can fail: each statement is valid, and each name is UTF-8.
 
-/// Adds the automatic index of one UNIQUE of a table.
+/// Adds the automatic index of one UNIQUE of a table, that with index `at`.
 fn add_key(
     alloc: Global,
     indexes: &mut Items<Index>,
@@ -48,7 +48,6 @@ fn add_keys(alloc: Global, indexes: &mut Items<Index>, table: &Table) -> Result<
     Ok(())
 }
 
-/// The number of the next B-tree.
 fn next_tree(made: &Schema) -> Result<u32, AllocError>
     ensures { IfOk result (λ tree. tree ≡ next_tree made.now) }
 {
@@ -86,7 +85,7 @@ fn add_index(alloc: Global, made: &mut Schema, at: usize, text: &str) -> Result<
     made.indexes.push(index)
 }
 
-/// Adds the tables of the records to an empty schema.
+/// Adds the tables of the office and the records to an empty schema.
 pub(crate) fn add_records(alloc: Global, made: &mut Schema) -> Result<(), AllocError>
     ensures { made.old ≡ no_schema → OnOk result (made.new ≡ record_tables) }
 {
@@ -99,7 +98,6 @@ pub(crate) fn add_records(alloc: Global, made: &mut Schema) -> Result<(), AllocE
     add_table(alloc, made, schema::CRL)
 }
 
-/// Adds the derived tables.
 pub(crate) fn add_derived_tables(alloc: Global, made: &mut Schema) -> Result<(), AllocError>
     ensures { made.old ≡ record_tables → OnOk result (made.new ≡ with_derived_tables) }
 {

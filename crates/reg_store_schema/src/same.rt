@@ -9,7 +9,6 @@ use sqlite_value::value::Bytes;
 
 /// A part of a schema, which can be compared.
 pub(crate) trait Same {
-    /// Whether two parts are the same.
     fn is_same(&self, other: &Self) -> bool
         ensures { IsTrue result ↔ (self.now ≡ other.now) };
 }

@@ -10,8 +10,8 @@ use crate::versions::Version;
 use sqlite_schema::schema::Schema;
 use std::alloc::{AllocError, Global};
 
-/// The version that has exactly this schema: the same tables, with their columns, keys, CHECKs and references, the same indexes, and no
-/// view. `None` if no version has it.
+/// The version that has exactly this schema: the same tables, with their columns, keys, CHECKs and references, and the same indexes, all
+/// made in the same order, and no view or trigger. `None` if no version has it.
 ///
 /// # Errors
 /// Out of memory.
@@ -35,7 +35,6 @@ pub fn version_of(alloc: Global, schema: &Schema) -> Result<Option<Version>, All
     Ok(None)
 }
 
-/// Whether a version is the program's.
 fn is_third(version: Option<Version>) -> bool
     ensures { IsTrue result ↔ (version ≡ Some Version.Third) }
 {

@@ -48,7 +48,6 @@ fn operand(term: TermRef<'_>, depth: usize, at: usize) -> TermRef<'_>
     }
 }
 
-/// Whether a term is NULL.
 fn is_null(term: TermRef<'_>) -> bool
     ensures { IsTrue result ↔ (term_to term.entry.nodes.now term.entry.depth term.entry.at ≡ lit Null) }
 {
@@ -59,7 +58,6 @@ fn is_null(term: TermRef<'_>) -> bool
     }
 }
 
-/// Whether two terms are the same.
 fn same_term(left: TermRef<'_>, right: TermRef<'_>) -> bool
     ensures { IsTrue result ↔ (term_to left.entry.nodes.now left.entry.depth left.entry.at
         ≡ term_to right.entry.nodes.now right.entry.depth right.entry.at) }

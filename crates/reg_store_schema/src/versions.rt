@@ -3,10 +3,10 @@
 /// A version of a register's tables.
 #[derive(Clone, Copy, PartialEq, Eq)]
 pub enum Version {
-    /// Version 1: the tables of the records alone.
+    /// Version 1: only the tables of the office and the records.
     First,
-    /// Version 2: it also has the derived tables (state letters, counts, entries of CRLs).
+    /// Version 2: also the derived tables (state letters, counts, entries of CRLs).
     Second,
-    /// Version 3: it also has the schedule and two indexes.
+    /// Version 3, the program's: also the schedule and two indexes.
     Third,
 }

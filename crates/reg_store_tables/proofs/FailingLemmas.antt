@@ -86,7 +86,7 @@ module _ (text : List ℕ) (params : Row) (reading : IsReading text) (asked : Is
       let source : fails.0 ≡ old.now = subst (λ b. IsSourceOf b old.now fails.0) (ap (λ s. reads_listing s text) schema ∙ reading.unlisted) fails.1 in
       inr (inr (asked.never old.step_limit fails.0 e (ap (λ (d : Database). d.schema) source ∙ schema) (subst (λ k. RefusesToRead old.step_limit k fails.0 params e) command refuses)))
 
-  -- a failure that is no want of memory is the disk's, or that of a shut connection, or of a limit on steps
+  -- a failure that is not out of memory is the disk's, or that of a closed connection, or of a limit on steps
   pub fails_by : FailsToQuery text params old new e → HasFailed old new
   unfolding FailsToQuery
   fails_by (inl h) = not_run h
@@ -180,7 +180,7 @@ failed_then {g = g} {a = a} {b = b} {c = c} first second clean (inr (inr limited
 
 -- ---- a value or a row that is read as what it is
 
--- want of memory is no failure of the store
+-- out of memory is no failure of the store
 pub memory_alone : {T : Type 0} (H : Type 0) (r : Result T DatabaseFault) → IfErr r (λ fault. fault ≡ call.Memory) → IfErr r (λ fault. fault ≡ Store → H)
 memory_alone H (Ok x) told = tt
 memory_alone H (Err fault) told = λ store. absurd (let no : call.Memory ≡ Store = sym told ∙ store in cc)

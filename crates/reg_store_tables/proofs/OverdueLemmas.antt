@@ -146,7 +146,7 @@ with_late p xs i x within is passed = ap (filter p) (take_more xs i x within ∙
 pub without_late : {A : Type 0} (p : A → Bool) (xs : List A) (i : ℕ) (x : A) → i < length xs → x ≡ get_or xs i x → p x ≡ false → filter p (take (i + 1) xs) ≡ filter p (take i xs)
 without_late p xs i x within is failed = ap (filter p) (take_more xs i x within ∙ ap (λ y. take i xs ++ y ∷ []) (sym is)) ∙ filter_append p (take i xs) x ∙ rw failed refl
 
--- no more rows of a front are kept than there are
+-- no more rows of a prefix are kept than there are
 pub front_within : {A : Type 0} (p q : A → Bool) (i : ℕ) (xs : List A) → length (filter p (take i (filter q xs))) ≤ length xs
 front_within p q i xs =
     let kept = fewer p (take i (filter q xs)) in

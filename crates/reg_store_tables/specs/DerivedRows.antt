@@ -6,7 +6,7 @@ use Rattle.sqlite_value.specs.Order.{Row, column}
 use Rattle.reg_core.specs.declared.command.Counts.{Counts}
 use Rattle.reg_store_tables.specs.Rows.{number, serial_value}
 
--- the state of a certificate at the last accepted moment: G, R or X
+-- the state letter of a certificate at the last accepted moment: G, R or X
 pub data Letter : Type 0 where
   good : Letter
   revoked : Letter
@@ -51,7 +51,7 @@ letter_counts rows =
       expired = with_letter is_expired_letter rows;
     }
 
--- the certificate is good, and ends before a moment
+-- the letter is that of a good certificate, whose notAfter is before a moment
 abbrev pub ends_before : ℕ → Standing → Bool
 ends_before now row = is_good_letter row.letter && nat_lt row.not_after now
 
@@ -71,7 +71,7 @@ pub record DerivedRows : Type 0 where
   pub listed : List Listed
   pub days : ℤ
 
--- the days in the one row of the office: the greatest of the schedule that the register was made with
+-- the column `days` in the first row of the office; Null if there is no row
 abbrev pub office_days : List Row → Value
 office_days [] = Null
 office_days (row ∷ rows) = column row 5

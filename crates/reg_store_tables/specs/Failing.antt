@@ -21,16 +21,16 @@ use Rattle.reg_store_tables.specs.ReadStatements.{command_of}
 use Rattle.reg_store_tables.specs.Schema.{register_schema}
 use Rattle.reg_store_tables.specs.RecordValues.{HasValues}
 
--- the database failed: its disk failed during the call, or the connection was closed, or the steps of a query are limited
+-- the database failed: its disk failed during the call, or the connection was closed, or the steps of a query were limited
 unfoldable pub HasFailed : State → State → Type 0
 HasFailed old new = MoreFaults old.faults new.faults ⊎ ((old.is_open ≡ false) ⊎ IsSome old.step_limit)
 
--- if a call reports this failure, the database failed
+-- if a call reports this failure, and the disk returned what was written, the database failed
 abbrev pub FailsWith : {T E : Type 0} → E → State → State → Result T E → Type 0
 FailsWith failure old new result =
     HasCleanDisk new → IfErr result (λ fault. fault ≡ failure → HasFailed old new)
 
--- the tables show records that a register writes, with derived tables that match them
+-- the tables show sound records, with a register's values, a valid issuer and policy, and derived tables that match them
 pub record ShowsWritten {S : Type 0} (g : Ghosts S) (h : Held S) (records : Records) : Type 0 where
   pub kept : ShowsKept g h records
   pub sound : SoundRows records
@@ -44,7 +44,7 @@ abbrev pub IsTaken : Result Compiled CompileError → List ℕ → Row → Type 
 IsTaken (Ok compiled) text params = (length text ≤ compiled.tail) × (length params ≡ length compiled.names)
 IsTaken (Err error) text params = ⊥
 
--- over the tables of a register, the statement with these parameters fails only because of a limit on its steps
+-- over a register's tables, the text is one statement with as many parameters as these, and fails only by a limit on its steps
 pub record IsAsked (text : List ℕ) (params : Row) : Type 0 where
   pub taken : IsTaken (understood register_schema text) text params
   pub never : (limit : Option ℕ) (db : Database) (error : Error) → db.schema ≡ register_schema

@@ -13,7 +13,7 @@ use Rattle.reg_store_tables.specs.declared.fault.RowFault.TheVariants as rows
 use Rattle.reg_store_tables.specs.declared.fault.StoreFault.{StoreFault}
 use Rattle.reg_store_tables.specs.declared.fault.StoreFault.TheVariants.{Memory, Store}
 
--- the fault of a call if the database was out of memory, or failed otherwise
+-- the fault of a call for an error of the database: out of memory, or another failure
 abbrev pub database_fault_of : Error → DatabaseFault
 database_fault_of (SqliteFailure OutOfMemory) = call.Memory
 database_fault_of _ = call.Store

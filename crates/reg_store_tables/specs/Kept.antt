@@ -27,7 +27,7 @@ standing_of records certificate = record {
   letter = letter_of (status records certificate.serial records.last);
 }
 
--- the notAfter of a serial number's certificate (RFC 5280 4.1.2.5)
+-- the notAfter of a serial number's certificate (RFC 5280 4.1.2.5); 0 if there is none
 abbrev pub not_after_of : Records → ℕ → ℕ
 not_after_of records serial =
     unwrap_or (option_map (λ certificate. certificate.not_after)
@@ -44,7 +44,7 @@ listed_of records revocation = record {
   last = last_listing records revocation;
 }
 
--- one letter for each certificate, the counts of the letters, and one row for each revocation, in any order
+-- one letter for each certificate, the counts at the last accepted moment, and one row for each revocation; the rows are in any order
 pub record Kept (columns : DerivedRows) (records : Records) : Type 0 where
   pub letters : IsPermutation (map (standing_of records) records.certificates) columns.letters
   pub counts : columns.counts ≡ counts records records.last

@@ -17,7 +17,7 @@ use Rattle.reg_store_tables.specs.declared.fault.DatabaseFault.TheVariants.{Stor
 
 -- ---- one statement
 
--- A query: it changes nothing, its result is these rows, and it reports `Store` only if the database failed.
+-- A query: it changes nothing, `view` of its result has the rows that the text reads, and it reports `Store` only if the database failed.
 pub record Queries {C T : Type 0} (g : Ghosts C) (old new : Held C) (text : List ℕ) (params : Row)
     (result : Result T DatabaseFault) (view : T → List Row) : Type 0 where
   pub looked : Looked g old new
@@ -26,7 +26,8 @@ pub record Queries {C T : Type 0} (g : Ghosts C) (old new : Held C) (text : List
   pub fails : IsAsked text params → IsRegister (state g old)
       → FailsWith Store (state g old) (state g new) result
 
--- A statement that reads: it changes nothing, it finds what its rows show, and it does not fail for a value that a register writes.
+-- A statement that reads: it changes nothing, and `view` of its result is the value that its rows show (`Shown`). If they show one by
+-- `ShownWell`, it reports `Store` only if the database failed.
 pub record ReadsBy {C T W : Type 0} (g : Ghosts C) (old new : Held C) (text : List ℕ) (params : Row)
     (result : Result T DatabaseFault)
     (view : T → W) (Shown ShownWell : State → List ℕ → Row → W → Type 0) : Type 0 where
@@ -74,13 +75,13 @@ Finds g old new result IsSo = FindsIf (λ records. Unit {0}) g old new result Is
 
 -- ---- look-ups, one after another
 
--- The look-ups change nothing, and `Tells` holds of the records, if the tables show sound records, with derived tables that match them.
+-- The look-ups change nothing. If the tables show sound records, with derived tables that match them, `Tells` holds of the records.
 pub record LooksUp {C : Type 0} (g : Ghosts C) (old new : Held C) (Tells : Records → Type 0) : Type 0 where
   pub looked : Looked g old new
   pub found : (records : Records) → ShowsKept g old records → SoundRows records
       → HasCleanDisk (state g new) → Tells records
 
--- `IsSo` holds of the records and of the result, if the look-ups succeed
+-- `LooksUp`: if the look-ups succeed, `IsSo` holds of the records and of the result
 abbrev pub Learns : {C T E : Type 0} → Ghosts C → Held C → Held C → Result T E
     → (Records → T → Type 0) → Type 0
 Learns g old new result IsSo = LooksUp g old new (λ records. IfOk result (IsSo records))

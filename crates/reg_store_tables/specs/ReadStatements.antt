@@ -21,12 +21,12 @@ use Rattle.reg_core.specs.declared.rows.Entry.{Entry}
 use Rattle.reg_store_tables.specs.Rows.{number, serial_value, ground_index}
 use Rattle.reg_store_tables.specs.Schema.{register_schema}
 
--- the command that a text means
+-- the command that a text is compiled to; `Nothing` if it does not compile
 abbrev pub command_of : Result Compiled CompileError → Command
 command_of (Ok compiled) = compiled.command
 command_of (Err error) = Nothing
 
--- whatever the tables are, the text is no write that returns rows
+-- whatever the schema is, the text has no RETURNING
 pub record NeverReturns (text : List ℕ) : Type 0 where
   pub none : (schema : Schema) (compiled : Compiled) → understood schema text ≡ Ok compiled
       → compiled.returning ≡ None

@@ -24,7 +24,7 @@ number n = Int (pos n)
 abbrev pub serial_value : ℕ → Value
 serial_value serial = Blob (serial_bytes serial)
 
--- rows of these columns, with rowids that rise by one
+-- rows of these columns, with rowids from `from` on, which rise by one
 abbrev pub behind_rowids : ℕ → List Row → List Row
 behind_rowids from [] = []
 behind_rowids from (columns ∷ rest) = (number from ∷ columns) ∷ behind_rowids (from + 1) rest
@@ -51,7 +51,7 @@ ground_index Inaccurate = 11
 abbrev pub version : ℕ
 version = 3
 
--- office: one, version, name, pubkey, days, crl_life, ocsp_life, cap, last_at; days is as it was first written (Shows.HasOfficeDays), and only an audit reads it
+-- office: one, version, name, pubkey, days, crl_life, ocsp_life, cap, last_at; only an audit reads days
 abbrev pub stored_office : ℤ → Issuer → Terms → ℕ → Row
 stored_office days issuer policy last =
     number 1 ∷ Null ∷ number version ∷ Blob issuer.name ∷ Blob issuer.key ∷ Int days ∷ number policy.crl_life

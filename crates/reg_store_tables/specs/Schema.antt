@@ -16,7 +16,7 @@ use Rattle.sqlite_schema.specs.declared.schema.Index.{Index}
 use Rattle.sqlite_schema.specs.declared.schema.Schema.{Schema}
 use Rattle.sqlite_catalog.specs.Change.{created, indexed}
 
--- a column of a STRICT table, NOT NULL or one that may be NULL
+-- a column of a STRICT table, without a default; `not_null`: it is NOT NULL
 abbrev pub column_of : List ℕ → Kind → Bool → Column
 column_of name kind not_null =
     record {
@@ -35,7 +35,7 @@ required name kind = column_of name kind true
 abbrev pub key_column : List ℕ → Column
 key_column name = column_of name Integer false
 
--- the column with this number refers to the column of another table
+-- the column with this number, from 1 on, refers to the column of another table
 abbrev pub refers : ℕ → List ℕ → List ℕ → Reference
 refers place parent parent_column = record {
   columns = place ∷ [];
@@ -46,7 +46,8 @@ refers place parent parent_column = record {
   is_deferred = false;
 }
 
--- a table: its columns, the column that is its rowid, the columns of its PRIMARY KEY and of each UNIQUE, its CHECKs and references
+-- a table: its columns; the index of the column that is its rowid; by the numbers of columns (0 is the rowid), its PRIMARY KEY and each
+-- UNIQUE; its CHECKs and references
 abbrev pub table_of : List ℕ → ℕ → List Column → Option ℕ → List ℕ → List (List ℕ) → List Term
     → List Reference → Table
 table_of name tree columns key primary uniques checks references = record {
@@ -64,7 +65,7 @@ table_of name tree columns key primary uniques checks references = record {
   is_counted = false;
 }
 
--- the CHECK that the only row has the key 1
+-- the CHECK that column 0 of a row, its rowid, is 1
 abbrev pub only_one : List Term
 only_one = op2 (Compare Eq Binary) (col 1 0) (lit (Int (pos 1))) ∷ []
 
@@ -158,31 +159,33 @@ longest = table_of (codes "longest") 17
     (key_column (codes "from_at") ∷ required (codes "days") Integer ∷ [])
     (Some 0) (0 ∷ []) [] [] []
 
--- the indexes crl (number, this_update) and standing (state, not_after), by the numbers of their columns; 0 is the rowid
+-- an index of a table, not unique, by the numbers of its columns; 0 is the rowid
 abbrev pub index_of : List ℕ → Table → List ℕ → Index
 index_of name table places =
     record { name = name; tree = 0; table = table.tree; columns = places; order = plain; is_unique = false }
 
+-- crl (number, this_update)
 abbrev pub crl_at : Index
 crl_at = index_of (codes "crl_at") crl (0 ∷ 2 ∷ [])
 
+-- standing (state, not_after)
 abbrev pub standing_due : Index
 standing_due = index_of (codes "standing_due") standing (3 ∷ 2 ∷ [])
 
 abbrev pub no_schema : Schema
 no_schema = record { tables = []; indexes = []; views = [] }
 
--- the tables of the records, in the order in which they are made
+-- the tables of the office and the records, in the order in which they are made
 abbrev pub record_tables : Schema
 record_tables =
     created (created (created (created (created (created (created no_schema office) subscriber) orders) cert)
     request) revocation) crl
 
--- the tables of the records, and then the derived tables
+-- those tables, and then the derived tables
 abbrev pub with_derived_tables : Schema
 with_derived_tables = created (created (created record_tables standing) kept) listed
 
--- the tables of the records, then the derived tables, then the schedule
+-- those tables, then the derived tables, then the schedule
 abbrev pub all_tables : Schema
 all_tables = created (created (created (created record_tables standing) kept) listed) longest
 

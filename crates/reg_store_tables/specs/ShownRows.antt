@@ -16,35 +16,35 @@ abbrev pub HasCells : ℕ → Row → Row → Type 0
 HasCells at row [] = Unit {0}
 HasCells at row (value ∷ values) = (column row at ≡ value) × HasCells (at + 1) row values
 
--- a row shows the wanted record
+-- a row shows the wanted record, and P holds of that
 pub record Found {A : Type 0} (P : A → Type 0) (view : A → Row) (wanted : Option A) (row : Row) : Type 0 where
   pub it : A
   pub first : Some it ≡ wanted
   pub holds : P it
   pub shown : row ≡ view it
 
--- one row shows the wanted record; if there is no row, no record is wanted
+-- if there is one row, it shows the wanted record; if there is none, no record is wanted
 pub record IsRowOf {A : Type 0} (P : A → Type 0) (view : A → Row) (rows : List Row)
     (wanted : Option A) : Type 0 where
   pub none : rows ≡ [] → None ≡ wanted
   pub one : (row : Row) → rows ≡ row ∷ [] → Found P view wanted row
 
--- every result of the statement shows the wanted record, or none if none is wanted
+-- `IsRowOf` holds of every result of the statement and the wanted record
 abbrev pub ShowsRow : {A : Type 0} → (A → Type 0) → (A → Row) → State → List ℕ → Row → Option A → Type 0
 ShowsRow P view s text params wanted =
     (rows : List Row) → Answers s text params rows → IsRowOf P view rows wanted
 
--- every result of the statement shows it, and has at most one row
+-- `IsRowOf` holds of every result of the statement and the wanted record, and the result has at most one row
 abbrev pub ShowsOneRow : {A : Type 0} → (A → Type 0) → (A → Row) → State → List ℕ → Row → Option A → Type 0
 ShowsOneRow P view s text params wanted =
     (rows : List Row) → Answers s text params rows → IsRowOf P view rows wanted × (length rows ≤ 1)
 
--- every result of the statement is the one row of this record
+-- every result of the statement is the one row of this record, and P holds of the record
 abbrev pub ShowsOnly : {A : Type 0} → (A → Type 0) → (A → Row) → State → List ℕ → Row → A → Type 0
 ShowsOnly P view s text params wanted =
     (rows : List Row) → Answers s text params rows → P wanted × (rows ≡ view wanted ∷ [])
 
--- every result of the statement is the rows of these records
+-- every result of the statement is the rows of these records, and P holds of each
 abbrev pub ShowsAll : {A : Type 0} → (A → Type 0) → (A → Row) → State → List ℕ → Row → List A → Type 0
 ShowsAll P view s text params wanted =
     (rows : List Row) → Answers s text params rows → AllByRecursion P wanted × (rows ≡ map view wanted)

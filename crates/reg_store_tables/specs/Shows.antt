@@ -21,7 +21,7 @@ HaveSerials serial rows = AllByRecursion (λ row. IsSerial (serial row)) rows
 
 -- each record is one row, in the order of entry, and each row is one record; the rows of office and longest are the issuer,
 -- the policy and the last accepted moment. Ids and CRL numbers are 1, 2, 3 and so on, and so are the rowids of the tables
--- whose key is a serial number.
+-- whose key is a serial number. The policy and the serial numbers are valid.
 pub record AreRows (trees : Trees) (records : Records) : Type 0 where
   pub days : ℤ
   pub office : trees 0 ≡ stored_office days records.issuer records.policy records.last ∷ []
@@ -41,7 +41,7 @@ pub record AreRows (trees : Trees) (records : Records) : Type 0 where
   pub request_serials : HaveSerials (λ row. row.serial) records.requests
   pub revocation_serials : HaveSerials (λ row. row.serial) records.revocations
 
--- the derived tables have these rows, and the office's row these days
+-- the derived tables have these rows, with valid serial numbers, and the office's row has these days
 pub record AreDerivedRows (trees : Trees) (columns : DerivedRows) : Type 0 where
   pub letters : trees 12 ≡ counted_rows (map stored_standing columns.letters)
   pub counts : trees 14 ≡ stored_counts columns.counts ∷ []
@@ -65,7 +65,7 @@ pub record Holds {S : Type 0} (g : Ghosts S) (h : Held S) (P : Database → Type
   pub saved : HasCleanDisk (state g h) → IsTrue (state g h).is_open → (state g h).now ≡ (state g h).committed
   pub tables : HasCleanDisk (state g h) → IsTrue (state g h).is_open → P (state g h).now
 
--- the tables show the records
+-- the tables show the records, under the conditions of `Holds`
 abbrev pub Shows : {S : Type 0} → Ghosts S → Held S → Records → Type 0
 Shows g h records = Holds g h (λ db. IsShownBy db records)
 

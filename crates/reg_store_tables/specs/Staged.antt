@@ -17,12 +17,12 @@ pub record IsStaged (base : Trees) (steps : List (ℕ × ℕ)) (db : Database) :
 abbrev pub AreBefore : ℕ → List (ℕ × ℕ) → Type 0
 AreBefore moment steps = AllByRecursion (λ step. step.0 < moment) steps
 
--- a step is inserted after those with earlier moments
+-- a step is inserted; each step before it has an earlier moment
 abbrev pub AddsStep : ℕ → ℕ → Database → Database → Type 0
 AddsStep from days old new =
     (base : Trees) (steps : List (ℕ × ℕ)) → AreBefore from steps → IsStaged base steps old
     → IsStaged base (steps ++ (from, days) ∷ []) new
 
--- all steps are inserted into an empty table
+-- ascending steps are inserted into an empty table
 abbrev pub AddsSteps : List (ℕ × ℕ) → Database → Database → Type 0
 AddsSteps steps old new = (base : Trees) → Ascends steps → IsStaged base [] old → IsStaged base steps new

@@ -11,19 +11,20 @@ use Rattle.reg_store_tables.specs.declared.fault.StoreFault.{StoreFault}
 use Rattle.reg_store_tables.specs.declared.fault.StoreFault.TheVariants.{Memory, Store}
 use Rattle.sqlite_value.specs.Order.{Row}
 
--- if the disk returned what was written, and the connection is open, its tables are those of a register, and were at its last commit
+-- if the disk returned what was written, and the connection is open, its schema is a register's, also as last committed
 pub record IsRegister (s : State) : Type 0 where
   pub now : HasCleanDisk s → IsTrue s.is_open → s.now.schema ≡ register_schema
   pub committed : HasCleanDisk s → IsTrue s.is_open → s.committed.schema ≡ register_schema
 
--- nothing has changed, if the disk returned what was written and the connection is open: the tables are as they were, or as last committed
+-- nothing has changed, if the disk returned what was written and the connection is open: it was open, its tables are as they were or as last
+-- committed, and the committed tables are the same
 pub record Stays (old new : State) : Type 0 where
   pub was_open : HasCleanDisk new → IsTrue new.is_open → IsTrue old.is_open
   pub now : HasCleanDisk new → IsTrue new.is_open → (new.now ≡ old.now) ⊎ (new.now ≡ old.committed)
   pub committed : HasCleanDisk new → IsTrue new.is_open → new.committed ≡ old.committed
 
--- a call that commits nothing: a stop afterwards leaves what it would have left before, the count of disk faults does not fall, only a disk
--- fault closes the connection, and the limit on the steps of a query stays
+-- A call that commits nothing: a stop afterwards leaves what it would have left before. The count of disk faults does not fall, only a disk
+-- fault closes the connection, and the limit on the steps of a query stays.
 abbrev pub LeavesNothing : State → State → Type 0
 LeavesNothing old new = Survives old new (λ _. ⊥)
 
@@ -56,7 +57,7 @@ pub record Ran (sql : List ℕ) (params : Row) (old new : State) (count : ℕ) :
   pub under_way : new.in_transaction ≡ true
   pub ran : Executes sql params old new (Ok count)
 
--- a step inside a transaction, which leaves it under way with a database that has the property, and nothing committed
+-- a step over an open connection, which leaves a transaction under way with a database that has the property, and commits nothing
 pub record Moves (old new : State) (P : Database → Type 0) : Type 0 where
   pub was_open : IsTrue old.is_open
   pub is_open : IsTrue new.is_open

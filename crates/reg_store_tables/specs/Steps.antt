@@ -30,8 +30,8 @@ pub record KeepsRows (old new : Database) : Type 0 where
   pub obeys : old.schema ≡ register_schema → IsDatabase old → IsDatabase new
 
 module _ {S : Type 0} (g : Ghosts S) (old new : Transaction S) where
-  -- A step that returns a value: if the disk returned what was written, nothing is committed, the transaction is under way, and
-  -- `Leads` relates the database before the step to the one after it.
+  -- A step that returns a value. If it succeeds, and the disk returned what was written, nothing is committed and the transaction is under
+  -- way. Then `Leads` relates the database before the step to the one after it.
   abbrev pub Yields : {T E : Type 0} → Result T E → (T → Database → Database → Type 0) → Type 0
   Yields result Leads =
       HasCleanDisk (state g new.conn.now)
@@ -62,14 +62,15 @@ module _ {S : Type 0} (g : Ghosts S) (old new : Transaction S) where
       → IfOk result (λ _. MayMove (state g old.conn.now) (state g new.conn.now)
       (λ after. Leads before after × KeepsRows before after))
 
-  -- If the call succeeds, `IsSo` holds of its result and the database, which was open; nothing has changed.
+  -- If the call succeeds, and the disk returned what was written, `IsSo` holds of its result and the database; the connection was open, and
+  -- nothing has changed.
   abbrev pub Asks : {T E : Type 0} → Result T E → (T → Database → Type 0) → Type 0
   Asks result IsSo =
       HasCleanDisk (state g new.conn.now)
       → IfOk result (λ value. IsUnchanged (state g old.conn.now) (state g new.conn.now)
       × IsSo value (state g old.conn.now).now)
 
--- if the tables showed records that fit, with some derived tables, they now show the changed records and derived tables
+-- if the tables showed records that fit, with some derived tables, they now show these changed records and derived tables
 abbrev pub TurnsWhere : (Records → Type 0) → (Records → Records) → (DerivedRows → DerivedRows) → Database
     → Database → Type 0
 TurnsWhere Fits records_after derived_after old new =

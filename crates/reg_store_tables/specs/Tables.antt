@@ -5,7 +5,7 @@ use Rattle.reg_store_tables.specs.declared.sizes.Table.{Table}
 use Rattle.reg_store_tables.specs.declared.sql.TheConstants.{LAST_SUBSCRIBER, LAST_ORDER, LAST_CERT, LAST_REQUEST, LAST_CRL}
 use Rattle.reg_store_tables.specs.declared.sizes.Table.TheVariants.{Subscribers, Orders, Certs, Requests, Crls}
 
--- the rows of a table
+-- how many rows a table has
 abbrev pub rows_of : Records → Table → ℕ
 rows_of records Subscribers = length records.subscribers
 rows_of records Orders = length records.orders
@@ -13,7 +13,7 @@ rows_of records Certs = length records.certificates
 rows_of records Requests = length records.requests
 rows_of records Crls = length records.crls
 
--- the text that finds its last row
+-- the text of the statement that finds the number of its last row
 abbrev pub text_of_last : Table → List ℕ
 text_of_last Subscribers = LAST_SUBSCRIBER.now
 text_of_last Orders = LAST_ORDER.now

@@ -15,7 +15,7 @@ use reg_core::CrlRow;
 use sqlite::{Alter, Connection, params};
 
 impl<S: Alter> Tables<S> {
-    /// The latest CRL, whose bytes are not read.
+    /// The number and thisUpdate of the latest CRL. Its bytes are not read.
     pub fn latest_crl(&mut self) -> Result<Option<CrlRow>, DatabaseFault>
         ensures { Finds S.Store self.old self.new result (λ records row.
             row ≡ option_map row_of (latest records.crls)) }
@@ -23,7 +23,7 @@ impl<S: Alter> Tables<S> {
         look_up::<S, CrlRow>(&mut self.connection, LATEST_CRL, &[])
     }
 
-    /// The DER of a CRL, by its number.
+    /// The DER of a CRL, by its number; `None` if there is no such CRL.
     pub fn crl(&mut self, number: u64) -> Result<Option<Vec<u8>>, DatabaseFault>
         ensures { Finds S.Store self.old self.new result (λ records der.
             option_map (λ bytes. bytes.items) der
@@ -33,7 +33,7 @@ impl<S: Alter> Tables<S> {
     }
 }
 
-/// The DER of a CRL, by its number, over a bare connection.
+/// The DER of a CRL, by its number, read over a connection; `None` if there is no such CRL. Errors: those of the methods of [`Tables`].
 pub fn crl<S: Alter>(
     conn: &mut Connection<S>,
     number: u64,

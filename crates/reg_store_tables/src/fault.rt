@@ -12,7 +12,7 @@ use std::alloc::{AllocError, AllocFailed};
 pub enum DatabaseFault {
     /// Out of memory.
     Memory,
-    /// The database failed, or a row has a column of another type or an invalid value.
+    /// The database failed, its rows are not those of a register, or a number is above 2^63 - 1, the greatest SQL INTEGER.
     Store,
 }
 
@@ -21,17 +21,17 @@ pub enum DatabaseFault {
 pub enum StoreFault {
     /// Out of memory.
     Memory,
-    /// The database failed, or a row has a column of another type or an invalid value.
+    /// As [`DatabaseFault::Store`].
     Store,
     /// The database is not empty: it has a table, an index or a view.
     NotEmpty,
-    /// The tables are not those of a register.
+    /// The schema, the version, the office or the schedule is not that of a register.
     NotARegister,
-    /// The tables are of a newer version than the program's.
+    /// The version in the row of `office` is newer than the program's.
     NewVersion,
 }
 
-/// Why rows are not read.
+/// Why rows can't be read.
 #[derive(Clone, Copy, PartialEq, Eq)]
 pub enum RowFault {
     /// Out of memory.

@@ -1,4 +1,4 @@
-//! Look-ups of the entries of CRLs, in the derived table `listed`.
+//! Look-ups in the derived table `listed`: the entries of CRLs, and the CRLs that list a serial number.
 
 ghost use Rattle.std.specs.Prelude.{◌≡◌, ◌<◌, ◌≤◌, ◌^◌, ◌↔◌, List, map, length, IsTrue, IfOk, IfErr};
 ghost use Rattle.std.specs.List.{AllByRecursion};
@@ -28,7 +28,7 @@ fn ascends(entries: &[Entry]) -> bool
     entries.is_sorted_by(|earlier, later| earlier.serial < later.serial)
 }
 
-/// The entries in the rows: `Store` if they are too many, or their serial numbers don't ascend.
+/// The entries in the rows. `Store` if there are over 1,000,000, or if their serial numbers don't ascend.
 fn entries_of(rows: &Vec<Row>) -> Result<Vec<Entry>, DatabaseFault>
     ensures read { (shown : List Entry) → AllByRecursion (λ entry. IsSerial entry.serial) shown
         → rows.now.items ≡ map shown_entry shown → IfOk result (λ found. found.items ≡ shown) }
@@ -63,7 +63,8 @@ impl<S: Alter> Tables<S> {
         entries_of(&found)
     }
 
-    /// The first CRL that lists a revoked serial number (perhaps the next one) and, if it has been issued, the last. `None` if it is not revoked.
+    /// The numbers of the first CRL (perhaps the next one) and of the last CRL, if that has been issued, that list a revoked serial number.
+    /// `None` if the serial number is not revoked.
     pub fn listing(&mut self, serial: Serial) -> Result<Option<Listing>, DatabaseFault>
         ensures { Finds S.Store self.old self.new result (λ records found.
             ShowsKept S.Store self.old records → found ≡ listing records serial) }

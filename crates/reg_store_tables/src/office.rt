@@ -81,7 +81,7 @@ fn issuer_of(rows: &Vec<Row>) -> Result<Issuer, DatabaseFault>
     issuer_in(*rows.allocator(), only(rows)?, 0)
 }
 
-/// The issuer, over a bare connection.
+/// The issuer, read over a connection. Errors: those of the methods of [`Tables`].
 pub fn issuer<S: Alter>(conn: &mut Connection<S>) -> Result<Issuer, DatabaseFault>
     ensures { Finds S.Store conn.old conn.new result (λ records issuer. issuer ≡ records.issuer) }
 {
@@ -106,7 +106,7 @@ fn responding_in(alloc: Global, row: &Row) -> Result<(Moment, Issuer, u64), Data
     }
 }
 
-/// The lives of CRLs and of OCSP responses in seconds, and the cap.
+/// The lives of CRLs and of OCSP responses in seconds, and the cap (the most rows of a table).
 fn terms<S: Alter>(conn: &mut Connection<S>) -> Result<(u64, u64, u64), DatabaseFault>
     ensures { Finds S.Store conn.old conn.new result (λ records terms.
         (terms.0 ≡ records.policy.crl_life) × (terms.1 ≡ records.policy.ocsp_life)
@@ -123,7 +123,7 @@ fn schedule<S: Alter>(conn: &mut Connection<S>) -> Result<Schedule, DatabaseFaul
     Schedule::new(&steps).ok_or(DatabaseFault::Store)
 }
 
-/// The policy, over a bare connection.
+/// The policy, read over a connection. Errors: those of the methods of [`Tables`].
 pub fn policy<S: Alter>(conn: &mut Connection<S>) -> Result<Policy, DatabaseFault>
     ensures { Finds S.Store conn.old conn.new result (λ records policy. policy ≡ records.policy) }
 {

@@ -1,4 +1,5 @@
-//! Look-ups of open requests, and of those that are overdue.
+//! Look-ups of open and overdue requests. A request is open if it was not declined and its certificate is good; it is overdue if it is open
+//! past its deadline.
 
 ghost use Rattle.std.specs.Prelude.{◌≡◌, ◌≤◌, ◌+◌, ◌^◌, ◌&&◌, ◌<◌, ◌==◌, ◌++◌, List, [], ◌∷◌, length, min, not, filter, nat_lt, IfOk, IsSome, OnErr};
 ghost use Rattle.reg_core.specs.Due.{deadline, is_open, overdue, overdue_report};
@@ -86,7 +87,8 @@ impl<S: Alter> Tables<S> {
         Ok(is_good && is_past)
     }
 
-    /// How many requests are overdue at a moment, and the least id of them. It scans the table `request`, and looks up the certificate of each that is not declined.
+    /// How many requests are overdue at a moment, and the least id of them; `None` if there are none. It scans the table `request`, and looks up the
+    /// certificate and the revocation of each request that is not declined.
     pub fn open_past_due(&mut self, now: Moment) -> Result<Option<Overdue>, DatabaseFault>
         ensures { Finds S.Store self.old self.new result (λ records report.
             report ≡ overdue_report (overdue records now)) }
@@ -101,7 +103,8 @@ impl<S: Alter> Tables<S> {
         Ok(report)
     }
 
-    /// How many requests are open at a moment. It scans the table `request`, and looks up the certificate of each that is not declined.
+    /// How many requests are open at a moment. It scans the table `request`, and looks up the certificate and the revocation of each request that
+    /// is not declined.
     pub fn open_count(&mut self, now: Moment) -> Result<u64, DatabaseFault>
         ensures { Finds S.Store self.old self.new result (λ records count.
             count ≡ length (filter (is_open records now) records.requests)) }
@@ -116,7 +119,8 @@ impl<S: Alter> Tables<S> {
         Ok(count)
     }
 
-    /// How many requests for a serial number are open at a moment, counted up to `most`. `Store` too for a `most` above 2^63 - 1.
+    /// How many requests for a serial number are open at a moment, counted up to `most`. If the certificate is good, it scans the table
+    /// `request` back from its last row, until `most` are found. `Store` too for a `most` above 2^63 - 1.
     pub fn open_of(&mut self, serial: Serial, now: Moment, most: u64) -> Result<u64, DatabaseFault>
         ensures { FindsIf (λ _. most < 2 ^ 63) S.Store self.old self.new result (λ records count.
             count ≡ min most (length

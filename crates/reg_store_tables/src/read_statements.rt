@@ -12,7 +12,6 @@ use crate::rows::{RowKind, row_in, rows_in};
 use sqlite::types::ValueRef;
 use sqlite::{Alter, Connection, Row};
 
-/// The rows that a query returns.
 pub(crate) fn read<S: Alter>(
     conn: &mut Connection<S>,
     sql: &str,

@@ -16,7 +16,7 @@ use reg_core::{
 use sqlite::Row;
 use std::alloc::Global;
 
-/// A kind of row, and how it is read.
+/// A kind of row, and how to read one.
 pub trait RowKind {
     ghost use Rattle.std.specs.Prelude.{◌≡◌, IfSome, IsSome};
     ghost use Rattle.sqlite_value.specs.Order.{Row as Cells};
@@ -276,7 +276,7 @@ impl RowKind for Number {
     }
 }
 
-/// One moment, before the end of the clock.
+/// A row of one moment, before the clock's end.
 pub(crate) struct ClockMoment;
 
 impl RowKind for ClockMoment {
@@ -297,7 +297,7 @@ impl RowKind for ClockMoment {
     }
 }
 
-/// The lives of CRLs and of OCSP responses in seconds, and the cap.
+/// A row of the lives of CRLs and of OCSP responses in seconds, and the cap.
 pub(crate) struct Terms;
 
 impl RowKind for Terms {
@@ -316,7 +316,7 @@ impl RowKind for Terms {
     }
 }
 
-/// Reads all rows. [`RowFault::At`] has the index of the first row with a column of another type or an invalid value.
+/// Reads all rows. Errors: `Memory`; `At` with the index of the first row that has a column of another type or an invalid value.
 pub fn rows_in<T: RowKind>(alloc: Global, rows: &[Row]) -> Result<Vec<T::Record>, RowFault>
     ensures read { (shown : List T.Record) → AllByRecursion T.has_valid_serial shown
         → rows.now ≡ map T.shown shown
@@ -335,7 +335,7 @@ pub fn rows_in<T: RowKind>(alloc: Global, rows: &[Row]) -> Result<Vec<T::Record>
     Ok(found)
 }
 
-/// Reads the only row; `None` if there is no row. `Store` if there are more rows, or if the row has a column of another type or an invalid value.
+/// Reads the only row; `None` if there is no row. `Store` for more rows, and for a column of another type or with an invalid value.
 pub(crate) fn row_in<T: RowKind>(rows: &[Row]) -> Result<Option<T::Record>, DatabaseFault>
     ensures read { (wanted : Option T.Record) → IsRowOf T.has_valid_serial T.shown rows.now wanted
         → IfOk result (λ found. found ≡ wanted) }

@@ -14,7 +14,7 @@ use crate::sql::{LAST_CERT, LAST_CRL, LAST_ORDER, LAST_REQUEST, LAST_SUBSCRIBER}
 use crate::tables::Tables;
 use sqlite::{Alter, Connection};
 
-/// The tables of the records that have a cap.
+/// The tables of the records whose rows are compared with the policy's cap. There are no more revocations than certificates.
 #[derive(Clone, Copy, PartialEq, Eq)]
 pub enum Table {
     Subscribers,

@@ -7,7 +7,7 @@ pub(crate) const ISSUER: &str = "SELECT name, pubkey FROM office";
 pub(crate) const TERMS: &str = "SELECT crl_life, ocsp_life, cap FROM office";
 
 pub(crate) const OCSP_HEAD: &str = "SELECT last_at, name, pubkey, ocsp_life FROM office";
-/// The steps of the schedule, in the order of their moments.
+/// The steps of the schedule, in the order of their moments. It scans the table `longest`.
 pub const STEPS: &str = "SELECT from_at, days FROM longest ORDER BY from_at";
 
 pub(crate) const LAST_SUBSCRIBER: &str = "SELECT id FROM subscriber ORDER BY id DESC LIMIT 1";
@@ -40,13 +40,13 @@ pub(crate) const REQUEST_BY_ID: &str =
 /// The requests that are not declined, in the order of their ids. It scans the table `request`.
 pub(crate) const UNDECLINED: &str =
     "SELECT id, serial, ground, received, declined FROM request WHERE declined = 0 ORDER BY id";
-/// The newest requests for a serial number that are not declined, at most `?2` of them. It scans the table `request` from the last row back.
+/// The ids of the newest requests for a serial number that are not declined, at most `?2` of them. It scans the table `request` backwards.
 pub(crate) const UNDECLINED_OF: &str =
     "SELECT id FROM request WHERE declined = 0 AND serial = ?1 ORDER BY id DESC LIMIT ?2";
 
 pub(crate) const REVOCATION_BY_SERIAL: &str =
     "SELECT serial, at, reason, request, first_crl FROM revocation WHERE serial = ?1";
-/// The earliest of the revocations whose first CRL has a number above this one. It scans the table `revocation`.
+/// The moment of the earliest revocation whose first CRL has a number above `?1`. It scans the table `revocation`.
 pub(crate) const EARLIEST_ABOVE: &str =
     "SELECT at FROM revocation WHERE first_crl > ?1 ORDER BY at LIMIT 1";
 
@@ -59,7 +59,7 @@ pub(crate) const ENDED_BEFORE: &str =
 
 pub(crate) const LISTED_BY_SERIAL: &str =
     "SELECT first_crl, last_listed FROM listed WHERE serial = ?1";
-/// The entries of a CRL, in the order of their serial numbers. It scans the table `listed`.
+/// The entries of the CRL with the number `?1`, in the order of their serial numbers. It scans the table `listed`.
 pub(crate) const ENTRIES: &str =
     "SELECT serial, at, reason FROM listed WHERE first_crl <= ?1 AND (last_listed IS NULL OR last_listed >= ?1) ORDER BY serial";
 /// The first certificates past a serial number, in the order of their serial numbers, at most `?2` of them. It reads no others.

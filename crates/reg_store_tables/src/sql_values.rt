@@ -1,5 +1,5 @@
-//! Reads SQL values as values of the register. Clause `read`: a value that a register writes is read back. Clause `told`: a value that is
-//! read is the column's. The result is `None` if the column has another type or an invalid value.
+//! Reads the columns of a row, counted from 0, as values of the register. Clause `read`: a value that a register writes is read back. Clause
+//! `told`: a value that is read is the column's. The result is `None` if the column has another type or an invalid value.
 
 ghost use Rattle.std.specs.Prelude.{◌≡◌, ◌≢◌, ◌<◌, ◌≤◌, ◌^◌, ℕ, Bool, List, Option, cond, length, Some, OnOk, IfOk, IfErr, IfSome, IsSomeAnd, MatchOption};
 ghost use Rattle.sqlite_value.specs.declared.value.Value.TheVariants.{Text, Blob};
@@ -15,7 +15,7 @@ use reg_core::{Ground, Label, Moment, Serial};
 use sqlite::Row;
 use sqlite::types::{Value, ValueRef};
 
-/// The number as a key of SQL; `None` above 2^63 - 1, the greatest INTEGER.
+/// The number as an SQL INTEGER; `None` above 2^63 - 1, the greatest one.
 pub(crate) fn sql_key(n: u64) -> Option<Value>
     ensures value { MatchOption result (2 ^ 63 ≤ n) (λ value. (n < 2 ^ 63) × (value ≡ number n)) }
 {
@@ -25,7 +25,7 @@ pub(crate) fn sql_key(n: u64) -> Option<Value>
     }
 }
 
-/// The longest life of a CRL or an OCSP answer, in seconds: a second less than ten days.
+/// The longest life of a CRL or an OCSP answer, in seconds: one second less than ten days.
 const LONGEST_LIFE: u64 = 863_999;
 
 /// As [`sql_key`], with `Store` for `None`.
@@ -37,7 +37,7 @@ pub(crate) fn sql_number(n: u64) -> Result<Value, DatabaseFault>
     sql_key(n).ok_or(DatabaseFault::Store)
 }
 
-/// The number in a column.
+/// The number in a column; `None` for a negative one.
 pub fn number_at(row: &Row, at: usize) -> Option<u64>
     ensures read { (n : ℕ) → column row.now at ≡ number n → IsSomeAnd result (λ read. read ≡ n) }
     ensures told { MatchOption result ((n : ℕ) → column row.now at ≢ number n)
@@ -66,7 +66,7 @@ pub fn number_or_null_at(row: &Row, at: usize) -> Option<Option<u64>>
     }
 }
 
-/// The moment in a column.
+/// The moment in a column, in seconds since 1970; `None` from the year 10000 on.
 pub fn moment_at(row: &Row, at: usize) -> Option<Moment>
     ensures read { (n : ℕ) → column row.now at ≡ number n
         → MatchOption result (253402300800 ≤ n) (λ read. read ≡ n) }
@@ -76,7 +76,7 @@ pub fn moment_at(row: &Row, at: usize) -> Option<Moment>
     Moment::of_secs(number_at(row, at)?)
 }
 
-/// The moment in a column; `None` if it is not before the clock's end.
+/// The moment in a column; `None` from [`Moment::CLOCK_END`] on.
 pub fn clock_moment_at(row: &Row, at: usize) -> Option<Moment>
     ensures read { (n : ℕ) → column row.now at ≡ number n
         → MatchOption result (clock_end ≤ n) (λ read. read ≡ n) }
@@ -118,7 +118,7 @@ pub fn serial_at(row: &Row, at: usize) -> Option<Serial>
     }
 }
 
-/// The label in a column.
+/// The label in a column: text of 1 to 64 bytes.
 pub fn label_at(row: &Row, at: usize) -> Option<Label>
     ensures read { (text : List ℕ) → column row.now at ≡ Text text
         → MatchOption result (¬ IsLabel text) (λ read. read ≡ text) }
@@ -131,7 +131,7 @@ pub fn label_at(row: &Row, at: usize) -> Option<Label>
     }
 }
 
-/// The ground in a column, which has its index in the list of grounds, from 1 on.
+/// The ground in a column, stored as its index in the list of grounds, from 1 on.
 pub fn ground_at(row: &Row, at: usize) -> Option<Ground>
     ensures read { (cause : Ground) → column row.now at ≡ number (ground_index cause) → result ≡ Some cause }
     ensures told { IfSome result (λ cause. column row.now at ≡ number (ground_index cause)) }
@@ -164,7 +164,7 @@ pub fn flag_at(row: &Row, at: usize) -> Option<bool>
     }
 }
 
-/// The reasonCode in a column (RFC 5280 5.3.1).
+/// The reasonCode in a column (RFC 5280 5.3.1): any number up to 255.
 pub fn reason_at(row: &Row, at: usize) -> Option<u8>
     ensures read { (n : ℕ) → column row.now at ≡ number n → MatchOption result (256 ≤ n) (λ read. read ≡ n) }
     ensures told { IfSome result (λ n. column row.now at ≡ number n) }

@@ -3,8 +3,8 @@
 use sqlite::{Alter, Connection};
 use std::marker::Model;
 
-/// The tables of a register in an SQL database. Its methods are the look-ups: they fail with `Memory`, or with `Store` if the
-/// database fails or a row has an invalid value.
+/// The tables of a register in an SQL database. Its methods are the look-ups. Errors: `Memory`; `Store` if the database fails,
+/// a row has an invalid value, or the rows are not those of a register.
 ///
 /// Contracts see the tables as their connection, which is in no transaction between the calls. So `Shows`, `ShowsKept` and other
 /// definitions for a connection apply to the tables.

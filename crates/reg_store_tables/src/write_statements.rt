@@ -1,4 +1,4 @@
-//! Statements that write, inside a transaction.
+//! Statements that write, inside a transaction, and the SQL values that they take.
 
 ghost use Rattle.std.specs.Prelude.{◌≡◌, ◌<◌, ◌≤◌, ◌^◌, pos, cond, OnOk, IfOk, IfErr};
 ghost use Rattle.sqlite.specs.Values.{bound};
@@ -28,7 +28,7 @@ pub fn sql_number(n: u64) -> Result<ValueRef<'static>, DatabaseFault>
     }
 }
 
-/// The moment as an SQL INTEGER, in whole seconds.
+/// The moment as an SQL INTEGER, in whole seconds since 1970.
 pub fn sql_moment(moment: Moment) -> ValueRef<'static>
     ensures { result ≡ ValueRef.Int (pos moment) }
 {
@@ -68,7 +68,7 @@ pub fn sql_ground(ground: Ground) -> ValueRef<'static>
     })
 }
 
-/// Runs a statement inside the transaction, and returns how many rows it wrote.
+/// Runs a statement inside the transaction, and returns how many rows it wrote. `Store` if the database fails or refuses a row.
 pub fn write<S: Alter>(
     tx: &mut Transaction<'_, S>,
     sql: &str,
@@ -88,7 +88,7 @@ pub fn commit<S: Alter>(tx: Transaction<'_, S>) -> Result<(), DatabaseFault>
     Ok(tx.commit()?)
 }
 
-/// Sets the counts in the table `kept`.
+/// Sets the counts in the table `kept`. `Store` too for a count above 2^63 - 1.
 pub fn set_counts<S: Alter>(
     tx: &mut Transaction<'_, S>,
     counts: Counts,

@@ -2,7 +2,7 @@ use Rattle.std.proofs.Common.{◌≡◌, ℕ}
 use Rattle.reg_store_tables.specs.declared.fault.RowFault.TheVariants.{Memory, At}
 use Rattle.reg_audit.proofs.typed.typed.Goals as goal
 
--- a place is not want of memory
+-- an index is not out of memory
 no_place : {row_index : ℕ} → At row_index ≡ Memory → ⊥
 no_place clash = cc
 

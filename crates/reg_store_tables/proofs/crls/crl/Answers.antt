@@ -54,7 +54,7 @@ returns g c =
     ap (λ (bytes : List ℕ). Some bytes) same ∙ ap (option_map (λ (crl : Crl). crl.bytes)) one.first)
     (λ records may written clean answers. tt)
 
--- want of memory is no failure of the store
+-- out of memory is no failure of the store
 no_store : database_fault_of (SqliteFailure OutOfMemory) ≡ Store → ⊥
 no_store clash = cc
 

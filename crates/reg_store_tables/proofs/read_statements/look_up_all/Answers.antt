@@ -9,7 +9,7 @@ use Rattle.reg_store_tables.proofs.Few.{both_all}
 use Rattle.reg_store_tables.proofs.LookingUp.{gives_none, on_err, unread}
 use Rattle.reg_store_tables.proofs.read_statements.look_up_all.Goals as goal
 
--- want of memory is no failure of the store
+-- out of memory is no failure of the store
 no_store : (why : RowFault) → why ≡ rows.Memory → unshown_fault_of why ≡ call.Store → ⊥
 no_store why memory store = let no : call.Memory ≡ call.Store = sym (ap unshown_fault_of memory) ∙ store in cc
 

@@ -2,7 +2,7 @@ use Rattle.std.proofs.Common.{◌≤◌}
 use Rattle.reg_desk_server.specs.Handling.{Handled}
 use Rattle.reg_desk_server.proofs.event_loop.EventLoop.serve_all.Given as goal
 
--- what was exchanged so far
+-- the exchanges so far
 abbrev pub invariant-loop : goal.invariant-loop
 invariant-loop g l =
     Handled g.H.Handler l.initial.handler l.handler l.initial.answered l.answered × (l.answered ≤ l.limit) × g.H.Handler.waited l.counter
