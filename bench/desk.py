@@ -39,7 +39,7 @@ PAGES = 400
 
 
 def serial(place):
-    """A random serial number of 20 octets, as a CA draws it."""
+    """A serial number of 20 octets for an index, spread by a multiplicative hash, because a CA draws random ones."""
     return f"40000000{place * 0x9E37_79B9_7F4A_7C15 % 2**64:016x}{0:016x}"
 
 
@@ -69,7 +69,7 @@ def make(path, size, revoked=REVOKED):
 
 
 def kinds(size, requests):
-    """The lines of each kind, which all do the same work; before lines that enter something, those that they need."""
+    """For each kind of line: the lines that must be entered first, and the lines that are timed, which all do the same work."""
     good = [at for at in range(1, size + 1) if at % REVOKED != 1]
     spread = [good[it * 7_919 % len(good)] for it in range(LINES)]
     some = [good[it * len(good) // min(LINES, len(good))] for it in range(min(LINES, len(good)))]
@@ -136,7 +136,7 @@ class Script:
 
 
 def measured(path, folder, before, lines):
-    """The least microseconds of a line, over copies of the register, and the peak memory."""
+    """The microseconds of a line in the fastest of ROUNDS runs, each over a copy of the register, and the peak memory in MiB."""
     took, peak = [], 0
     for _ in range(ROUNDS):
         with Script(copied(path, folder)) as desk:
@@ -166,7 +166,7 @@ def made_newer(folder, records, version):
 
 
 def crls(sizes):
-    """The time to build, digest and store a CRL; its bytes; the peak memory of the desk."""
+    """Prints the time to build, digest and store a CRL, its bytes, and the peak memory of the desk."""
     print("| Entries | Bytes | `crl`, ms | Most memory, MiB |\n|---|---|---|---|")
     with tempfile.TemporaryDirectory(prefix="desk-bench-", dir=os.environ.get("DESK_BENCH_FOLDER")) as folder:
         for size in sizes:
@@ -179,7 +179,7 @@ def crls(sizes):
 
 
 def pages(port, word):
-    """The milliseconds of each page of a list of an open desk, at most so many, of 1,000 rows at most."""
+    """The milliseconds of each page of a list of an open desk: at most PAGES pages, of at most 250 rows each."""
     took, key = [], ""
     while len(took) < PAGES:
         began = time.perf_counter()
@@ -194,7 +194,7 @@ def pages(port, word):
 
 
 def lists(sizes):
-    """A list of a closed register, and the pages of the same of an open one."""
+    """Prints the times of each list of a closed register, and of the list's pages of an open one."""
     print("| Certificates | List | Rows | `desk list`, s | Rows a second | Pages | A page of an open desk, ms: median | slowest |\n|---|---|---|---|---|---|---|---|")
     with tempfile.TemporaryDirectory(prefix="desk-bench-", dir=os.environ.get("DESK_BENCH_FOLDER")) as folder:
         for size in sizes:

@@ -1,5 +1,5 @@
 -- A script for wrk: POST the OCSP requests in the files that OCSP_REQUESTS names, in turn (RFC 6960 A.1), and report
--- the rate, the latencies and whatever was no answer in one line.
+-- the rate, the latencies and the number of failed requests in one line.
 local bodies = {}
 for name in os.getenv("OCSP_REQUESTS"):gmatch("%S+") do
     local file = assert(io.open(name, "rb"))

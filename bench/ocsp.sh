@@ -1,12 +1,16 @@
 #!/bin/sh
-# Measures OCSP answers a second over a register of 100,000 certificates (or the given number), with one connection for each request: `desk open` and
-# `openssl ocsp -port` with a P-256 issuer get the same requests from the same client, in turns; from one client and from 32 at once, for eight
-# certificates and for 4,096, and beside 200 idle connections; with the median latency and that which one in a hundred exceeds. Then the same from
-# wrk, with the servers and the signer on one, two and four processors. Then commands a second at the control socket, and with `desk script`.
-# The desk uses a placeholder digest, which costs next to nothing; with --signed as the first word it signs with the same
-# P-256 key as openssl, which SIGNER holds (examples/signer.py, or signer/desk-signer), in as many processes as SIGNERS says (2: with more of them, on four cores, one that waits takes the time of who asks). Then also with a signer that takes 5 ms, one
-# answer after the other and 32 at once, and how long others wait while one hangs.
-# Run it from the repository's root; needs openssl and python3, for --signed also python3's package cryptography.
+# Measures OCSP answers a second over a register of 100,000 certificates, with one connection for each request. `desk open` and `openssl ocsp -port`
+# with a P-256 issuer get the same requests from the same client, in turns: from one client and from 32 at once, for eight certificates and for
+# 4,096, and `desk open` also beside 200 idle connections. Prints the median latency, and that which one in a hundred exceeds. Then wrk, if it is
+# installed, requests the eight certificates, with the servers and the signer on one, two and four processors. Then commands a second at the control
+# socket, and with `desk script`.
+# The desk uses a placeholder digest, which costs next to nothing. With --signed it uses the same P-256 key as openssl. The program SIGNER
+# (signer/desk-signer, or examples/signer.py if that is not built) holds the key, in SIGNERS processes (2: with more of them, on four cores, an idle
+# process that polls takes time from the client). --signed also measures a signer that takes 5 ms, one answer after the other and 32 at once, and how
+# long other requests wait while a signer hangs.
+#
+# Usage, from the repository's root: bench/ocsp.sh [--signed] [NUMBER OF CERTIFICATES [NUMBER OF REQUESTS A ROUND]]     (100000 10000)
+# It needs openssl and python3; with --signed and examples/signer.py also python3's package cryptography.
 set -eu
 signed=
 [ "${1:-}" != --signed ] || { signed=1; shift; }
@@ -77,7 +81,7 @@ kill "$ours"
 wait "$ours" 2>/dev/null || true
 ours=''
 
-# open_with NAME MILLISECONDS: runs `desk open` with a signer that takes so long, or hangs.
+# open_with NAME MILLISECONDS: runs `desk open` with a signer that takes so long, or that hangs if the number is negative.
 open_with() {
     kill "$holder" 2>/dev/null || true
     python3 "$client" sign "$1.sign" "$2" &

@@ -41,7 +41,7 @@ def whole(request):
 
 
 def ask_one(address, request):
-    """Sends a request on a new connection, and returns that."""
+    """Sends a request on a new connection, and returns the connection."""
     peer = socket.SocketType(socket.AF_INET, socket.SOCK_STREAM)
     peer.connect(address)
     peer.sendall(request)
@@ -81,7 +81,7 @@ def one_client(port, requests, count, at_once, ready, told):
 
 
 def clients(port, requests, count, at_once):
-    """Answers a second and the time of each, for so many connections at once, spread over a few processes."""
+    """Answers a second, and the seconds of each answer, for so many connections at once, spread over at most PROCESSES processes."""
     fork = multiprocessing.get_context("fork")
     processes = min(at_once, PROCESSES)
     ready = fork.Barrier(processes)
@@ -102,7 +102,7 @@ def clients(port, requests, count, at_once):
 
 
 class Measure:
-    """The best of several rounds, and the latencies of all."""
+    """The best rate of several rounds, and the latencies of all of them, beside `silent` idle connections."""
 
     def __init__(self, port, requests, at_once, silent):
         self.port, self.requests, self.at_once, self.silent = port, requests, at_once, silent
@@ -123,7 +123,7 @@ class Measure:
 
 
 def others(request):
-    """A request for each of so many certificates, which ends with the serial number (RFC 6960 4.1.1)."""
+    """OTHERS requests, each for another certificate: a request ends with the serial number (RFC 6960 4.1.1)."""
     return [request[:-2] + (FIRST + at).to_bytes(2, "big") for at in range(OTHERS)]
 
 
@@ -164,7 +164,7 @@ def timed(lines, words):
 
 
 def commands(count, kind, words):
-    """Many commands to one program, and one alone: a script has a moment before each, the control socket none."""
+    """Prints the times of many commands to one program, and of one alone. A script has a moment before each command, the control socket none."""
     moment = "" if kind == "counter" else time.strftime("%Y-%m-%dT%H:%M:%SZ ", time.gmtime())
     many = timed([f"{moment}subscriber {kind}{at}\n" for at in range(count)], words)
     alone = min(timed([f"{moment}subscriber {kind}-{at}\n"], words) for at in range(ROUNDS))
@@ -197,14 +197,14 @@ def sign(path, millis):
 
 
 def slow(count, port, files):
-    """Answers a second with a slow signer: one after the other, and so many at once."""
+    """Prints the answers a second with a slow signer: one after the other, and AT_ONCE at once."""
     few = [whole(open(name, "rb").read()) for name in files]
     rates = [max(clients(port, few, count, at_once)[0] for _ in range(ROUNDS)) for at_once in (1, AT_ONCE)]
     print(f"a signer that takes 5 ms: {rates[0]:,.0f} answers a second in turn, {rates[1]:,.0f} at {AT_ONCE} at once, {rates[1] / rates[0]:.1f} times")
 
 
 def hung(port, counter, files):
-    """The longest wait of requests that need no signature, while OCSP answers wait for a signer that hangs."""
+    """Prints the longest wait of requests that need no signature, while OCSP answers wait for a signer that hangs."""
     few = [whole(open(name, "rb").read()) for name in files]
     waiting, took = [], {"GET /counts": [], "a line at the control socket": []}
     with socket.socket(socket.AF_UNIX) as teller:

@@ -22,7 +22,7 @@ def write_script(path, registers, serial_text):
 
 
 def run(path):
-    """Returns the seconds of a run, and the lines that it wrote."""
+    """Returns the seconds of a run, and the lines that the run wrote."""
     with open(path, "rb") as script:
         start = time.perf_counter()
         ran = subprocess.run([f"{TOP}/crates/reg_desk/out/reg_desk", "script"], stdin=script, capture_output=True, check=True)

@@ -1,6 +1,6 @@
 #!/usr/bin/env bash
-# Times `desk script` over scripts of so many `register` lines, each with its own order before it, in a register in
-# memory. Prints seconds, lines a second, and peak memory.
+# Times `desk script` in a register in memory, over scripts with so many `order` lines and then as many `register` lines. Prints seconds, lines a second,
+# and the peak memory of all runs so far.
 #
 # Usage: bench/script.sh [spread] [rising] [NUMBER OF REGISTERS ..]     (if left out: both, 1000 10000 100000)
 set -euo pipefail

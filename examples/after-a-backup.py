@@ -6,7 +6,7 @@
     desk open ca.db --published ca.crl --signer SOCKET --algorithm NAME ..
 
 The register is the restored one, and no program may have it open. The log is that of `desk open` (docs/OPERATIONS.md, "The log"), as it was when the
-register was lost. Repeat --log for a log that was rotated. The CRL is the latest published one, in DER or PEM. You need one of the two.
+register was lost. Repeat --log for a log that was rotated. The CRL is the latest published one, in DER or PEM. You need at least one of the two.
 
 The script has each accepted command of the log that the register lacks: subscribers, orders, certificates, requests (also those over HTTP), decisions and
 CRLs. It also has each revocation that only the CRL has, as a request on a ground with the entry's reason, and as many CRLs as the register lacks up to the
@@ -14,7 +14,7 @@ CRL's number. Where lines were inserted, requests get other numbers, and the scr
 after a part of it ran. Moments never go back: a line that is earlier than the register's last command gets the moment of that command.
 
 Standard error names each line that the script can't have. Nothing is printed if the script would revoke a certificate that neither the register nor the log
-has: register it first, with a moment before its revocation (docs/OPERATIONS.md, "Go back to a backup").
+has, or request its revocation: register it first, with a moment before that (docs/OPERATIONS.md, "Go back to a backup").
 
 Exit status: 0 if the script was printed, even without lines; 1 if nothing was printed; 2 if the command line is wrong.
 """
@@ -66,7 +66,7 @@ Crl = namedtuple("Crl", "path number moment entries")
 
 
 class Unreadable(Exception):
-    """A file that can't be read, or a register that `desk list` can't read."""
+    """A file or a register can't be read; the text names it."""
 
 
 def report(text):
@@ -180,8 +180,8 @@ def asked_in(event):
 
 
 class Numbers:
-    """The register's number for each number in the log. A number that the log doesn't enter was given before the log began. It is the same in both, up to
-    the first number at which the two differ."""
+    """The register's number for each number in the log. A number that no line of the log enters is from before the log began. Such a number is the same
+    in both, up to the first number at which the two differ."""
 
     def __init__(self, count, pairs):
         self.given = {}
@@ -274,7 +274,7 @@ class Script:
         report(f"{event.source}: left out: {why}")
 
     def lacks(self, event, serial):
-        """Returns whether neither the register nor the log has a certificate. If so, no script is printed."""
+        """Returns whether neither the register nor the script so far has a certificate. If so, no script is printed."""
         if serial not in self.certificates:
             why = f"neither the register nor the log has its certificate: register it first, as of {self.register.last}"
             self.problems.append(f"{event.source}: serial number {serial:X}, {event.moment}: {why}")

@@ -34,7 +34,7 @@ import urllib.request
 from collections import Counter
 
 DAY = 86400
-# A CRL is due this long after the one before it, or after a revocation that no CRL lists (docs/RULES.md, "CRLs").
+# A CRL is due this many seconds after the one before it, or after a revocation that no CRL lists (docs/RULES.md, "CRLs").
 CRL_EVERY, CRL_AFTER_REVOCATION = 7 * DAY, DAY
 # The timer that issues CRLs runs every few minutes. A CRL that comes later than this is a finding, as it is an alert in alerts.yml.
 LATE = 2 * 3600

@@ -2,8 +2,8 @@
 # Copies a register into a folder of copies, and keeps the newest seven. Run it by cron. Each copy is a folder REGISTER-MOMENT with the register in one file.
 # `desk copy` copies a closed register, or one in a snapshot of the file system. An open desk copies its register itself, by a line at the given control
 # socket: it writes the copy beside the register, and this script moves it from there (docs/OPERATIONS.md, "Backups"). The script audits each copy, prints
-# the result, and keeps the copy only if it is `sound`. Only then it deletes a copy that is older than the newest seven. If anything fails, the script
-# deletes no older copy, prints one line with the reason on standard error, and exits with status 1.
+# the result, and keeps the copy only if it is `sound`. Only then it deletes the copies that are older than the newest seven. If anything fails before, the
+# script deletes none of them. At a failure it prints one line with the reason on standard error, and exits with status 1.
 #
 # Usage: backup.sh REGISTER FOLDER [CONTROL]
 #     as: backup.sh /var/lib/durshavon/ca.db /var/backups/ca /run/durshavon/ca/control

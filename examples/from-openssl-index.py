@@ -59,7 +59,7 @@ Entry = namedtuple("Entry", "serial revoked")
 
 
 class Unreadable(Exception):
-    """A line that `openssl ca` doesn't write, or a certificate that can't be read."""
+    """A file, or a line of one, can't be read; the text names it."""
 
 
 def seconds(text):

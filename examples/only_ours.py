@@ -69,7 +69,7 @@ REASON = rb"\x0A\x01[\x01-\x06\x08-\x0A]"
 
 
 class Refused(Exception):
-    """Bytes that are not to be signed, and why."""
+    """Bytes that are not to be signed; the text is the reason."""
 
 
 class Part:
@@ -97,7 +97,7 @@ class Part:
         return Part(self.octets, begin, self.at)
 
     def any(self):
-        """A value with any tag of one octet."""
+        """The contents of the next value, with any tag of one octet."""
         if self.at == self.end or self.octets[self.at] % 32 == 31:
             raise Refused(f"octet {self.at} begins no value")
         return self.inside(self.octets[self.at])
@@ -328,7 +328,7 @@ def check(message, issuer, responder=None):
 
 
 def read_certificate(path, whose="CA"):
-    """The subject and key of a certificate; exits if it can't be read."""
+    """The issuer (or responder) of a certificate; exits if the certificate can't be read."""
     try:
         return issuer_of(path)
     except (OSError, ValueError, Refused) as why:

@@ -1,8 +1,8 @@
 #!/bin/sh
-# Publishes the latest CRL of an open desk in a folder of a web server: ca.crl in DER, and ca.crl.pem. Run it by cron or a timer. Each replaces the old file
+# Publishes the latest CRL of an open desk in a folder of a web server: ca.crl in DER, and ca.crl.pem. Run it by cron or a timer. It replaces each old file
 # by a rename, so a reader gets the whole old one or the whole new one. The script replaces them only if openssl verifies the CRL with the CA's
-# certificate, the CRL has not expired, and its number is not below that of the old one. It prints a line if it published another CRL, and nothing if
-# the CRL is the same. If anything fails, the old files stay, one line on standard error has the reason, and the exit status is 1.
+# certificate, the CRL has not expired, and it is the old one or has a higher number. It prints a line if it replaced a file, and nothing if both files
+# have the CRL already. If a check fails, the old files stay; one line on standard error has the reason of any failure, and the exit status is 1.
 # Needs curl and openssl (3.0 or newer).
 #
 # Usage: publish-crl.sh URL FOLDER CA.pem      as: publish-crl.sh http://127.0.0.1:8080/crl /var/www/crl ca.pem

@@ -1,7 +1,8 @@
 #!/bin/sh
 # Registers issued certificates, as openssl reads them (of a file with several, the first): enters an order of as many days as the certificate is valid,
 # and registers the certificate under it. With -c it does so at the control socket of an open desk, and prints a line for each. With -o it prints lines for
-# `desk script FILE --clock --strict`, which stops at a refused line. A certificate that has expired, or whose serial number is registered, gets no order.
+# `desk script FILE --clock --strict`, which stops at a refused line. A certificate that has expired gets no order. With -c,
+# one whose serial number is registered gets none either.
 #
 # Usage: register-pem.sh -c SOCKET [-s NAME] [-a CA.pem] CERTIFICATE ..
 #        register-pem.sh -o ORDER -n SUBSCRIBER [-a CA.pem] CERTIFICATE .. | desk script ca.db --clock --strict --signer SOCKET --algorithm NAME

@@ -51,14 +51,14 @@ from cryptography.hazmat.primitives.serialization import (
 sys.dont_write_bytecode = True
 from only_ours import LONGEST, Refused, check, read_certificate  # noqa: E402
 
-# How many seconds a read may wait, as long as the desk waits.
+# How many seconds a read may wait: the desk waits as long for a signature.
 PATIENCE = 10
 # The first descriptor that systemd hands over (sd_listen_fds(3)).
 HANDED_OVER = 3
-# The most nonces that are kept.
+# The most nonces that a process keeps.
 POOL = 8
-# The signer polls so many times before it sleeps, for a hundred microseconds or two. A client of many signatures is back by then, and waking up
-# takes longer than signing.
+# How many times a process polls before it sleeps, in 100 or 200 microseconds in all. A client of many signatures is back by then, and waking up
+# takes as long as signing.
 POLLS = 100
 
 
@@ -77,8 +77,8 @@ def libcrypto():
 
 
 class Ecdsa:
-    """Signs by ECDSA with nonces that were computed while no client waited (k^-1, and r of kG: FIPS 186-5 6.4.1). Only OpenSSL's own code uses
-    them. If none is left, or none can be computed, the package signs. The digest is hashlib's: the package's takes three times as long.
+    """Signs by ECDSA with nonces that were computed while no client waited (k^-1, and r of kG: FIPS 186-5 6.4.1). Only libcrypto reads the
+    nonces. If none is left, or none can be computed, the package signs. The digest is hashlib's: the package's takes three times as long.
 
     A nonce signs one message only, because two signatures with one nonce give the key away. So it leaves the list before it is used, and is
     freed afterwards even if signing fails. A forked process begins with no nonces."""
@@ -150,7 +150,8 @@ def verifier_of(public):
 
 
 def guarded(sign, words, key):
-    """A function that signs only for the CA of a certificate, or as its responder, and verifies each signature. The key must be that of the CA or responder."""
+    """A function that signs only for the CA of a certificate, or as its responder, and verifies each signature. Exits if `key` is not the key of the
+    CA or responder."""
     issuer = read_certificate(words.only_ours)
     responder = read_certificate(words.responder, "responder") if words.responder else None
     path, theirs = words.responder or words.only_ours, load_der_public_key((responder or issuer).public)

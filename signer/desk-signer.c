@@ -29,12 +29,12 @@
 
 #include "signer.h"
 
-/* CONNECTIONS are open at once, each with room for a SMALL message; HANDED_OVER is the first descriptor that systemd passes (sd_listen_fds(3)). */
+/* At most CONNECTIONS are open at once, each with room for SMALL octets; HANDED_OVER is the descriptor that systemd passes (sd_listen_fds(3)). */
 enum { CONNECTIONS = 256, MOST_PROCESSES = 256, SMALL = 1024, HANDED_OVER = 3, HEAP = 1 << 17, STACK = 1 << 16 };
-/* All messages together have at most MOST_BUFFERED octets; of one at most ROUND are read before the others' turn. */
+/* The buffers of larger messages have at most MOST_BUFFERED octets together; about ROUND octets of a message are read before the others' turn. */
 static const size_t LONGEST_MESSAGE = (size_t)64 << 20, MOST_BUFFERED = (size_t)512 << 20, ROUND = (size_t)1 << 20;
 static const long long SECOND = 1000000000, PATIENCE = 10 * SECOND;
-/* For so long a process polls for the message of a new client, or for the next client, before it sleeps: to be woken takes longer. */
+/* For so many nanoseconds a process polls for the message of a new client, or for the next client, before it sleeps: waking up takes time. */
 static const long long MESSAGE_DUE = 50000;
 static long long client_due = 300000;
 
@@ -60,7 +60,7 @@ struct connection {
     unsigned char *message, small[SMALL];
 };
 
-/* What the command line says: of each option its value, "" if it takes none. The number of a flag is FLAGS at least. */
+/* The options of the command line. `options` has the value of each, "" for a flag, and NULL if it was not given. The flags begin at FLAGS. */
 enum { ONLY_OURS, RESPONDER, PASSPHRASE_FILE, USER, PROCESSES, RATE, FLAGS, INHERITED = FLAGS, ALLOW_SWAP, FRESH_NONCES, OPTIONS };
 static const char *const names[OPTIONS] = {"only-ours", "responder", "passphrase-file", "user", "processes", "rate", "inherited", "allow-swap", "fresh-nonces"};
 static const char *options[OPTIONS], *key_name, *path;
@@ -72,21 +72,21 @@ static char passphrase[1024];
 static int listener = -1;
 static pid_t first, others[MOST_PROCESSES];
 static bool is_first = true;
-/* The socket at `path`, if it was created: its descriptor (O_PATH), and what it is. */
+/* The socket at `path`, if it was created: its descriptor (O_PATH, else -1), and its device and inode. */
 static int created = -1;
 static struct stat socket_file;
 /* The first `count` of `open_ones` are open. */
 static struct connection connections[CONNECTIONS], *open_ones[CONNECTIONS];
 static size_t count, buffered;
-/* When this process accepted a connection and ended one, and how long before the last arrival any of the processes had ended one. */
+/* When this process last accepted a connection, when it last ended one, and how long before the last arrival any of the processes had ended one. */
 static long long last_arrival, last_end, last_gap = PATIENCE;
-/* For all processes: when the next signature may be made, and when a connection ended. */
+/* For all processes: when the next signature may be made, and when a connection last ended. */
 static struct shared {
     _Atomic long long next_signature, last_end;
 } *shared;
 static volatile sig_atomic_t ended;
 
-/* Another signer may have its socket there by now. */
+/* Removes the socket that this signer created. Another signer may have its own at the path by now. */
 static void remove_socket(void) {
     struct stat found;
     if (created >= 0 && is_first && lstat(path, &found) == 0 && found.st_dev == socket_file.st_dev && found.st_ino == socket_file.st_ino)
@@ -121,7 +121,7 @@ static void fail(struct connection *it, const char *why) {
     end_connection(it);
 }
 
-/* Four times the room. A large message has a mapping of its own: it is no secret, and isn't locked. */
+/* Makes four times the room, for 64 MiB and SMALL octets at most. A large message has a mapping of its own: it is no secret, and isn't locked. */
 static bool grow(struct connection *it) {
     bool is_small = it->message == it->small;
     size_t room = it->room * 4 > LONGEST_MESSAGE ? LONGEST_MESSAGE + SMALL : it->room * 4, more = room - (is_small ? 0 : it->room);
@@ -138,7 +138,7 @@ static bool grow(struct connection *it) {
     return true;
 }
 
-/* The client has shut down its sending side. */
+/* Called when the client has shut down its sending side: with --only-ours, refuses a message that is not the issuer's. */
 static void complete(struct connection *it) {
     char why[REASON];
     it->is_complete = true;
@@ -186,7 +186,7 @@ static void open_connection(int socket) {
     receive(it);
 }
 
-/* Accepts one connection: the next one may be another process's. If all places are taken, the slowest client makes room. */
+/* Accepts one connection: another process may accept the next one. If CONNECTIONS are open, closes the oldest one whose message is incomplete. */
 static void accept_connection(void) {
     struct connection *slowest = oldest(false);
     if (count == CONNECTIONS && slowest == NULL)
@@ -221,12 +221,12 @@ static void answer(struct connection *it) {
     else if (send(it->socket, signature, length, MSG_NOSIGNAL | MSG_DONTWAIT) != (ssize_t)length)
         warn("a connection failed");
     end_connection(it);
-    /* A session with a token that was away doesn't come back. */
+    /* After a token was removed, its session stays lost. */
     if (length == 0 && is_token(key_name))
         errx(1, "the token gives no more signatures");
 }
 
-/* How long to wait for clients: up to the next signature, or to the end of a client's time, or until nonces are forgotten. */
+/* How many nanoseconds to wait for clients: up to the next signature, to the end of a client's time, or until nonces are forgotten. */
 static long long wait_time(long long now, const struct connection *slow) {
     long long at = slow ? slow->arrived + PATIENCE : now + PATIENCE, forgets = last_end + SECOND;
     if (oldest(true) && atomic_load(&shared->next_signature) < at)
@@ -236,7 +236,7 @@ static long long wait_time(long long now, const struct connection *slow) {
     return at > now ? at - now : 0;
 }
 
-/* Waits for clients; of one whose signature must wait, only that it disconnects. */
+/* Waits for clients. A client whose signature must wait only ends the wait when it disconnects. */
 static void wait_for_clients(const sigset_t *signals) {
     struct pollfd polled[CONNECTIONS + 1];
     const struct connection *slow = oldest(false);
@@ -266,7 +266,7 @@ static void wait_for_clients(const sigset_t *signals) {
         accept_connection();
 }
 
-/* Whether one of the processes of this signer has ended. A program that ran before exec(3) may have left other children. */
+/* Whether one of the other processes of this signer has ended. A program that ran before exec(3) may have left children that are none of them. */
 static bool has_other_ended(void) {
     pid_t child;
     while ((child = waitpid(-1, NULL, WNOHANG)) > 0)
@@ -297,7 +297,7 @@ static void serve(const sigset_t *signals) {
 
 /* The socket */
 
-/* Locks the socket's folder, so that of signers that start at one path only one finds that nobody listens there. */
+/* Locks the socket's folder, so that only one of several signers that start at one path finds that nobody listens there. Waits ten seconds at most. */
 static int lock_folder(struct sockaddr_un address) {
     int folder = open(dirname(address.sun_path), O_RDONLY | O_DIRECTORY | O_CLOEXEC);
     long long until = nanoseconds() + PATIENCE;
@@ -364,8 +364,8 @@ static void forbid_dumps(void) {
         err(1, "core dumps can't be forbidden");
 }
 
-/* Locks all that is mapped, with heap and stack for what the signatures need. Until the key is read (MCL_FUTURE) this includes what is mapped later;
- * then messages come into mappings that are not locked. */
+/* Locks all memory that is mapped, with enough heap and stack for signatures. Until the key is read, `which` has MCL_FUTURE, which includes later
+ * mappings. After that the mappings for large messages are not locked. */
 static void lock_memory(int which) {
     struct rlimit limit;
     volatile char stack[STACK];
@@ -393,7 +393,7 @@ static void become(const char *name) {
     forbid_dumps();
 }
 
-/* This is done last, since setuid(2) undoes it. */
+/* Has this process end with the first one. Called after setuid(2), which clears PR_SET_PDEATHSIG. */
 static void end_with_first(void) {
     if (!is_first && (prctl(PR_SET_PDEATHSIG, SIGTERM) != 0 || getppid() != first))
         exit(1);
@@ -404,7 +404,7 @@ static void handle(int number) {
         ended = number;
 }
 
-/* SIGTERM, SIGINT, and the end of another process come only while clients are waited for. */
+/* SIGTERM, SIGINT, and the end of another process (SIGCHLD) are handled only while the process waits for clients. */
 static void block_signals(sigset_t *while_waiting) {
     const int numbers[] = {SIGTERM, SIGINT, SIGCHLD};
     sigset_t blocked;
@@ -436,7 +436,7 @@ static void load_issuer(struct issuer *to, const char *from, const char *whose) 
         errx(1, "%s: no certificate of a %s: %s", from, whose, why);
 }
 
-/* Signs a text for nobody: a key that can't sign is noticed at the start. */
+/* Makes a signature that no client gets, so that a key that can't sign is noticed at the start. */
 static void try_key(void) {
     static const unsigned char text[] = "desk-signer";
     unsigned char signature[LONGEST_SIGNATURE];
@@ -456,7 +456,7 @@ static void load_key(void) {
     try_key();
 }
 
-/* What each process does before it serves: locks of memory don't outlive fork(2), nor do sessions with a token. */
+/* Prepares each process before it serves: neither locks of memory nor sessions with a token outlive fork(2). */
 static void settle(bool reads_each) {
     if (reads_each) {
         lock_memory(MCL_CURRENT | MCL_FUTURE);
@@ -469,7 +469,7 @@ static void settle(bool reads_each) {
     }
 }
 
-/* Starts the other processes, which end with the first, one after the other: SoftHSM fails if two read the key at once. */
+/* Starts the other processes one after the other, because SoftHSM fails if two read the key at once. They end with the first process. */
 static void start_processes(bool reads_each) {
     first = getpid();
     for (long i = 1; i < processes && is_first; i++) {
@@ -552,7 +552,7 @@ static void prepare(bool serves, bool reads_each) {
     fill_standard_streams();
     forbid_dumps();
     (void)setvbuf(stderr, NULL, _IOLBF, BUFSIZ);
-    /* The heap keeps its room when it is locked. */
+    /* The heap returns no memory to the system, so that it stays locked. */
     (void)mallopt(M_TRIM_THRESHOLD, 1 << 30);
     (void)mallopt(M_MMAP_THRESHOLD, 1 << 25);
     if (serves)

@@ -1,4 +1,4 @@
-/* Keys: in PEM files, and in PKCS #11 tokens by libp11's engine. Signatures by them, and their verification. */
+/* Reads keys in PEM files, and in PKCS #11 tokens by libp11's engine. Signs with them, and verifies the signatures. */
 /* Debian 12 has no PKCS #11 provider of OpenSSL, and engines are deprecated. */
 #define OPENSSL_SUPPRESS_DEPRECATED
 #include <fcntl.h>
@@ -34,7 +34,7 @@ X509 *read_certificate(const char *path, char *why) {
     return certificate;
 }
 
-/* A PEM file asks for its passphrase here, and nowhere else. */
+/* Gives libcrypto the passphrase of a PEM file, so that it doesn't ask for one at the terminal. */
 static int give_passphrase(char *to, int room, int is_written, void *passphrase) {
     size_t length = passphrase ? strlen(passphrase) : 0;
     (void)is_written;
@@ -93,7 +93,7 @@ EVP_PKEY *read_key(const char *key, char *passphrase, char *why) {
     return is_token(key) ? read_token_key(key, passphrase, why) : read_key_file(key, passphrase, why);
 }
 
-/* The name of a key's algorithm and its digest; Ed25519 has none. */
+/* The name of a key's algorithm, or NULL if the desk has none for it; `digest` gets the name of its digest, or NULL for Ed25519. */
 static const char *algorithm_of(const EVP_PKEY *key, const char **digest) {
     char curve[32] = "";
     *digest = "SHA256";
@@ -113,7 +113,7 @@ static const char *algorithm_of(const EVP_PKEY *key, const char **digest) {
     }
 }
 
-/* A context that signs or verifies digests, by RSA as PKCS #1 v1.5; none if libcrypto doesn't with this key. */
+/* A context that signs or verifies digests, with RSA by PKCS #1 v1.5; NULL if libcrypto can't with this key. */
 static EVP_PKEY_CTX *context_of(EVP_PKEY *key, int (*begin)(EVP_PKEY_CTX *), const EVP_MD *digest) {
     EVP_PKEY_CTX *context = EVP_PKEY_CTX_new(key, NULL);
     if (context && begin(context) == 1 && EVP_PKEY_CTX_set_signature_md(context, digest) == 1 &&
@@ -123,7 +123,7 @@ static EVP_PKEY_CTX *context_of(EVP_PKEY *key, int (*begin)(EVP_PKEY_CTX *), con
     return NULL;
 }
 
-/* For nonces to be drawn ahead; none for a key in a token. */
+/* The key for drawing nonces ahead; NULL for a key in a token, and for one that is not of ECDSA. */
 static EC_KEY *drawing_key(EVP_PKEY *key) {
     EC_KEY *it = EVP_PKEY_get_base_id(key) == EVP_PKEY_EC ? EVP_PKEY_get1_EC_KEY(key) : NULL;
     if (it == NULL || EC_KEY_get_method(it) == EC_KEY_OpenSSL())
@@ -177,7 +177,7 @@ void forget_nonces(struct signer *signer) {
         forget(&signer->nonces[--signer->drawn]);
 }
 
-/* If one can't be drawn, the key draws no more. */
+/* If a nonce can't be drawn, no more are drawn ahead. */
 void draw_nonce(struct signer *signer) {
     struct nonce *next = &signer->nonces[signer->drawn];
     if (ECDSA_sign_setup(signer->drawing, NULL, &next->inverse, &next->r) == 1) {
@@ -189,7 +189,7 @@ void draw_nonce(struct signer *signer) {
     signer->drawing = NULL;
 }
 
-/* With a nonce that was drawn ahead. */
+/* Signs a digest with a nonce that was drawn ahead. */
 static bool sign_with_nonce(struct signer *signer, struct octets digest, unsigned char *signature, size_t *length) {
     struct nonce *nonce = &signer->nonces[--signer->drawn];
     unsigned got = 0;
@@ -199,7 +199,7 @@ static bool sign_with_nonce(struct signer *signer, struct octets digest, unsigne
     return is_signed;
 }
 
-/* By ECDSA and RSA: the message is digested once. */
+/* Signs with ECDSA or RSA. The message is digested once for the signature and its verification. */
 static size_t sign_digest(struct signer *signer, struct octets message, unsigned char *signature, bool *is_verified) {
     unsigned char digest[EVP_MAX_MD_SIZE];
     unsigned digest_length = 0;
@@ -214,7 +214,7 @@ static size_t sign_digest(struct signer *signer, struct octets message, unsigned
     return length;
 }
 
-/* By Ed25519, which goes over the message twice. */
+/* Signs with Ed25519, which reads the whole message twice (RFC 8032 5.1.6). */
 static size_t sign_whole(struct signer *signer, struct octets message, unsigned char *signature, bool *is_verified) {
     EVP_MD_CTX *context = signer->digesting;
     size_t length = LONGEST_SIGNATURE;

@@ -1,4 +1,4 @@
-/* Which messages are signed: CRLs and OCSP answers of one CA, exactly as the desk writes them, in DER (X.690 10, 11) and to the last octet.
+/* The messages that are signed with --only-ours: CRLs and OCSP answers of one CA, exactly as the desk writes them, in DER (X.690 10, 11).
  * examples/only_ours.py accepts and refuses the same messages; tests/groups/native_signer.py compares the two. */
 #include <stdio.h>
 #include <string.h>
@@ -10,7 +10,7 @@
 enum { INTEGER = 0x02, OCTETS = 0x04, IDENTIFIER = 0x06, SEQUENCE = 0x30, REVOKED = 0xA1 };
 /* A UTCTime and a GeneralizedTime in seconds and UTC, and a reasonCode extension, with their tags and lengths. */
 enum { UTC_LENGTH = 15, GENERAL_LENGTH = 17, REASON_LENGTH = 14 };
-/* RFC 5280 4.1.2.2; the desk has key identifiers of so many octets at most. */
+/* The most octets of a serial number (RFC 5280 4.1.2.2), and of a key identifier that the desk has. */
 enum { LONGEST_SERIAL = 20, LONGEST_IDENTIFIER = 64 };
 
 #define TEXT(text) {(const unsigned char *)(text), sizeof(text) - 1}
@@ -37,7 +37,7 @@ static const struct {
     {"SHA256", TEXT("\x30\x0D\x06\x09\x60\x86\x48\x01\x65\x03\x04\x02\x01\x05\x00")},
 };
 
-/* Octets that are read value by value. A function that returns false has written the reason. */
+/* Octets that are read value by value. A function that reads from them and returns false has written the reason, except read_long_length. */
 struct reader {
     const unsigned char *at, *end, *begin;
     char *why;
@@ -60,7 +60,7 @@ static bool begins(const struct reader *reader, struct octets wanted) {
     return left(reader) >= wanted.length && memcmp(reader->at, wanted.begin, wanted.length) == 0;
 }
 
-/* Reads the rest of a length in the long form, which has the fewest octets (X.690 10.1). */
+/* Reads the rest of a length in the long form. False unless it has the fewest octets (X.690 10.1). */
 static bool read_long_length(struct reader *reader, size_t *length) {
     size_t count = *length - 128, value = 0;
     if (count == 0 || count > sizeof value || count > left(reader) || *reader->at == 0)
@@ -71,7 +71,7 @@ static bool read_long_length(struct reader *reader, size_t *length) {
     return value > 127;
 }
 
-/* Reads the next value, which has this tag; its contents. */
+/* Reads the next value, which must have this tag; `contents` gets its contents. */
 static bool inside(struct reader *reader, unsigned tag, struct reader *contents) {
     struct reader rest = *reader;
     size_t length;
@@ -115,7 +115,7 @@ static bool ended(const struct reader *reader) {
     return left(reader) == 0 || refuse(reader, "end");
 }
 
-/* An INTEGER in the fewest octets (X.690 8.3.2), of which there is one at least; its contents. */
+/* Reads an INTEGER, which must have the fewest octets, and one at least (X.690 8.3); `value` gets its contents. */
 static bool read_integer(struct reader *reader, struct reader *value) {
     if (!inside(reader, INTEGER, value))
         return false;
@@ -138,7 +138,7 @@ static bool is_moment_of_year(const unsigned char *at) {
     return digits(at, 1, 12) && digits(at + 2, 1, 31) && digits(at + 4, 0, 23) && digits(at + 6, 0, 59) && digits(at + 8, 0, 59) && at[10] == 'Z';
 }
 
-/* The length of the moment that begins the octets; 0 if none does. */
+/* The length of the moment (a UTCTime or a GeneralizedTime) at the beginning of the octets; 0 if there is none. */
 static size_t length_of_moment(const unsigned char *at, size_t length) {
     if (length >= UTC_LENGTH && at[0] == 0x17 && at[1] == UTC_LENGTH - 2 && digits(at + 2, 0, 99) && is_moment_of_year(at + 4))
         return UTC_LENGTH;
@@ -165,14 +165,14 @@ static bool is_reason(const unsigned char *at) {
 
 /* A CRL (RFC 5280 5.1.2) */
 
-/* The length of an INTEGER above 0 of at most 20 octets, in the fewest, that begins the octets (3 at least); 0 if none does. */
+/* The length of an INTEGER above 0, of at most 20 octets and in the fewest, at the beginning of the octets (18 at least); 0 if there is none. */
 static size_t length_of_serial(const unsigned char *at) {
     if (at[0] != INTEGER || at[1] == 0 || at[1] > LONGEST_SERIAL || at[2] > 0x7F || (at[2] == 0 && (at[1] == 1 || at[3] < 0x80)))
         return 0;
     return 2 + (size_t)at[1];
 }
 
-/* A serial number, its moment, and its reason if it has one. */
+/* Whether the contents of an entry are a serial number, its moment, and its reason if it has one. */
 static bool is_entry(const unsigned char *at, size_t length) {
     if (length < 3 + UTC_LENGTH)
         return false;
@@ -235,7 +235,7 @@ static bool read_crl(struct reader *reader, const struct issuer *issuer) {
 
 /* An OCSP answer (RFC 6960 4.2.1) */
 
-/* A CertID (RFC 6960 4.1.1), as a client asked: the hash algorithm, two hashes and a serial number. */
+/* A CertID (RFC 6960 4.1.1), repeated from the request: the hash algorithm, two hashes and a serial number. */
 static bool read_cert_id(struct reader *reader) {
     struct reader algorithm, value;
     if (!inside(reader, SEQUENCE, &algorithm) || !inside(&algorithm, IDENTIFIER, &value))
@@ -320,7 +320,7 @@ static void append(struct short_octets *to, const void *octets, size_t length) {
     to->length += length;
 }
 
-/* An authorityKeyIdentifier with this key identifier (RFC 5280 4.2.1.1); none if the desk has no identifier of this length. */
+/* Makes an authorityKeyIdentifier extension with this key identifier (RFC 5280 4.2.1.1), or leaves it empty if the desk has none of this length. */
 static void name_key(struct short_octets *extension, const unsigned char *identifier, size_t length) {
     unsigned char n = (unsigned char)length;
     if (length == 0 || length > LONGEST_IDENTIFIER)
@@ -329,7 +329,7 @@ static void name_key(struct short_octets *extension, const unsigned char *identi
     append(extension, identifier, length);
 }
 
-/* An OCTET STRING of a hash. */
+/* Appends an OCTET STRING with the hash of some octets. */
 static bool append_hash(struct short_octets *to, const char *digest, struct octets hashed) {
     unsigned char *head = to->octets + to->length;
     size_t length = 0;
@@ -341,7 +341,7 @@ static bool append_hash(struct short_octets *to, const char *digest, struct octe
     return true;
 }
 
-/* The AlgorithmIdentifier of the desk's signatures by a key of this algorithm; none if the desk has none. */
+/* The AlgorithmIdentifier of the desk's signatures with a key of this algorithm; empty if the desk has none. */
 static struct octets signature_algorithm(const X509_ALGOR *algorithm) {
     unsigned char *der = NULL;
     int length = i2d_X509_ALGOR(algorithm, &der);

@@ -63,7 +63,7 @@ def layers():
 
 
 def checked(used, layer):
-    """Every crate has a layer, every layer a row, and no crate uses one of a row above its own."""
+    """Checks that each crate has a layer and each layer a row, and that no crate uses one of a row above its own. Returns the row of each crate."""
     row = {it: number for number, titles in enumerate(ROWS) for title in titles for it in layer.get(title, [])}
     wrong = [f"no row for the layer {it}" for it in layer if not any(it in titles for titles in ROWS)]
     wrong += [f"{it} has no layer in the table of docs/ARCHITECTURE.md" for it in used if it not in row]
@@ -118,7 +118,7 @@ class Drawing:
             self.place(title)
 
     def place(self, title):
-        """Each line is spread over its layer; a box that is alone in its line is above the one that it uses in the layer."""
+        """Spreads each line of boxes over its layer. A box that is alone in its line is above the one that it uses in the layer."""
         x, y, width, height = self.bands[title]
         lines = self.lines[title]
         top = y + TITLE + (height - TITLE - PAD - (len(lines) - 1) * STEP) / 2

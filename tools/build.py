@@ -27,7 +27,7 @@ RT = shutil.which("rt") or "/opt/rattle/bin/rt"
 MEMORY_OF_A_CHECK = 2_000_000_000
 MOST_JOBS = 4
 TIMES = f"{TOP}/tools/build-times.txt"
-# Of a crate that was not measured: elapsed seconds per line.
+# The elapsed seconds per line of a crate that was not measured.
 SECONDS_OF_A_LINE = 0.05
 # The seconds between two reports of progress.
 TELL_EVERY = 60
@@ -103,7 +103,7 @@ def link_or_copy(source, target):
 
 
 def lend(crate, room, parts):
-    """Puts these parts of a crate's folder into a temporary copy, as hard links if both are on the same disk."""
+    """Puts these parts of a crate's folder into a temporary copy of the repository, as hard links if both are on the same disk."""
     for part in parts:
         if os.path.isdir(f"{crate.folder}/{part}"):
             shutil.copytree(f"{crate.folder}/{part}", f"{room}/crates/{crate.name}/{part}", copy_function=link_or_copy)
@@ -178,7 +178,7 @@ class Progress:
         self.began, self.done, self.started, self.ended = time.monotonic(), {}, {}, threading.Event()
 
     def pace(self):
-        """The seconds on this machine for one of the file's, from what was built; 1 if that is little."""
+        """How many seconds here one second of build-times.txt takes, by the crates that were built; 1 if these are few."""
         told = [(built.seconds, self.crates[it].seconds) for it, built in self.done.items() if built.seconds > 5]
         expected = sum(it for _, it in told)
         return sum(it for it, _ in told) / expected if expected > 60 else 1.0
@@ -230,7 +230,7 @@ def build(crates, names, is_lean=False):
             ready = [it for it in left if all(other in took for other in crates[it].uses)]
             for at, name in enumerate(ready):
                 idle = lanes - sum(jobs for _, jobs in running.values())
-                # the build takes as long as the longest chain: its crate has two jobs at least, and the others a lower priority
+                # The build takes as long as the longest chain: its crate gets at least two jobs if memory allows, and the others a lower priority.
                 is_first = at == 0 and behind[name] >= max([behind[it] for it, _ in running.values()], default=0)
                 share = idle // (len(ready) - at)
                 jobs = max(1, min(MOST_JOBS, max(2, share) if is_first else share))

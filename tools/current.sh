@@ -1,4 +1,4 @@
-# Sourced. `is_current ROOT` says whether the program of the repository ROOT is built and none of its sources is newer.
+# Other scripts source this. `is_current ROOT` succeeds if the program of the repository ROOT is built, and is not older than crates.txt or a source.
 # shellcheck shell=sh
 is_current() {
     built="$1/crates/reg_desk/out/reg_desk"

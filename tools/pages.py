@@ -112,7 +112,7 @@ def look_at_promises():
 
 
 def look_at_functions(page, promise, functions, crates):
-    """The functions and clauses of a promise exist, and calls from `main` reach one of the functions, or it is a law, which has no code."""
+    """Checks that the functions and clauses of a promise exist, and that calls from `main` reach one of the functions, unless it is a law or an example."""
     names = [it.split("::")[-1] for it in re.findall(r"`((?:[A-Za-z_]+::)*[a-z_0-9]+)`", functions)]
     sources = [path for crate in crates for path in (TOP / "crates" / crate / "src").rglob("*.rt")]
     for name in names:
@@ -124,7 +124,7 @@ def look_at_functions(page, promise, functions, crates):
 
 
 def look_at_proofs():
-    """Proofs cite lemmas of another crate only through its PublicLaws."""
+    """Checks that proofs cite lemmas of another crate only through its PublicLaws."""
     cited = re.compile(r"^use Rattle\.(reg_\w+)\.proofs\.([\w.]+)", re.MULTILINE)
     for path in sorted((TOP / "crates").glob("*/[ps]*/**/*.antt")):
         crate = path.relative_to(TOP / "crates").parts[0]
@@ -150,7 +150,7 @@ def look_at_crates():
 
 
 def look_at_model():
-    """`crate `File`, `file.rt`, ..` of docs/MODEL.md, and `crate `File.Definition``."""
+    """Checks names in docs/MODEL.md of these forms: crate `File`, `file.rt`, ..; crate `File.Definition`."""
     page = "docs/MODEL.md"
     for crate, names in re.findall(r"(reg_\w+)\s+((?:`[\w.]+`(?:,\s+)?)+)", text(page)):
         for name in re.findall(r"`([\w.]+)`", names):
@@ -162,7 +162,7 @@ def look_at_model():
 
 
 def look_at_names():
-    """A definition has one name over all crates."""
+    """Checks that no two crates give one name to definitions."""
     definition = re.compile(r"^(?:(?:abbrev|unfoldable) pub|pub (?:record|data)) ([^\s:({]+)", re.MULTILINE)
     crates_of = {}
     for path in sorted((TOP / "crates").glob("*/specs/*.antt")):

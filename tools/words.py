@@ -1,6 +1,6 @@
 #!/usr/bin/env python3
-"""Finds the retired words of tools/words.txt in names of files, identifiers and pages, so that they do not come back.
-Prints FILE:LINE: WORD -> REPLACEMENT for each, and exits with 1 if there is one."""
+"""Finds the retired words of tools/words.txt: in names of files and identifiers of the crates, in their comments and texts (only the words of the
+part "everywhere"), and in pages. Prints FILE:LINE: WORD -> REPLACEMENT for each, and exits with 1 if there is one."""
 import re
 import sys
 from pathlib import Path

@@ -1,4 +1,4 @@
-"""Sizes at which nothing happens: each number of rows, entries, CRLs and bytes here is an ordinary one, and the register is closed and opened again between."""
+"""Sizes at which the behaviour must not change: numbers of rows, entries, CRLs and bytes. Between them the register is closed and opened again."""
 
 from lib.program import moment_of, parted, seconds_of
 from lib.trial import test
@@ -7,18 +7,18 @@ DAY = "2026-01-01T00:00:00Z"
 LATER = "2026-01-10T00:00:01Z"
 
 
-# Behind it come serial numbers of 20 bytes (RFC 5280 4.1.2.2).
+# Serial numbers above this one have 20 bytes (RFC 5280 4.1.2.2).
 LONGEST = 0x7F << 152
 
 
 def entered(first, last, behind=0):
-    """Lines that order and register certificates for subscriber 1, each under its own order, whose serial numbers are one and these digits."""
+    """Lines that order and register certificates for subscriber 1, each under its own order, with the serial numbers `behind` + `first` to `behind` + `last`."""
     end = "2026-01-10T00:00:00Z"
     return "".join(f"{DAY} order 1 398\n{DAY} register {at} {behind + at:x} {DAY} {end}\n" for at in range(first, last + 1))
 
 
 def revoked(first, last, behind=0):
-    """Lines that revoke them, by a request each."""
+    """Lines that request and revoke these certificates."""
     return "".join(f"{DAY} request {behind + at:x} superseded\n{DAY} revoke {at}\n" for at in range(first, last + 1))
 
 

@@ -5,7 +5,7 @@ from lib import faults
 from lib.faults import LIFE, STORE, Course
 from lib.trial import each
 
-# The file, what fails, and how: each of these fails at its Nth call, and in another row from the Nth call on.
+# The file, the kind of call, and the way in which it fails: at its Nth call; in some rows at each call from the Nth on.
 FAILURES = {
     "a write of the log": ("ca.db-wal", "write", ""),
     "a write of the file": ("ca.db", "write", ""),

@@ -66,7 +66,7 @@ def a_first_write_that_fails_is_reported(t, words):
         t.true(count["met"], "it was met")
 
 
-# An error of the system, and the line behind that of the fault where --why asks for it.
+# A system error, and the line that --why adds after the fault.
 CAUSES = {"ENOSPC": b"  disk full (standard output)\n", "EACCES": b"  permission denied, or the file system is read-only (standard output)\n", "EPIPE": b"", "EIO": b"", "ECONNRESET": b""}
 
 
@@ -81,7 +81,7 @@ def an_error_of_the_system_has_its_cause_or_none(t, error, line):
 @test
 def where_nothing_can_be_printed_the_status_stays(t):
     t.register(lines=ENTERED)
-    # Left out: words that can't be read, which end with status 1 in place of 2 then.
+    # A wrong command line is left out: its status is then 1, and not 2.
     for words, status in ((["crl", "ca.db"], 1), (["script", "none.db"], 1)):
         ran, count = faults.run(t, words, only="stderr", fail="write:1+")
         t.same((ran.status, ran.out, ran.err), (status, b"", b""), words[0])

@@ -68,12 +68,12 @@ def a_call_fails(t, job, kind, how):
     t.true(told or kind in ("cut", "stat") or (kind, job) in NEVER_TOLD, f"no {kind} of {job} was told")
 
 
-# Calls that such a job never makes, or need not make: it writes nothing of its own.
+# Calls that these jobs need not make, because they only read the register.
 NEVER_TOLD = {(it, job) for it in ("write", "sync") for job in ("crl", "list", "audit")}
 
 
 def judge(t, job, ran, usual, where):
-    """How a job ends that met a fault: by its line, with nothing on standard output but rows of an import; a row may be answered so."""
+    """Checks the end of a job that had a fault: its line on standard error, and nothing on standard output except the replies of an import."""
     if job == "import":
         fits = set(ran.lines) <= {"registered", "F2 store"} and (ran.status, ran.err) in ((0, b""), (1, b"F2 store\n"))
     else:
@@ -83,7 +83,7 @@ def judge(t, job, ran, usual, where):
 
 
 def stands(t, ran, found, old, where):
-    """After an import the register has each row with an accepted reply. It may have the row whose commit failed."""
+    """Checks that after an import the register has each row with an accepted reply. It may also have the row whose commit failed."""
     serials = {row[0][-1] for row in found["cert"]}
     for line, serial in zip(ran.lines, (5, 6)):
         if line == "registered":

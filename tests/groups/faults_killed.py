@@ -25,7 +25,7 @@ def feed(process, lines):
 
 
 def ended_while_fed(t, words, lines, ended, how, after, is_answering):
-    """Feeds lines, ends a program after a while, which may begin with its first reply, and returns the last id that was answered; 0 where none was."""
+    """Feeds lines to a program, and ends it after a while, counted from its start or its first reply. Returns the last id in a reply, or 0."""
     with tempfile.TemporaryFile(dir=t.room) as replies:
         asker = subprocess.Popen(
             [program.program(), *words], cwd=t.room, stdin=subprocess.PIPE, stdout=replies, stderr=subprocess.DEVNULL, env=program.environment()

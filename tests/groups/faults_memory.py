@@ -9,7 +9,7 @@ from lib.trial import Failed, each, test
 DAY = "2026-01-01T00:00:00Z"
 LATER = "2026-01-02T00:00:00Z"
 SOON = "2026-01-02T00:00:01Z"
-# Each of so many, and then each one of so many.
+# Each of the first EACH calls fails in turn, and then every STRIDE-th one.
 EACH, STRIDE = 200, 37
 PARTS = 4
 
@@ -19,7 +19,7 @@ def script(lines):
 
 
 def part_of(last, part):
-    """One part of the places, so that the parts are tried side by side."""
+    """One part of the call numbers that are tried, so that tests try the parts in parallel."""
     return faults.places(last, EACH, STRIDE)[part::PARTS]
 
 

@@ -14,14 +14,14 @@ FULL = "".join(f"{asked}\n" for asked, _ in REGISTERED) + (
 
 
 def altered(t, base, statements):
-    """A register after statements of others."""
+    """Makes a copy of a register in which another program has run these statements."""
     faults.copy(base, t.room / "ca.db")
     with contextlib.closing(sqlite3.connect(t.room / "ca.db")) as it:
         it.executescript(statements)
     t.note(f"sql ca.db {statements}")
 
 
-# Statements, and the line that meets the row.
+# Statements, and the line that reads the changed row.
 ROWS = {
     "a serial number of 19 bytes": (
         "INSERT INTO orders VALUES (3, 1, 10); INSERT INTO cert VALUES (x'00000000000000000000000000000000000007', 3, 1767225600, 1768003200)",
@@ -89,7 +89,7 @@ OPENED = [
     ("INSERT INTO longest VALUES (253402300800, 1)", NOT),
     ("DELETE FROM longest", NOT),
     ("DROP TABLE longest", NOT),
-    # A thing more, a thing less, or one that is not as a register's.
+    # A table, index or view too many, one too few, or one that differs from a register's.
     ("CREATE TABLE note (title TEXT) STRICT", NOT),
     ("CREATE VIEW note AS SELECT 1 AS one", NOT),
     ("CREATE INDEX of_crl ON crl (this_update)", NOT),
@@ -127,7 +127,7 @@ def what_is_opened(t):
         t.same(faults.tables(t.room / "ca.db"), before, f"the tables: {statements}")
 
 
-# Statements over an older register, which it is not made newer then.
+# Statements over an older register, which is then not migrated.
 OLDER = [
     ("UPDATE office SET days = 0", NOT),
     ("UPDATE office SET days = 399", NOT),

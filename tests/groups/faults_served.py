@@ -38,7 +38,7 @@ def is_answer(got, status, held):
 
 
 def is_refused(got):
-    """Without memory for anything else it is a constant text, with no moment."""
+    """Whether a response reports that the desk is out of memory, or is empty. If there is no memory even for the Date, it is a constant text."""
     told = b"\r\n\r\n" + b'{"error":"F1 memory"}'
     return got in (b"", NO_MEMORY) or (got.startswith(b"HTTP/1.1 500 ") and got.endswith(told)) or got.endswith(b"0\x03\n\x01\x02")
 

@@ -7,13 +7,13 @@ from lib.faults import LIFE
 from lib.program import ANY_SIGNATURE
 from lib.trial import each
 
-# The line at which each call of the signer is made: three CRLs, and an OCSP answer behind the first.
+# The index of the line at which each call of the signer is made: three CRLs, and an OCSP answer after the first.
 CALLS = [5, 6, 7, 8]
 INTERNAL_ERROR = "ocsp 30030a0102"
 
 
 def replies_where(failing):
-    """The replies where the call of this number fails: a CRL that was not signed is not there, and those behind it are as though it never was."""
+    """The replies if the call with this number fails: an unsigned CRL is not issued, and later CRLs are as if it had not been requested."""
     wanted = [reply for _, reply in LIFE]
     if failing == 2:
         wanted[6] = INTERNAL_ERROR

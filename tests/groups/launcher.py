@@ -91,7 +91,7 @@ class Repository:
         return tries.read_text().splitlines().count("try -- --version") if tries.exists() else 0
 
     def looks(self, words, builds):
-        """Wants that the unproved program is run by these words, that ./desk says so, and that so many were built by then."""
+        """Checks that ./desk runs the unproved program with these words and says so, and that this many unproved programs were built by then."""
         status, out, err = self.desk(*words)
         self.t.same((status, out), (0, f"unproved {' '.join(words)}\n"), "status and standard output")
         self.t.has(err, UNPROVED, "standard error")
@@ -118,7 +118,7 @@ def a_first_script_keeps_its_look(t):
     it.looks(["--help"], 1)
 
 
-# Each row is words.
+# Each row is a command line.
 LOOKS = (
     ("--help",), ("-h",), ("-V",), ("script",), ("script", "--why"), ("--why", "script"), ("script", "--strict", "--clock"), ("init", "--help"),
     ("key-id", "-h"), ("--why", "audit", "--help"),
@@ -188,7 +188,7 @@ def the_words_of_a_build(t):
 
 
 MB = 1_000_000
-# A repository's crates, those that each stands on, and how many megabytes a build leaves of each one's library, its proofs and all else. `office` comes first in
+# A repository's crates, the crates that each uses, and how many megabytes a build leaves of each one's library, its proofs and all else. `office` comes first in
 # crates.txt, whose order is free.
 MADE = {"office": ("store", 0.9, 3, 0), "core": ("", 0.3, 1, 0), "laws": ("core", 0.2, 0.5, 0), "store": ("core laws", 0.8, 2, 0.1), "reg_desk": ("office", 0, 1, 0.4)}
 
@@ -222,7 +222,7 @@ def left_of(top):
 
 
 PROGRAM = ["reg_desk/out/reg_desk", "reg_desk/out/reg_desk.stamp"]
-# By how many megabytes may stay: the crates whose libraries do. A library that depends on one that does not fit is not kept, although it would fit itself.
+# How many megabytes may be kept, and the crates whose libraries then are. A library that depends on one that does not fit is not kept, although it would fit itself.
 LIMITS = {"2000": ["core", "laws", "office", "store"], "1.5": ["core", "laws", "store"], "1.2": ["core", "laws"], "0.4": ["core"], "0": []}
 
 

@@ -165,7 +165,7 @@ def at_waits_for_room_in_the_queue_of_a_control_socket(t):
 
 @test(seconds=2)
 def a_desk_tries_to_lock_the_folder_of_its_control_socket_for_ten_seconds(t):
-    """Two thousand times, with five milliseconds between two. Here it does not sleep."""
+    """It tries two thousand times, with five milliseconds between two attempts. In this test it does not sleep."""
     t.register()
     folder = os.open(t.room, os.O_RDONLY)
     t.callback(os.close, folder)
@@ -1100,7 +1100,7 @@ def a_copy_is_reported_once_its_folder_is_synced(t):
 
 @test
 def a_copy_has_one_name_before_its_folder_is_synced(t):
-    """One that has two when the machine stops is not opened."""
+    """If a file has two names when the machine stops, it is not opened."""
     t.register()
     (t.room / "copies").mkdir()
     with ThreadPoolExecutor(1) as pool:
@@ -1253,7 +1253,7 @@ def a_large_file_is_read_once(t):
 
 @test
 def a_register_to_which_sqlite_writes_is_not_read(t):
-    """It has a reserved lock, in the mode without a log."""
+    """SQLite, in rollback mode, holds a reserved lock on the file."""
     t.register()
     with contextlib.closing(sqlite3.connect(t.room / "ca.db", isolation_level=None)) as other:
         t.same(other.execute("PRAGMA journal_mode = delete").fetchall(), [("delete",)])
@@ -1266,7 +1266,7 @@ def a_register_to_which_sqlite_writes_is_not_read(t):
 
 @each({"an audit": ["audit", "ca.db"], "a copy": ["copy", "ca.db", "copy.db"]})
 def a_file_that_a_link_replaces_is_not_read(t, words):
-    """It does so after the desk has looked at the file, and before it opens it."""
+    """The link replaces the file after the desk has looked at the file, and before it opens the file."""
     t.register()
     t.register("other.db", lines=f"{DAY} subscriber other\n")
     with ThreadPoolExecutor(1) as pool:

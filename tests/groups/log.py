@@ -66,7 +66,7 @@ SIGNERS = {
 
 @each(SIGNERS, seconds=2)
 def a_signature_that_did_not_come_is_the_line_s_last_word(t, answer, failing):
-    """Of an OCSP answer that is internalError because of it, although its status is 200; and of no other exchange."""
+    """The word is in the line of an OCSP answer that is internalError for lack of a signature, although its HTTP status is 200; and in no other line."""
     t.register(key=program.P256_KEY)
     t.clock(DAY)
     if answer is not None:
@@ -93,7 +93,7 @@ def a_crl_that_nobody_signs_has_the_word_too(t):
 
 @test
 def an_answer_that_the_store_does_not_give_has_no_such_word(t):
-    """That is internalError too: a row that no register writes."""
+    """This answer is internalError too, because of a row that no register writes."""
     t.register(lines=f"{DAY} subscriber acme\n{DAY} order 1 398\n{DAY} register 1 05 {DAY} 2026-01-10T00:00:00Z\n")
     t.sql("ca.db", "UPDATE cert SET not_after = -1")
     t.clock(DAY)

@@ -442,7 +442,7 @@ def a_certificate_of_another_key_is_not_taken(t):
         ran = t.tried(native.signer(), *words, it.key, "ca.sign")
         t.same((ran.returncode, (t.room / "ca.sign").exists(), ran.stderr.count(b"\n")), (1, False, 1), f"{words}: status, whether it listens, lines")
         t.has(ran.stderr, told)
-    # That it is no PEM is no reason.
+    # The signer reads a certificate in DER too, and refuses it only for its key.
     t.tool("openssl", "x509", "-in", other.pem, "-outform", "DER", "-out", "other.der")
     ran = t.tried(native.signer(), "--only-ours", "other.der", it.key, "ca.sign")
     t.same((ran.returncode, ran.stderr), (1, f"{NAME}other.der: it is the certificate of another key\n".encode()), "a certificate in DER")

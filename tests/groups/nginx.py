@@ -12,13 +12,13 @@ from lib.authority import Authority, first_day, path_of
 from lib.trial import each, need, test
 from lib.web_server import Front, certificates, revoke
 
-# For how many seconds an answer is kept: in tests that wait until it is kept no more, and in all others.
+# For how many seconds nginx caches an answer: in tests that wait until it expires, and in all others.
 KEPT, LONG = 4, 60
 ASK = '{"serial":"06","ground":"superseded"}'
 
 
 def opened(t, *names, seconds=LONG):
-    """A CA, an open desk of which 05 is revoked and 06 good, and servers before it."""
+    """A CA, an open desk in whose register 05 is revoked and 06 good, and servers in front of it."""
     need("nginx")
     it = Authority(t)
     certificates(t)
@@ -156,13 +156,13 @@ def how_old_an_answer_can_be(t):
     path, control = path_of(it.asks("06")), t.control()
     front.state("/crl")
     told = lambda: it.reads("06", front.ask(path)[2], verify=False)
-    # The answer begins to be kept between these moments.
+    # nginx caches the answer between these two moments.
     before = time.monotonic()
     t.same(told(), "good")
     made = time.monotonic()
     t.same([control.ask("request 06 superseded").split()[0], control.ask("revoke 2"), control.ask("crl")], ["request", "revoked", "crl 2 entries 2"])
     status, fields, body = front.ask(path)
-    # On a slow machine it may be kept no more.
+    # On a slow machine the cached answer may have expired.
     if time.monotonic() - before < KEPT:
         t.same((fields["X-Cache-Status"], it.reads("06", body, verify=False)), ("HIT", "good"), "right after the revocation a kept answer")
     t.same(it.asked_by_openssl("06", front.url("/ocsp")), "revoked", "OCSP by POST, which is never kept")

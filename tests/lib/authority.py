@@ -40,7 +40,7 @@ REASONS = {"Unspecified": 0, "Key Compromise": 1, "CA Compromise": 2, "Affiliati
 MALFORMED, INTERNAL, TRY_LATER = (bytes.fromhex(f"30030A010{it}") for it in (1, 2, 3))
 
 
-# A proxy that no script uses: it is not there, and the desk is on the same machine.
+# The environment names a proxy that does not exist: the scripts must use none, since the desk is on the same machine.
 NO_PROXY = {"http_proxy": "http://127.0.0.1:1"}
 
 
@@ -127,7 +127,7 @@ def certificate(t, name, subject, key=KEYS["ecdsa-sha256"], more=()):
 
 
 def openssl(*words, given=b""):
-    """The output of openssl, in a signer's thread, where a test can't fail."""
+    """The output of openssl. For the thread of a signer, where `t.tool` can't fail the test."""
     return subprocess.run(["openssl", *map(str, words)], input=given, capture_output=True, check=True).stdout
 
 
@@ -144,7 +144,7 @@ def first_day(moment):
     return "".join(f"{begins} {it}\n" for it in lines)
 
 
-# The replies to these, from the moment on until which request 1 is to be decided.
+# The replies to these lines; `due` is the deadline of request 1.
 FIRST_DAY_REPLIES = ["subscriber 1", "order 1", "order 2", "registered", "registered", "request 1 due {due}", "revoked", "crl 1 entries 1"]
 
 
@@ -205,7 +205,7 @@ def values_of(content):
 
 
 def inside(value, *path):
-    """The value at a path of indices from 0 within a DER value: its tag, its contents, and all its bytes."""
+    """The value within a DER value at a path of indices, from 0 on: its tag, its contents, and all its bytes."""
     found = values_of(value)[0]
     for place in path:
         found = values_of(found[1])[place]

@@ -1,29 +1,5 @@
-"""Cases as text. A file NAME.case has steps, one after the other, in a folder of its own:
-
-    # A comment. The first one says what the case shows.
-    desk WORD ..            runs the program; words as a shell reads them
-    open WORD ..            `desk open WORD ..`, kept open until `end`; --port is chosen where it is left out
-    serve WORD ..           the same of `desk serve`
-    end [SIGNAL]            ends what was opened (TERM where nothing is named); `wait` waits until it ends by itself
-    http METHOD TARGET [FIELD: VALUE | ..]   one request to what was opened; the fields of its head are parted by |
-    send                    the given bytes as they are, to its port; a line ends with CR LF
-    at WORD ..              as `desk at WORD ..`
-    clock MOMENT            sets the machine's clock, also of what is open
-    sql FILE STATEMENT      a statement over a register that is closed
-    signer PATH [fails N] [hangs N] [gives HEX]   what signs at a socket from now on: a signature in the form of ECDSA; its Nth call gives
-                            nothing, or never answers; HEX in the place of the signature
-    file PATH [MODE]        makes a file of the given lines; `folder PATH` a folder, `remove PATH`, `mode PATH` prints the mode
-    run WORD ..             another program, as openssl, which must end as `=` says
-    use FILE                the steps of another file of the same folder
-
-    < TEXT                  a line that is given (to the step above), ended by LF; `<| TEXT` is not ended; `<x HEX` bytes; `<* N TEXT` N times TEXT
-    > TEXT                  a line that is wanted on standard output, or of what a step answers; `>| TEXT`, `>x HEX`, `>* N TEXT` likewise
-    ! TEXT                  a line that is wanted on standard error
-    = STATUS                the exit status that is wanted (0 where it is left out)
-
-What a step prints must be all that is wanted, and nothing else. In TEXT, `{*}` stands for anything within the line, `{port}` for the port, `{T}` in words for
-the issuer of the examples (--name .. --key ..), `{P256}` for one with a key of P-256, and \\xHH, \\r, \\n, \\t, \\\\ for bytes. A response of HTTP is its head's lines
-(each ends with CR LF), an empty line, and its body, whose last line has no end: write the body as `>| TEXT` or `>x HEX`.
+"""Runs cases that are text: each file NAME.case has steps, which run one after the other in a new folder. tests/README.md describes the steps,
+and the lines after a step. An HTTP response is compared as its head lines, which each end with CR LF (shown as LF), an empty line, and its body.
 """
 
 import os

@@ -1,4 +1,4 @@
-"""The code blocks of docs/OPERATIONS.md and other pages, which tests run as they are."""
+"""Reads the code blocks of docs/OPERATIONS.md and other pages. Tests run these blocks unchanged."""
 
 import re
 
@@ -30,7 +30,7 @@ def blocks(heading, name="OPERATIONS"):
 
 
 def block(heading, beginning, name="OPERATIONS"):
-    """The block of a section whose first line begins so."""
+    """The block of a section whose first line begins with this text."""
     for lines in blocks(heading, name):
         if lines[0].startswith(beginning):
             return lines

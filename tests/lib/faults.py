@@ -1,6 +1,6 @@
-"""The program with injected faults (tests/faults.c): runs, the contents of its file afterwards, and whether it goes on.
+"""Runs the program with injected faults (tests/faults.c), and compares the contents of its file and its later replies with those of a run without.
 
-On a slow build the variable DESK_FAULTS_STEP=N tries each Nth place alone, for a look.
+On a slow build the variable DESK_FAULTS_STEP=N makes the tests try only each Nth of the call numbers.
 """
 
 import hashlib
@@ -147,7 +147,7 @@ def states(t, base, lines, path="states.db"):
 class Lines:
     """`desk script` over a file, which gets line after line."""
 
-    # How it ends without a fault.
+    # The rest of standard output, the status and standard error of a run without a fault.
     ends = (("", 0, ""),)
 
     def __init__(self, t, path, words=(), **told):
@@ -194,7 +194,7 @@ class Lines:
 class Office:
     """`desk open` over a file, which gets line after line at its control socket, each at its moment."""
 
-    # By SIGTERM, with the line that it printed first.
+    # SIGTERM ends it. Its first line was read before.
     ends = (("", -15, ""),)
 
     def __init__(self, t, path, words=(), **told):
@@ -232,7 +232,7 @@ class Office:
 
 
 class Course:
-    """Lines for a register, and its tables before each of them. A round has a fault, and must go on as if there was none."""
+    """Lines for a register, and its tables before each of them. Each round has a fault, after which the register must go on as if there had been none."""
 
     def __init__(self, t, base, lines, sound, asked_by=Lines):
         self.t, self.base, self.lines, self.sound, self.asked_by = t, base, lines, sound, asked_by
@@ -290,7 +290,7 @@ class Course:
             return
         place = self.standing(path, place, reach, where)
         rest = self.lines[place:]
-        # Where nothing is left, a query opens it all the same.
+        # If no line is left, the last line opens the register; its reply is the same again.
         given = rest or [self.lines[-1]]
         ran = sound_run(self.t, ["script", path], "".join(f"{asked}\n" for asked, _ in given))
         wanted = "".join(f"{reply}\n" for _, reply in given).encode()

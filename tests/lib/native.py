@@ -21,14 +21,14 @@ def has_libcrypto():
 
 
 def need_libcrypto():
-    """Skips the test where a C program can't be built on libcrypto."""
+    """Skips the test if no C program can be built on libcrypto."""
     need("cc", "make")
     if not has_libcrypto():
         raise Skipped("no openssl/evp.h here: apt install libssl-dev")
 
 
 def made(name, *words):
-    """A program that a command makes once for all tests, at a path that is the command's last word."""
+    """Makes a program once for all tests, by a command whose last word ends with the program's path; returns the path."""
     path = Path(os.environ["DESK_TESTS_FOLDER"]) / name
     with open(f"{path}.lock", "w", encoding="utf-8") as lock:
         fcntl.flock(lock, fcntl.LOCK_EX)
@@ -45,7 +45,7 @@ def signer():
 
 
 def started(t, *words, path="ca.sign", before=()):
-    """Starts the signer at a socket until the test ends. It prints a line once it serves."""
+    """Starts the native signer at a socket until the test ends, and waits for the line that it prints once it serves."""
     words = [*map(str, before), str(signer()), *map(str, words), path]
     t.note(" ".join(words))
     process = subprocess.Popen(words, cwd=t.room, stdin=subprocess.DEVNULL, stdout=subprocess.PIPE, stderr=subprocess.PIPE)
@@ -67,7 +67,7 @@ def connected(path):
 
 
 def signature(path, message):
-    """The reply to a message; empty if the signer refuses it, or closes before it has read all."""
+    """The signer's reply to a message; empty if the signer refuses the message, or closes before it has read all of it."""
     with connected(path) as it:
         try:
             it.sendall(message)
@@ -78,7 +78,7 @@ def signature(path, message):
 
 
 def ended(process):
-    """Ends a signer: its status, and its lines on standard error."""
+    """Ends a signer; returns its exit status, and its lines on standard error."""
     process.terminate()
     status = process.wait(program.LONGEST)
     return status, process.stderr.read().decode().splitlines()

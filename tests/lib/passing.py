@@ -1,4 +1,4 @@
-"""An open desk whose elapsed time the test sets: a test checks timeouts to the millisecond, and waits for none."""
+"""An open desk whose elapsed time the test sets. So a test checks timeouts to the millisecond without waiting for them."""
 
 import os
 import struct
@@ -21,24 +21,24 @@ class Passing:
 
     @property
     def files(self):
-        """How many descriptors it has."""
+        """How many file descriptors the desk has."""
         return len(os.listdir(f"/proc/{self.desk.process.pid}/fd"))
 
     def set_forward(self, millis):
-        """Lets so many milliseconds pass, and does nothing else that the desk could notice."""
+        """Lets this many milliseconds pass, and does nothing else that the desk could notice."""
         self.millis += millis
-        # It is shared with the desk, so it is never empty.
+        # The desk reads this file at any time, so the file is never empty.
         with open(self.file, "r+b") as it:
             it.write(struct.pack("=Q", self.millis))
 
     def advance(self, millis):
-        """Lets so many milliseconds pass. When this returns, the desk has done what was due."""
+        """Lets this many milliseconds pass. When this returns, the desk has handled each timeout that has passed."""
         self.set_forward(millis)
         for _ in range(2):
             self.t.same(parted(self.desk.send(ASKED))[0], 200, f"a request at {self.millis} ms")
 
     def comes(self, sent):
-        """A client that has connected and sent this, which the desk has read."""
+        """Connects a client, which sends these bytes; returns it once the desk has read them."""
         made = self.t.enter_context(self.desk.connect())
         made.sendall(sent)
         until(lambda: is_read(made), "that the desk has read it")

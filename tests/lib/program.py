@@ -82,13 +82,13 @@ def make_faults(folder):
 
 
 def can_seal(words):
-    """Whether the words are a script over a register in a file, whose CRLs may have a placeholder digest."""
+    """Whether the words are a script over a register in a file. Only for such a script does the program warn about a placeholder digest."""
     words = [it for it in words if not it.startswith("--")]
     return words[:1] == ["script"] and len(words) > 1
 
 
 def without_warning(words, told):
-    """Standard error without the warning about a placeholder digest, and whether it had that: once, and in its first line."""
+    """Standard error without the warning about a placeholder digest, if that is its first line, and whether it was."""
     if "--signer" not in words and can_seal(words) and told.startswith(SEALED):
         return told[len(SEALED) :], True
     return told, False
@@ -106,7 +106,7 @@ def run(words, given=b"", cwd=None, timeout=LONGEST, **how):
     return Ran(ran.returncode, ran.stdout, told, words, is_warned)
 
 
-# Below the ports that the system gives to clients.
+# The first and the number of the ports that tests use, all below those that the system gives to clients.
 FIRST_PORT, PORTS = 10_240, 22_000
 
 
@@ -211,7 +211,7 @@ def read_all(peer):
 
 
 def is_read(client):
-    """Whether the desk has accepted this connection and has read all that the client sent."""
+    """Whether the desk has read all that the client sent on this connection. Over TCP, this means that it has accepted the connection too."""
     if client.family == socket.AF_UNIX:
         return fcntl.ioctl(client, termios.TIOCOUTQ, bytes(4)) == bytes(4)
     here, there = map(socket_name, (client.getsockname(), client.getpeername()))

@@ -20,7 +20,7 @@ PACKAGES = {
 }
 
 
-# A desk that waits for a signer or a client waits for ten seconds at least. A reply that waits for neither takes fewer seconds than this, even on a
+# A desk that waits for a hanging signer or client waits for ten seconds at least. A reply that waits for neither takes fewer seconds than this, even on a
 # slow machine with a slow disk.
 AT_ONCE = 5
 # A wait of ten seconds is never shorter. On a slow machine it takes longer, but less than two such waits.
@@ -97,11 +97,11 @@ class Trial(contextlib.ExitStack):
         return ran.out.decode("latin-1")
 
     def as_nobody(self, *words, given=b""):
-        """Runs the program to its end as a user without rights."""
+        """Runs the program to its end as a user without rights; as the user of the tests, if that is not root."""
         before = [program.program()]
         if os.geteuid() == 0:
             need("setpriv")
-            # That user can read the copy.
+            # User 65534 may not be able to read the program where it is, but can read this copy.
             desk = self.room / "desk"
             if not desk.exists():
                 shutil.copy(program.program(), desk)
@@ -112,7 +112,7 @@ class Trial(contextlib.ExitStack):
         return subprocess.run([*before, *map(str, words)], cwd=self.room, input=given, capture_output=True, timeout=program.LONGEST, env=program.environment())
 
     def register(self, file="ca.db", lines="", name=program.NAME, key=program.KEY, options=()):
-        """Makes a register, and runs lines over it, which must all be accepted; returns its path."""
+        """Makes a register, and runs lines over it, none of which may be refused or fail; returns its path."""
         self.same(self.done("init", file, "--name", name, "--key", key, *options), "created\n")
         if lines:
             told = self.done("script", file, given=lines)
@@ -120,7 +120,8 @@ class Trial(contextlib.ExitStack):
         return self.room / file
 
     def open(self, file="ca.db", *words, command="open", **how):
-        """Opens a register until the test ends. `desk open` gets the control socket `counter` if none is named, and --unsigned if no signer and no responder is named."""
+        """Runs `desk open` or `desk serve` until the test ends. `open` gets the control socket `counter` if none is named, and --unsigned if neither a signer nor
+        a responder is named."""
         how.setdefault("clock", self._clock)
         if command == "open" and not {"--control", "--counter"} & set(words):
             words = (*words, "--control", "counter")
@@ -142,7 +143,7 @@ class Trial(contextlib.ExitStack):
         return self.enter_context(program.Signer(*words))
 
     def sql(self, file, statement, *values):
-        """Runs a statement of SQL over a closed register, by Python's SQLite; returns its rows."""
+        """Runs a statement of SQL on a closed register, by Python's SQLite; returns its rows."""
         self.note(f"sql {file} {statement}")
         with contextlib.closing(sqlite3.connect(self.room / file)) as it:
             rows = it.execute(statement, values).fetchall()
@@ -181,7 +182,7 @@ class Trial(contextlib.ExitStack):
 
     @contextlib.contextmanager
     def at_once(self, what):
-        """Fails if the block waits for a signer or another client."""
+        """Fails if the block takes five seconds, as one that waits for a hanging signer or client does."""
         begun = time.monotonic()
         yield
         seconds = time.monotonic() - begun
