@@ -9,7 +9,8 @@ It writes these files into the folder audit-FROM-TO, or the one that --folder na
     report.html        findings, figures, and the first 1,000 rows of each table below
     certificates.csv   the certificates whose notBefore is in the time
     revocations.csv    the revocations of the time, each with the first CRL that lists it and that CRL's moment, and with its request and how late that was decided
-    requests.csv       the requests that were received or decided in the time, and the open ones that were received before TO: with their state, and how late each one was decided
+    requests.csv       the requests that were received or decided in the time, or whose certificate ended undecided in it, and the open ones that were
+                       received before TO: with their state, and by how much each missed its deadline
     crls.csv           the CRLs of the time, with their entries and bytes, when each was due, how late it was, and how long no CRL was valid before it
 
 The script reads the lists and the CRLs of the desk when it makes the report (docs/RULES.md, "Lists" and "CRLs"). The register has no moment of a

@@ -283,7 +283,7 @@ def read_single(part, issuer):
     elif is_ours:
         part.fits(KNOWN, "status")
     else:
-        raise Refused("a status is told of a certificate that is not the issuer's")
+        raise Refused("the status of another issuer's certificate is not `unknown`")
     part.fits(HOLDS, "thisUpdate and nextUpdate")
     part.ended()
 

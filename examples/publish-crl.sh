@@ -41,7 +41,7 @@ check() {
         is_verified "$new/$name" || fail "the CRL of $url is not verified by $authority: $(echo "$told" | tail -n 1)"
     done
     ends=$(field "$new/ca.crl" nextupdate)
-    [ "$(date -d "$ends" +%s 2>/dev/null || echo 0)" -gt "$(date +%s)" ] || fail "CRL $(number "$new/ca.crl") of $url has ended, $ends: issue one"
+    [ "$(date -d "$ends" +%s 2>/dev/null || echo 0)" -gt "$(date +%s)" ] || fail "CRL $(number "$new/ca.crl") of $url has expired, $ends: issue one"
 }
 
 # A number never goes back, and belongs to one CRL (RFC 5280 5.2.3). Both old files count, if the authority signed them.

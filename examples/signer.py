@@ -280,7 +280,7 @@ def read_words():
     parser.add_argument("socket", metavar="SOCKET", nargs="?")
     words = parser.parse_args()
     if words.socket and words.inherited:
-        parser.error("SOCKET and --inherited are one too many")
+        parser.error("give SOCKET or --inherited, not both")
     if words.responder and not words.only_ours:
         parser.error("--responder wants --only-ours")
     return words

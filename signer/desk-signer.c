@@ -46,9 +46,9 @@ static const char usage[] =
     "  --only-ours CA.pem       sign only CRLs and OCSP answers of this CA, and verify each signature\n"
     "  --responder OCSP.pem     the key is that of this responder of the CA: sign only its OCSP answers\n"
     "  --passphrase-file FILE   the key's passphrase, or the token's PIN: the first line\n"
-    "  --processes N            so many processes serve the socket\n"
-    "  --rate N                 at most N signatures a second, evenly spaced; further connections wait\n"
-    "  --user NAME              become this user, when the key is read and the socket is there\n"
+    "  --processes N            N processes serve the socket (default: 1)\n"
+    "  --rate N                 at most N signatures a second by all processes, evenly spaced; further clients wait\n"
+    "  --user NAME              once the socket is created, give it to this user, and become this user\n"
     "  --allow-swap             go on if the memory can't be locked\n"
     "  --fresh-nonces           draw no nonces ahead, since this machine's memory may be copied\n";
 

@@ -87,19 +87,19 @@ TOLD = [
     ("UPDATE revocation SET at = 1768003201", "revocation 1: its moment is after the end of the certificate"),
     ("UPDATE revocation SET first_crl = 0", "revocation 1: its first CRL is neither issued nor the next"),
     ("UPDATE revocation SET first_crl = 3", "revocation 1: its first CRL is neither issued nor the next"),
-    ("UPDATE revocation SET at = 1767311999, first_crl = 2", "revocation 1: its first CRL is not the first one after it"),
+    ("UPDATE revocation SET at = 1767311999, first_crl = 2", "revocation 1: its first CRL is not the first one after its moment"),
     ("UPDATE revocation SET request = 2", "revocation 1: no such request for this serial number"),
     ("UPDATE crl SET this_update = 1767312001", "crl 1: its moment is after the last accepted one"),
     ("INSERT INTO crl VALUES (3, 1767312000, x'00')", "crl 2: its number is not one more than that before it"),
     ("INSERT INTO crl VALUES (2, 1767311999, x'00')", "crl 2: its thisUpdate is before that of the CRL before it"),
-    ("UPDATE kept SET n_good = 2", "kept 1: its counts are not those of the table standing"),
-    ("UPDATE standing SET state = 'X'", "standing 1: differs from the records, or an earlier row is missing"),
-    ("UPDATE standing SET not_after = 1 WHERE state = 'G'", "standing 2: differs from the records, or an earlier row is missing"),
-    ("DELETE FROM standing WHERE state = 'G'", "standing 2: differs from the records, or an earlier row is missing"),
-    ("UPDATE listed SET last_listed = 1", "listed 1: differs from the records, or an earlier row is missing"),
-    ("UPDATE listed SET at = 1767311999", "listed 1: differs from the records, or an earlier row is missing"),
-    ("UPDATE listed SET first_crl = 2", "listed 1: differs from the records, or an earlier row is missing"),
-    ("DELETE FROM listed", "listed 1: differs from the records, or an earlier row is missing"),
+    ("UPDATE kept SET n_good = 2", "kept 1: its counts are not those of the records"),
+    ("UPDATE standing SET state = 'X'", "standing 1: differs from the records, or a row with a lower serial number is missing"),
+    ("UPDATE standing SET not_after = 1 WHERE state = 'G'", "standing 2: differs from the records, or a row with a lower serial number is missing"),
+    ("DELETE FROM standing WHERE state = 'G'", "standing 2: differs from the records, or a row with a lower serial number is missing"),
+    ("UPDATE listed SET last_listed = 1", "listed 1: differs from the records, or a row with a lower serial number is missing"),
+    ("UPDATE listed SET at = 1767311999", "listed 1: differs from the records, or a row with a lower serial number is missing"),
+    ("UPDATE listed SET first_crl = 2", "listed 1: differs from the records, or a row with a lower serial number is missing"),
+    ("DELETE FROM listed", "listed 1: differs from the records, or a row with a lower serial number is missing"),
     ("DELETE FROM standing WHERE state = 'R'; INSERT INTO standing SELECT serial, 1768003200, 'R' FROM revocation", "standing 1: its number is not one more than that before it"),
 ]  # fmt: skip
 # Rows of each table that fit together: validities as long as ordered to the second, a request that was declined, and two for one serial number. Beside it
@@ -326,7 +326,7 @@ def each_octet_before_the_signature_counts(t):
     for at in range(len(der) - 20):
         other = der[:at] + bytes([der[at] ^ (1 << at % 8)]) + der[at + 1 :]
         t.sql("ca.db", "UPDATE crl SET der = ?", other)
-        t.same(audited(t), (1, "broken: crl 1: its bytes are not those of what the records list\n", "broken\n"), f"a bit of octet {at}")
+        t.same(audited(t), (1, "broken: crl 1: its bytes are not those of the CRL by the records\n", "broken\n"), f"a bit of octet {at}")
 
 
 @each(DAMAGED)
@@ -391,7 +391,7 @@ def a_changed_bit_of_a_crl_is_reported(t, lines, number):
     signed = breaks.pop("a bit of the signature")
     for what, other in breaks.items():
         t.sql("ca.db", "UPDATE crl SET der = ? WHERE number = ?", other, number)
-        t.same(audited(t), (1, f"broken: crl {number}: its bytes are not those of what the records list\n", "broken\n"), what)
+        t.same(audited(t), (1, f"broken: crl {number}: its bytes are not those of the CRL by the records\n", "broken\n"), what)
     t.sql("ca.db", "UPDATE crl SET der = ? WHERE number = ?", signed, number)
     t.same(audited(t), (0, sound(t), ""), "another signature")
 
@@ -402,7 +402,7 @@ def a_crl_that_is_cut_short(t):
     der = t.sql("ca.db", "SELECT der FROM crl WHERE number = 2")[0][0]
     for end in [*range(0, len(der), 7), len(der) - 21, len(der) - 20, len(der) - 1]:
         t.sql("ca.db", "UPDATE crl SET der = ? WHERE number = 2", der[:end])
-        t.same(audited(t), (1, "broken: crl 2: its bytes are not those of what the records list\n", "broken\n"), f"the first {end} octets")
+        t.same(audited(t), (1, "broken: crl 2: its bytes are not those of the CRL by the records\n", "broken\n"), f"the first {end} octets")
 
 
 @test

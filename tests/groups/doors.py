@@ -360,7 +360,7 @@ def an_audit_names_the_row_that_is_broken(t):
     ran = t.desk("audit", "ca.db")
     t.same(
         (ran.status, ran.out, ran.err),
-        (1, b"broken: standing 1: differs from the records, or an earlier row is missing\n", b"broken\n"),
+        (1, b"broken: standing 1: differs from the records, or a row with a lower serial number is missing\n", b"broken\n"),
     )
 
 

@@ -210,7 +210,7 @@ def a_crl_that_has_ended(t):
     begun = authority.now() - 9 * DAY
     t.clock(moment_of(begun))
     _, desk = open_desk(t, "crl")
-    fails(t, publish(t, desk), f"CRL 1 of http://127.0.0.1:{desk.port}/crl has ended, ")
+    fails(t, publish(t, desk), f"CRL 1 of http://127.0.0.1:{desk.port}/crl has expired, ")
     t.same(contents(t.room / "www"), {})
     at_control(t, "crl")
     t.clock(moment_of(begun + 9 * DAY))

@@ -59,12 +59,12 @@ fn text_of(why: Defect) -> &'static str
         Defect::AfterRevocation => "its moment is after the revocation of its serial number",
         Defect::Earlier => "its moment is before that of the row before it",
         Defect::NoFirst => "its first CRL is neither issued nor the next",
-        Defect::WrongFirst => "its first CRL is not the first one after it",
+        Defect::WrongFirst => "its first CRL is not the first one after its moment",
         Defect::EarlierFirst => "its first CRL is before that of the row before it",
         Defect::ThisUpdateDecreases => "its thisUpdate is before that of the CRL before it",
-        Defect::DerivedMismatch => "differs from the records, or an earlier row is missing",
-        Defect::OtherBytes => "its bytes are not those of what the records list",
-        Defect::WrongCounts => "its counts are not those of the table standing",
+        Defect::DerivedMismatch => "differs from the records, or a row with a lower serial number is missing",
+        Defect::OtherBytes => "its bytes are not those of the CRL by the records",
+        Defect::WrongCounts => "its counts are not those of the records",
         Defect::NoValue => "a value that no register writes, or no such row",
     }
 }

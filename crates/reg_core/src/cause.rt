@@ -51,7 +51,7 @@ impl Cause {
             Cause::PortInUse => line_of(b"  port in use"),
             Cause::Clock => line_of(b"  the machine's clock can't be read"),
             Cause::OtherAlgorithm => line_of(
-                b"  the latest CRL has another algorithm: give that --algorithm",
+                b"  the latest CRL has another algorithm: set --algorithm to it",
             ),
             Cause::UnknownAlgorithm => line_of(
                 b"  the latest CRL has an unknown algorithm: run desk audit",

@@ -72,10 +72,10 @@ const LISTEN: &str =
 const REQUESTS: &str = "How many connections to answer before it ends, 1 to 1000000";
 
 const SIGNER: &str =
-    "The Unix socket of the signer with the issuer's key [default: none, and a placeholder digest stands instead of each signature with this key]";
+    "The Unix socket of the signer with the issuer's key [default: no signer, and a placeholder digest replaces each signature with this key]";
 
 const OPEN_SIGNER: &str =
-    "The Unix socket of the signer with the issuer's key; needs --algorithm; leave it out only with --unsigned, or with --responder, and then no CRL is signed";
+    "The Unix socket of the signer with the issuer's key; needs --algorithm; leave it out only with --unsigned, or with --responder: with a responder and no --signer, no CRL is signed";
 
 const UNSIGNED: &str =
     "Instead of --signer: CRLs and answers get a placeholder digest instead of a signature, which no client accepts; not with --responder";
@@ -110,7 +110,7 @@ const CONTROL: &str =
     "The Unix socket at which the open desk takes commands; it is created with mode 0600";
 
 const PUBLISHED: &str =
-    "A published CRL in DER: if its number is higher than that of the register's latest CRL, or it lists a serial number that isn't revoked, nothing is served, and a line names each";
+    "A published CRL in DER: if its number is above that of the register's latest CRL, or if it lists serial numbers that aren't revoked, nothing is served, and a line on standard output names each missing number";
 
 const AT_CONTROL: &str =
     "The control socket of an open desk: the path that it was given by --control";
@@ -119,7 +119,7 @@ const AT_IMPORT: &str =
     "Instead of standard input: register each certificate of this CSV file, order,serial,notBefore,notAfter";
 
 const AT_ORDERS: &str =
-    "With --import: make an order of DAYS days for each certificate, of the subscriber with this number, as `subscriber NAME` gave it; the rows are serial,notBefore,notAfter; run it again to resume";
+    "With --import: make an order of DAYS days for each certificate, of the subscriber with the id SUBSCRIBER, which the reply to `subscriber NAME` has; the rows are serial,notBefore,notAfter; run it again to resume";
 
 const AT_REVOKE: &str =
     "Instead of standard input: request and revoke the certificate of each row of this file, serial,ground; run it again to resume";
@@ -274,7 +274,7 @@ pub(crate) const OTHER_COMMANDS: &[CommandEntry] = &[
     CommandEntry {
         name: "at",
         about: "Send the lines of standard input to an open desk, and write one reply line for each; a line has no moment.",
-        example: "Examples:\n  echo counts | desk at ca.control\n  desk at ca.control --import certificates.csv\n  desk at ca.control --import new.csv --orders 1 398\n  desk at ca.control --revoke revocations.csv\n\nExit status 3 if a reply is a refusal or a fault, or if the last line has no end: that line does not run.",
+        example: "Examples:\n  echo counts | desk at ca.control\n  desk at ca.control --import certificates.csv\n  desk at ca.control --import new.csv --orders 1 398\n  desk at ca.control --revoke revocations.csv\n\nExit status 3 if a reply is a refusal or a fault (with --revoke, not E19), or if the last line has no line end: that line does not run.",
         parts: &[
             Part::RequiredArgument("control", "SOCKET", AT_CONTROL),
             Part::OptionalOption("import", "FILE", AT_IMPORT),
@@ -286,7 +286,7 @@ pub(crate) const OTHER_COMMANDS: &[CommandEntry] = &[
     CommandEntry {
         name: "replay",
         about: "Send the accepted commands of a log to an open desk once more, and write one reply line for each; a request is named by its serial number.",
-        example: "Example:\n  desk replay ca.control ca.log\n\nExit status 3 at the first reply that differs from the one in the log: that reply and its line are printed, and no further command is sent.",
+        example: "Example:\n  desk replay ca.control ca.log\n\nExit status 3 at the first reply that differs from the one in the log, or at a command that the log has only in part: the log's line is printed last, and no further command is sent.",
         parts: &[
             Part::RequiredArgument("control", "SOCKET", AT_CONTROL),
             Part::RequiredArgument("log", "LOG", REPLAY),
@@ -315,7 +315,7 @@ pub(crate) const OTHER_COMMANDS: &[CommandEntry] = &[
     },
     CommandEntry {
         name: "list",
-        about: "Write a list of the register to standard output, in the order of keys.",
+        about: "Write a list of the register to standard output, by ascending serial number, id or CRL number.",
         example: "Examples:\n  desk list ca.db revoked\n  desk list ca.db ending --before 2026-02-01T00:00:00Z --json\n  desk list ca.db requests --from 2026-01-01T00:00:00Z --to 2026-04-01T00:00:00Z",
         parts: &[
             Part::RequiredArgument("file", "FILE", FILE),
@@ -343,7 +343,7 @@ pub(crate) const OTHER_COMMANDS: &[CommandEntry] = &[
     CommandEntry {
         name: "audit",
         about: "Read all rows of a register, and print whether its records are sound; nothing is changed.",
-        example: "Example:\n  desk audit ca.db\n\nExit status 1 if a row is not sound: a line names its table and its index there, from 1 on.",
+        example: "Example:\n  desk audit ca.db\n\nExit status 1 if the register is not sound: a line names the table and the index of a row, from 1 on, or the schema.",
         parts: &[
             Part::RequiredArgument("file", "FILE", FILE),
             Part::Flag("why", CAUSE),

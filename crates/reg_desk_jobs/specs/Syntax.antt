@@ -66,8 +66,8 @@ form_text Days = codes " is not 1 to 18 digits"
 form_text Order = codes " is not 1 to 18 digits"
 form_text Request = codes " is not 1 to 18 digits"
 form_text Serial = codes " is not 1 to 40 hexadecimal digits, from 1 to 2^159 - 1"
-form_text NotBefore = codes " is not a moment as 2026-01-01T00:00:00Z"
-form_text NotAfter = codes " is not a moment as 2026-01-01T00:00:00Z"
+form_text NotBefore = codes " is not a moment such as 2026-01-01T00:00:00Z"
+form_text NotAfter = codes " is not a moment such as 2026-01-01T00:00:00Z"
 
 abbrev pub wrong_text : WrongField → List ℕ
 wrong_text (Malformed field) = name_text field ++ form_text field

@@ -171,6 +171,6 @@ fn form_of(field: Field) -> &'static [u8]
             b" is not 1 to 18 digits"
         }
         Field::Serial => b" is not 1 to 40 hexadecimal digits, from 1 to 2^159 - 1",
-        Field::NotBefore | Field::NotAfter => b" is not a moment as 2026-01-01T00:00:00Z",
+        Field::NotBefore | Field::NotAfter => b" is not a moment such as 2026-01-01T00:00:00Z",
     }
 }

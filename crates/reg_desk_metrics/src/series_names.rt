@@ -8,7 +8,7 @@ pub(crate) const CLOCK: &str =
     "# HELP desk_clock_timestamp_seconds The machine's clock, as the desk reads it.\n# TYPE desk_clock_timestamp_seconds gauge\ndesk_clock_timestamp_seconds ";
 
 pub(crate) const BEHIND: &str =
-    "# HELP desk_clock_behind_seconds By how much the clock is behind the last command, 0 if it is not: until it catches up, commands are refused.\n# TYPE desk_clock_behind_seconds gauge\ndesk_clock_behind_seconds ";
+    "# HELP desk_clock_behind_seconds By how many seconds the clock is behind the last command, 0 if it is not. Until the clock catches up, commands and queries are refused.\n# TYPE desk_clock_behind_seconds gauge\ndesk_clock_behind_seconds ";
 
 pub(crate) const READABLE: &str =
     "# HELP desk_register_readable 1 if the register's numbers can be read; 0 if not, and then the series of these numbers are left out.\n# TYPE desk_register_readable gauge\ndesk_register_readable ";
@@ -89,7 +89,7 @@ pub(crate) const CRL_LAST_FAILED: &str =
 pub(crate) const OCSP_LAST_FAILED: &str = "desk_signature_failure_timestamp_seconds{of=\"ocsp\"} ";
 
 pub(crate) const CRL_FAILING: &str =
-    "# HELP desk_signer_failing_since_timestamp_seconds Since when signatures fail, 0 if the last one was received.\n# TYPE desk_signer_failing_since_timestamp_seconds gauge\ndesk_signer_failing_since_timestamp_seconds{of=\"crl\"} ";
+    "# HELP desk_signer_failing_since_timestamp_seconds Since when signatures fail, 0 if the last one was received or none was requested.\n# TYPE desk_signer_failing_since_timestamp_seconds gauge\ndesk_signer_failing_since_timestamp_seconds{of=\"crl\"} ";
 
 pub(crate) const OCSP_FAILING: &str = "desk_signer_failing_since_timestamp_seconds{of=\"ocsp\"} ";
 
@@ -105,7 +105,7 @@ pub(crate) const ACCEPTED: &str =
     "# HELP desk_connections_accepted_total Connections that were accepted at the port.\n# TYPE desk_connections_accepted_total counter\ndesk_connections_accepted_total ";
 
 pub(crate) const BROKEN: &str =
-    "# HELP desk_connections_lost_total Connections that were lost, by cause; crowded: closed to make room for another.\n# TYPE desk_connections_lost_total counter\ndesk_connections_lost_total{why=\"broken\"} ";
+    "# HELP desk_connections_lost_total Connections that were lost, by cause; crowded: closed for another connection, or for the limit of 64 MiB of unsent answers.\n# TYPE desk_connections_lost_total counter\ndesk_connections_lost_total{why=\"broken\"} ";
 
 pub(crate) const LATE: &str = "desk_connections_lost_total{why=\"late\"} ";
 
