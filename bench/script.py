@@ -1,6 +1,6 @@
 #!/usr/bin/env python3
 """Times `desk script` over a register in memory: a subscriber, so many orders, and the registrations that fill them; once
-with random serial numbers, as a CA draws them, and once with rising ones."""
+with spread serial numbers, because a CA draws random ones, and once with rising ones."""
 import os
 import resource
 import subprocess

@@ -59,7 +59,7 @@ COMMANDS = {
     "schedule": re.compile(r"schedule set"),
 }
 
-# A command: its moment, its position among those of the same moment, the line of the log, its words, and the number that its reply gave or that it decides.
+# A command: its moment, its position in the logs, the line of the log, its words, and the number that its reply gave or that it decides.
 Event = namedtuple("Event", "moment place source words number")
 Entry = namedtuple("Entry", "serial moment ground")
 Crl = namedtuple("Crl", "path number moment entries")

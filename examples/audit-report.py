@@ -37,7 +37,7 @@ from collections import Counter
 DAY = 86400
 # A CRL is due this many seconds after the one before it, or after a revocation that no CRL lists (docs/RULES.md, "CRLs").
 CRL_EVERY, CRL_AFTER_REVOCATION = 7 * DAY, DAY
-# The timer that issues CRLs runs every few minutes. A CRL that comes later than this is a finding, as it is an alert in alerts.yml.
+# The timer that issues CRLs runs every few minutes. A CRL that is more than this many seconds late is a finding, as it is an alert in alerts.yml.
 LATE = 2 * 3600
 REASONS = {0: "unspecified", 1: "keyCompromise", 3: "affiliationChanged", 4: "superseded", 5: "cessationOfOperation", 9: "privilegeWithdrawn"}
 MOST_ROWS = 1_000

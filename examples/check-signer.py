@@ -82,7 +82,7 @@ def read_words():
     parser.add_argument("certificate")
     words, _ = parser.parse_known_args()
     if words.responder_signer and not words.responder:
-        parser.error("--responder-signer wants --responder")
+        parser.error("--responder-signer needs --responder")
     return words
 
 

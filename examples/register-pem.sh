@@ -10,7 +10,7 @@
 #       of 1 to 64 letters, digits, `.`, `-` and `_` is the subscriber's name. Any other one, in UTF-8, keeps at most 47 of these bytes, with `-` in place
 #       of others, and gets `.` and the first 16 hexadecimal digits of the common name's SHA-256. The same is done to a common name that ends like that.
 #       So two common names never get one subscriber.
-#   -o  the number that the register's next order gets;  -n  the subscriber's number
+#   -o  the number that the register's next order gets;  -n  the subscriber's id
 #   -a  certificates that this CA did not sign are refused here (a serial number that was registered can't be taken back)
 # DESK names the program, if it is not the `desk` of PATH. Exit status: 0 if all were registered, or all lines were printed; 3 if one was refused: standard
 # error has its reply, and the others were tried; 1 if no desk answers at the control socket; 2 if the command line is wrong.

@@ -24,7 +24,7 @@ Usage: examples/signer.py [--only-ours CA.pem [--responder RESPONDER.pem]] [--pr
        examples/signer.py [--only-ours CA.pem ..] KEY.pem --inherited  at the socket that systemd made for it (sd_listen_fds(3))
        examples/signer.py KEY.pem                                      prints the NAME of the key's algorithm, and ends
 
-The key is one of P-256, P-384, RSA of 2,048 bits or more, or Ed25519, in PEM and without a passphrase.
+The key is one of P-256, P-384, RSA or Ed25519, in PEM and without a passphrase. Use RSA with 2,048 bits or more: the program does not check that.
 It needs the package `cryptography` (Debian: python3-cryptography).
 """
 import argparse

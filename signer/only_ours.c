@@ -8,7 +8,7 @@
 #include "signer.h"
 
 enum { INTEGER = 0x02, OCTETS = 0x04, IDENTIFIER = 0x06, SEQUENCE = 0x30, REVOKED = 0xA1 };
-/* A UTCTime and a GeneralizedTime in seconds and UTC, and a reasonCode extension, with their tags and lengths. */
+/* A UTCTime and a GeneralizedTime in seconds and UTC, and the extensions of an entry with a reasonCode, with their tags and lengths. */
 enum { UTC_LENGTH = 15, GENERAL_LENGTH = 17, REASON_LENGTH = 14 };
 /* The most octets of a serial number (RFC 5280 4.1.2.2), and of a key identifier that the desk has. */
 enum { LONGEST_SERIAL = 20, LONGEST_IDENTIFIER = 64 };

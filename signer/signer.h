@@ -68,7 +68,7 @@ bool is_token(const char *key);
 /* The key in a PEM file, or in a token by its URI (RFC 7512); NULL with the reason if there is none. `passphrase` may be NULL. */
 EVP_PKEY *read_key(const char *key, char *passphrase, char *why);
 bool use_key(struct signer *signer, EVP_PKEY *key, bool draws_ahead, char *why);
-/* From now on, verifies each signature with the key of the issuer's certificate. False with the reason if that is not the signer's key. */
+/* From now on, verifies each signature with the key of the issuer's certificate. False with the reason if that key is another or can't verify. */
 bool verify_by(struct signer *signer, const struct issuer *issuer, char *why);
 /* With ECDSA and a key in memory, a nonce can be drawn before its message comes, since nearly all of a signature's work depends on the nonce alone. */
 bool wants_nonce(const struct signer *signer);

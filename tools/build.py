@@ -1,13 +1,13 @@
 #!/usr/bin/env python3
 """Proves and builds a program of this repository and all libraries below it, in parallel as far as processors and memory allow. A crate
-that begins the longest chain of waiting crates goes first. Prints on standard error which crate is done, and how long it took. If a crate
+that begins the longest chain of waiting crates goes first. Prints on standard error how long each crate took, if more than five seconds. If a crate
 fails, the build stops with that crate's messages. A crate that is built and has not changed is not built again.
 
 The length of a chain comes from the seconds that each crate took when it was last measured (tools/build-times.txt). From these the tool also
 estimates how long is left: the longest chain that is not done, at the speed of this build.
 
 Usage: tools/build.py [--times] [--lean] [CRATE]        (CRATE is reg_desk if left out. --times prints the processor time and the
-elapsed time of each crate at the end, and writes tools/build-times.txt if all crates were built. --lean removes the proofs of each library's
+elapsed time of each crate at the end, and writes tools/build-times.txt if each took more than five seconds. --lean removes the proofs of each library's
 functions once the library is built: a build needs less disk, and a later one proves a changed crate from nothing)
 """
 import fcntl

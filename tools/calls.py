@@ -1,7 +1,7 @@
 #!/usr/bin/env python3
 """Reads the calls in the source of this repository, by name: no type is resolved, so a method call reaches every method of its name.
 
-Usage: tools/calls.py --unreached     public functions that no call from `main` reaches, by crate (pages.py asks for these)
+Usage: tools/calls.py --unreached     public functions that no call from `main` reaches, by crate
        tools/calls.py --forwarders    functions whose whole body is one call that passes their own parameters on
        tools/calls.py --path NAME ..  a shortest path of calls from `main` through functions of these names, in this order
 """

@@ -5,8 +5,8 @@ Usage: tools/edits.py CRATE ..        tries all edits of these crates with `rt m
        tools/edits.py --check         proves nothing: checks that each edit applies, the form of its name, and how many edits there are
        tools/edits.py --some COMMIT   tries a sample of edits/ with `rt ci`, as the gate does; the hash of COMMIT selects it
 
-The exit status is 1 if an edit is not refused, does not apply or was not tried. rt runs in a temporary copy of the crates as they stand
-in the working tree. `rt must-fail` reuses the proofs that `rt check` kept on this machine, so check the crate first.
+The exit status is 1 if an edit is not refused, does not apply or was not tried, if rt fails, or if --check finds too many edits. rt runs in
+a temporary copy of the crates as they stand in the working tree. `rt must-fail` reuses the proofs that `rt check` kept, so check the crate first.
 
 Run --some after an `rt ci` that passed on the same files: rt takes all proofs from that run. The sample takes at most ten times as long
 as `rt selftest`. It has up to four edits of a crate that builds within 250 seconds (tools/build-times.txt): rt proves that crate once more,

@@ -1,6 +1,6 @@
 #!/usr/bin/env python3
 """Writes the manual pages of the program: desk(1) from what `desk --help` and `desk COMMAND --help` print and from docs/OPERATIONS.md's part on exit
-statuses, desk-script(5) from docs/RULES.md. It adds no text of its own.
+statuses, desk-script(5) from docs/RULES.md. Its own text is only headings, NAME and SEE ALSO.
 
 Usage, from the repository's root: tools/man.py DESK FOLDER
 """

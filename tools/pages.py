@@ -1,5 +1,5 @@
 #!/usr/bin/env python3
-"""Checks the names in the pages against the repository: files and functions of docs/PROOFS.md and docs/ARCHITECTURE.md, definitions of docs/PROOFS.md, crates
+"""Checks the names in the pages against the repository: functions and definitions of docs/PROOFS.md and docs/ARCHITECTURE.md; files, crates
 and their uses in docs/ARCHITECTURE.md, files and definitions that docs/MODEL.md names after a crate, and links to headings. Also reports two crates that give
 one name to definitions, because the pages refer to a definition by its name; a promise of docs/PROOFS.md whose functions no call from `main` reaches; a proof
 that cites proofs of another crate outside of its PublicLaws; and a docs/architecture.svg that is out of date. Prints a line for each error, and exits with 1 if

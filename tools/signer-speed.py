@@ -3,7 +3,7 @@
 
     tools/signer-speed.py 'signer/desk-signer ca.key' 'examples/signer.py ca.key'
 
-Each COMMAND is started with a socket's path as its last word. The commands take turns, N times; the median of each is printed: signatures a second, and
+Each COMMAND is started with a socket's path as its last word. The commands take turns, --runs times; each median is printed: signatures a second, and
 the processor time that the signer takes for one, in µs. With --only-ours the message is an OCSP answer of that CA, which a guarded signer accepts. A
 signer that listens already is measured by the path of its socket in place of a COMMAND, without its processor time.
 

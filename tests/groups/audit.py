@@ -18,7 +18,7 @@ TABLES = ("cert", "request", "revocation", "standing", "listed")
 # A serial number of one byte, in each table that has it.
 RENAMED = "; ".join(f"UPDATE {table} SET serial = x'05'" for table in TABLES)
 # The report about a row whose rowid is wrong.
-MOVED = "its number is not one more than that before it"
+MOVED = "its number is not one more than that of the row before it, or not 1 in the first row"
 
 # A change of the register of a first day, and the report about the file.
 BROKEN = {
@@ -80,8 +80,8 @@ TOLD = [
     ("UPDATE listed SET reason = 256", "listed 1: a value that no register writes, or no such row"),
     ("UPDATE office SET cap = 1", "orders 2: more rows than the policy's cap"),
     ("UPDATE office SET last_at = 1767225600", "request 1: its moment is after the last accepted one"),
-    ("INSERT INTO subscriber VALUES (3, 'b')", "subscriber 2: its number is not one more than that before it"),
-    ("INSERT INTO orders VALUES (4, 1, 10)", "orders 3: its number is not one more than that before it"),
+    ("INSERT INTO subscriber VALUES (3, 'b')", "subscriber 2: its number is not one more than that of the row before it, or not 1 in the first row"),
+    ("INSERT INTO orders VALUES (4, 1, 10)", "orders 3: its number is not one more than that of the row before it, or not 1 in the first row"),
     ("UPDATE request SET received = 1767312001 WHERE id = 2", "request 2: its moment is after the last accepted one"),
     ("UPDATE revocation SET at = 1767312001", "revocation 1: its moment is after the last accepted one"),
     ("UPDATE revocation SET at = 1768003201", "revocation 1: its moment is after the end of the certificate"),
@@ -90,7 +90,7 @@ TOLD = [
     ("UPDATE revocation SET at = 1767311999, first_crl = 2", "revocation 1: its first CRL is not the first one after its moment"),
     ("UPDATE revocation SET request = 2", "revocation 1: no such request for this serial number"),
     ("UPDATE crl SET this_update = 1767312001", "crl 1: its moment is after the last accepted one"),
-    ("INSERT INTO crl VALUES (3, 1767312000, x'00')", "crl 2: its number is not one more than that before it"),
+    ("INSERT INTO crl VALUES (3, 1767312000, x'00')", "crl 2: its number is not one more than that of the row before it, or not 1 in the first row"),
     ("INSERT INTO crl VALUES (2, 1767311999, x'00')", "crl 2: its thisUpdate is before that of the CRL before it"),
     ("UPDATE kept SET n_good = 2", "kept 1: its counts are not those of the records"),
     ("UPDATE standing SET state = 'X'", "standing 1: differs from the records, or a row with a lower serial number is missing"),
@@ -100,7 +100,7 @@ TOLD = [
     ("UPDATE listed SET at = 1767311999", "listed 1: differs from the records, or a row with a lower serial number is missing"),
     ("UPDATE listed SET first_crl = 2", "listed 1: differs from the records, or a row with a lower serial number is missing"),
     ("DELETE FROM listed", "listed 1: differs from the records, or a row with a lower serial number is missing"),
-    ("DELETE FROM standing WHERE state = 'R'; INSERT INTO standing SELECT serial, 1768003200, 'R' FROM revocation", "standing 1: its number is not one more than that before it"),
+    ("DELETE FROM standing WHERE state = 'R'; INSERT INTO standing SELECT serial, 1768003200, 'R' FROM revocation", "standing 1: its number is not one more than that of the row before it, or not 1 in the first row"),
 ]  # fmt: skip
 # Rows of each table that fit together: validities as long as ordered to the second, a request that was declined, and two for one serial number. Beside it
 # two revocations of one second, with a CRL between them; a CRL alone; and nothing.
@@ -326,7 +326,7 @@ def each_octet_before_the_signature_counts(t):
     for at in range(len(der) - 20):
         other = der[:at] + bytes([der[at] ^ (1 << at % 8)]) + der[at + 1 :]
         t.sql("ca.db", "UPDATE crl SET der = ?", other)
-        t.same(audited(t), (1, "broken: crl 1: its bytes are not those of the CRL by the records\n", "broken\n"), f"a bit of octet {at}")
+        t.same(audited(t), (1, "broken: crl 1: its bytes do not encode the CRL that the records give\n", "broken\n"), f"a bit of octet {at}")
 
 
 @each(DAMAGED)
@@ -391,7 +391,7 @@ def a_changed_bit_of_a_crl_is_reported(t, lines, number):
     signed = breaks.pop("a bit of the signature")
     for what, other in breaks.items():
         t.sql("ca.db", "UPDATE crl SET der = ? WHERE number = ?", other, number)
-        t.same(audited(t), (1, f"broken: crl {number}: its bytes are not those of the CRL by the records\n", "broken\n"), what)
+        t.same(audited(t), (1, f"broken: crl {number}: its bytes do not encode the CRL that the records give\n", "broken\n"), what)
     t.sql("ca.db", "UPDATE crl SET der = ? WHERE number = ?", signed, number)
     t.same(audited(t), (0, sound(t), ""), "another signature")
 
@@ -402,7 +402,7 @@ def a_crl_that_is_cut_short(t):
     der = t.sql("ca.db", "SELECT der FROM crl WHERE number = 2")[0][0]
     for end in [*range(0, len(der), 7), len(der) - 21, len(der) - 20, len(der) - 1]:
         t.sql("ca.db", "UPDATE crl SET der = ? WHERE number = 2", der[:end])
-        t.same(audited(t), (1, "broken: crl 2: its bytes are not those of the CRL by the records\n", "broken\n"), f"the first {end} octets")
+        t.same(audited(t), (1, "broken: crl 2: its bytes do not encode the CRL that the records give\n", "broken\n"), f"the first {end} octets")
 
 
 @test

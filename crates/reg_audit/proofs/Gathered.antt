@@ -11,7 +11,7 @@ use Rattle.reg_audit.specs.Cells.{CountedFrom}
 use Rattle.reg_audit.specs.Complete.{AreKeyed, AreCounted}
 use Rattle.reg_audit.proofs.TreeOrder.{rowid_number, HasNumber}
 
--- what is said of the rows that a text shows is said of those that it reads
+-- a property of all rows in a view holds of each row, seen in that view
 pub unseen : (P : Row → Type 0) (view : Row → Row) (rows : List Row) → AllByRecursion P (map view rows) → AllByRecursion (λ row. P (view row)) rows
 unseen P view [] all = tt
 unseen P view (row ∷ rows) all = (all.0, unseen P view rows all.1)

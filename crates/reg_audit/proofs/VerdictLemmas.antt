@@ -1,4 +1,4 @@
--- What an audit's answer gives of the audit_result that is said of it.
+-- What follows from the result of an audit for the `AuditResult` that is reported.
 use Rattle.std.proofs.Common.{◌≡◌, false, Some, None, is_some, Result, Ok, Err, IfOk, IfErr, IsTrue, sym, subst, ◌∙◌, ap}
 use Rattle.std.specs.Prelude.{Option}
 use Rattle.sqlite.specs.Effect.{Database}
@@ -25,7 +25,7 @@ module _ (P : Type 0) where
   well_said (Err audit_fault.Memory) holds = tt
   well_said (Err audit_fault.Store) holds = tt
 
-  -- what holds where rows were found well holds where all is said to be sound
+  -- what holds if all rows are sound holds if the result is `Sound`
   pub sound_said : (audited : Result Audited AuditFault) (result : Result AuditResult StoreFault) → result ≡ audit_result_of audited → IfOk audited (λ _. P)
       → IfOk result (λ audit_result. IsSound audit_result → P)
   sound_said audited result is holds = subst (λ (r : Result AuditResult StoreFault). IfOk r (λ audit_result. IsSound audit_result → P)) (sym is) (well_said audited holds)

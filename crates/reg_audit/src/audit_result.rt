@@ -15,7 +15,7 @@ use reg_store_tables::StoreFault;
 use sqlite::{Alter, Connection};
 use std::alloc::Global;
 
-fn said(audited: Result<Audited, AuditFault>) -> Result<AuditResult, StoreFault>
+fn audit_result_or_fault(audited: Result<Audited, AuditFault>) -> Result<AuditResult, StoreFault>
     ensures is { result ≡ audit_result_of audited }
     ensures faults { IfErr result (λ fault. fault ≢ StoreFault.NotEmpty) }
 {
@@ -27,6 +27,7 @@ fn said(audited: Result<Audited, AuditFault>) -> Result<AuditResult, StoreFault>
     }
 }
 
+/// Whether the connection is in no transaction and its schema is a register's.
 fn is_over_register<S: Alter>(alloc: Global, conn: &Connection<S>) -> Result<bool, StoreFault>
     ensures is { IfOk result (λ same. IsTrue same → IsOverRegister S.Store conn.now) }
     ensures other { conn.now.in_transaction ≡ false
@@ -69,5 +70,5 @@ pub fn judge<S: Alter, W: ProgressObserver>(
     if !is_register {
         return Ok(AuditResult::OtherSchema);
     }
-    said(audit(alloc, conn, observer))
+    audit_result_or_fault(audit(alloc, conn, observer))
 }

@@ -73,7 +73,7 @@ fn stands<T: RowKind>(row: &Row) -> bool
 }
 
 /// Checks that each row is that of some record. `Store` if one is not.
-fn each_stands<T: RowKind>(rows: &[Row]) -> Result<(), AuditFault>
+fn check_are_of_some_record<T: RowKind>(rows: &[Row]) -> Result<(), AuditFault>
     ensures stand { OnOk result (AllByRecursion (IsOfSomeRecord T.has_valid_serial T.shown) rows.now) }
     ensures broken { NoBrokenRow result }
 {
@@ -92,7 +92,7 @@ fn check_keyed<T: RowKind>(table: RegisterTable, rows: &[Row]) -> Result<(), Aud
     ensures broken { CountedFrom 1 rows.now → NoBrokenRow result }
 {
     check_counted(table, rows)?;
-    each_stands::<T>(rows)
+    check_are_of_some_record::<T>(rows)
 }
 
 /// Checks that the rows of a table are those of some records, with the rowids 1, 2, 3 and so on.
@@ -106,7 +106,7 @@ fn check_table<T: RowKind>(
     ensures broken { CountedFrom 1 rowids.now → NoBrokenRow result }
 {
     check_counted(table, rowids)?;
-    each_stands::<T>(rows)
+    check_are_of_some_record::<T>(rows)
 }
 
 /// Checks that the table `kept` has one row, with counts, and the rowid 1.
@@ -121,7 +121,7 @@ fn check_counts(rows: &[Row], rowids: &[Row]) -> Result<(), AuditFault>
     if !is_number(rowid, 0, 1) {
         return Err(AuditFault::Store);
     }
-    each_stands::<Counts>(rows)
+    check_are_of_some_record::<Counts>(rows)
 }
 
 #[derive(Clone, Copy)]

@@ -9,7 +9,7 @@ use std::alloc::AllocFailed;
 pub enum AuditFault {
     /// Out of memory.
     Memory,
-    /// The database failed, or the issuer, the policy, the version or the rowid in `kept` is one that no register writes.
+    /// The database failed, or the issuer, the policy, the version, or the rowid in `office` or `kept` is one that no register writes.
     Store,
     /// A row breaks a rule.
     Broken(BrokenRow),

@@ -1,9 +1,9 @@
 /// Receives the progress of an audit. It does not influence the result.
 pub trait ProgressObserver {
-    /// A statement returned `count` rows. The last statements, for rowids, `office` and the schedule, are not reported.
+    /// One of the ten statements that each read a table (all but the schedule) returned `count` rows. Other statements are not reported.
     fn rows_read(&mut self, count: usize);
 
-    /// The bytes of one more CRL were compared.
+    /// The bytes of one more CRL were compared, and are right.
     fn crl_compared(&mut self);
 }
 

@@ -42,14 +42,14 @@ const TABLE_QUERIES: [AuditQuery; 10] = [
 /// certificate), `kept` (the counts of each state) and `listed` (CRL entries) follow from these ([`reg_audit_rows::check`]). Then it
 /// reads each CRL in turn, and checks that its bytes encode the entries that the records have for it (RFC 5280 5.1), with the algorithm
 /// that the CRL names and any signature ([`reg_audit_rows::check_crl`]). Last, it checks the rowids, `office` and the schedule. It
-/// verifies no signature, does not check the schema, changes nothing, and reports its progress to the observer.
+/// verifies no signature, checks neither the schema nor a validity against the schedule, changes nothing, and reports its progress to the observer.
 ///
 /// A row with a value that the register's types can't hold is reported as broken. `IsDisproved` says what a broken row disproves.
 /// If the tables have a register's schema (`AreTables`) and the audit succeeds, they show sound records (`ShowsSound`).
 ///
 /// # Errors
-/// `Broken` with a row that breaks a rule; `Memory`; `Store` if the database fails, or if its issuer, policy, version or the
-/// rowid in `kept` is one that no register writes.
+/// `Broken` with a row that breaks a rule; `Memory`; `Store` if the database fails, or if its issuer, policy, version, or the
+/// rowid in `office` or `kept` is one that no register writes.
 pub fn audit<S: Alter, W: ProgressObserver>(
     alloc: Global,
     conn: &mut Connection<S>,

@@ -20,7 +20,7 @@ use Rattle.reg_store_tables.specs.DerivedRows as column
 use Rattle.reg_store_tables.specs.Kept.{letter_of, standing_of, not_after_of, listed_of}
 use Rattle.reg_store_tables.proofs.PublicLaws.{mapped}
 use Rattle.reg_store_migration.specs.Refilled.{last_in}
-use Rattle.reg_audit_rows.specs.DerivedAsRead.{letter_in, standing_in, listed_in, letter_by, standing_by, found_end, listed_with, same_letter, found_counts}
+use Rattle.reg_audit_rows.specs.DerivedAsRead.{letter_in, standing_in, listed_in, letter_by, standing_by, found_not_after, listed_with, same_letter, found_counts}
 use Rattle.reg_audit_rows.specs.Read.{AreOf}
 use Rattle.reg_audit_rows.specs.declared.derived_rows.Letter.{Letter}
 use Rattle.reg_audit_rows.specs.declared.derived_rows.Letter.TheVariants.{Good, Revoked, Expired}
@@ -169,9 +169,9 @@ module _ (rows : Rows) (records : Records) (are : AreOf rows records) (sound : S
         let known = some_and_of (λ (certificate : CertRow). Rattle.std.proofs.Common.◌≤◌ row.at certificate.not_after) (certificate_in records.certificates row.serial) fits.within_validity in
         let certificate = known.0 in
         let at : certificates row.serial ≡ Some certificate = found row.serial ∙ ap (λ l. certificate_in l row.serial) are.certificates ∙ known.1 in
-        let ends : found_end (certificates row.serial) ≡ certificate.not_after = ap found_end at in
+        let ends : found_not_after (certificates row.serial) ≡ certificate.not_after = ap found_not_after at in
         let ends_so : not_after_of records row.serial ≡ certificate.not_after = ap (λ o. unwrap_or (option_map (λ (c : CertRow). c.not_after) o) 0) known.1 in
-        let last : last_in rows.crls.now row.first (found_end (certificates row.serial)) ≡ last_listing records row = (λ i. last_in (are.crls i) row.first (ends i)) ∙ found_rows records.certificates row certificate known.1 records.crls in
+        let last : last_in rows.crls.now row.first (found_not_after (certificates row.serial)) ≡ last_listing records row = (λ i. last_in (are.crls i) row.first (ends i)) ∙ found_rows records.certificates row certificate known.1 records.crls in
         λ i. record { serial = row.serial; at = row.at; reason = row.reason; first = row.first; not_after = (ends ∙ sym ends_so) i; last = last i }
 
     all_listed : map listed_in wanted_listed ≡ map (listed_of records) records.revocations

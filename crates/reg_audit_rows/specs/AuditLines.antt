@@ -8,7 +8,6 @@ use Rattle.reg_audit_rows.specs.declared.broken_row.Defect.{Defect}
 use Rattle.reg_audit_rows.specs.declared.broken_row.Defect.TheVariants as why
 use Rattle.reg_audit_rows.specs.declared.audit_result.Audited.{Audited}
 
--- the name of a table
 unfoldable pub table_name : RegisterTable → List ℕ
 table_name table.Office = codes "office"
 table_name table.Subscriber = codes "subscriber"
@@ -26,7 +25,7 @@ unfoldable pub why_text : Defect → List ℕ
 why_text why.PastClockEnd = codes "a moment past the end of the clock"
 why_text why.NeverAccepted = codes "a last accepted moment that no command set"
 why_text why.AboveCap = codes "more rows than the policy's cap"
-why_text why.OutOfOrder = codes "its number is not one more than that before it"
+why_text why.OutOfOrder = codes "its number is not one more than that of the row before it, or not 1 in the first row"
 why_text why.BadName = codes "a name that no command takes"
 why_text why.SameName = codes "an earlier row has the same name"
 why_text why.BadDays = codes "days that no schedule allows"
@@ -50,7 +49,7 @@ why_text why.WrongFirst = codes "its first CRL is not the first one after its mo
 why_text why.EarlierFirst = codes "its first CRL is before that of the row before it"
 why_text why.ThisUpdateDecreases = codes "its thisUpdate is before that of the CRL before it"
 why_text why.DerivedMismatch = codes "differs from the records, or a row with a lower serial number is missing"
-why_text why.OtherBytes = codes "its bytes are not those of the CRL by the records"
+why_text why.OtherBytes = codes "its bytes do not encode the CRL that the records give"
 why_text why.WrongCounts = codes "its counts are not those of the records"
 why_text why.NoValue = codes "a value that no register writes, or no such row"
 

@@ -42,7 +42,7 @@ signature_at bytes =
     value_at bytes >>= λ list. value_at list.0.contents >>= λ tbs. value_at tbs.1 >>= λ algorithm.
     value_at algorithm.1 >>= λ bits. behind_first bits.0.contents
 
--- n is not above the number of the last CRL that lists a row, if there is that number
+-- n is not above the number of the last CRL that lists a row; always so if that CRL has not been issued
 abbrev pub still_on : ℕ → Option ℕ → Bool
 still_on n None = true
 still_on n (Some last) = nat_le n last

@@ -57,9 +57,9 @@ standing_by last revocations certificate = record {
 }
 
 -- the notAfter of a certificate that was looked up; 0 if there is none
-abbrev pub found_end : Option CertRow → ℕ
-found_end None = 0
-found_end (Some certificate) = certificate.not_after
+abbrev pub found_not_after : Option CertRow → ℕ
+found_not_after None = 0
+found_not_after (Some certificate) = certificate.not_after
 
 -- a revocation's row of `listed`, by these CRLs, with the certificate that a look-up finds
 abbrev pub listed_with : List CrlRow → (ℕ → Option CertRow) → RevocationRow → Listed
@@ -68,8 +68,8 @@ listed_with crls certificates revocation = record {
   at = revocation.at;
   reason = revocation.reason;
   first = revocation.first;
-  not_after = found_end (certificates revocation.serial);
-  last = last_in crls revocation.first (found_end (certificates revocation.serial));
+  not_after = found_not_after (certificates revocation.serial);
+  last = last_in crls revocation.first (found_not_after (certificates revocation.serial));
 }
 
 abbrev pub same_letter : Letter → Letter → Bool

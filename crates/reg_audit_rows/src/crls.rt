@@ -93,7 +93,7 @@ fn entries_of(alloc: Global, listed: &[Listed], number: u64) -> Result<Vec<Entry
     Ok(entries)
 }
 
-/// Checks that the bytes are the CRL of these entries, with this algorithm and any signature: encodes it again and compares.
+/// Checks that the bytes are the CRL of these entries, with this algorithm and any signature: encodes the CRL again, and compares.
 fn check_bytes(
     alloc: Global,
     issuer: &Issuer,

@@ -6,7 +6,7 @@ ghost use Rattle.std.specs.List.Sorted.{IsPermutation};
 ghost use Rattle.std.specs.Ordering.{nat_cmp};
 ghost use Rattle.reg_core.specs.Sound.{KeysDiffer, NumberedFrom, NeverDecreases};
 ghost use Rattle.reg_store_migration.specs.Refilled.{last_in};
-ghost use Rattle.reg_audit_rows.specs.DerivedAsRead.{letter_by, standing_by, found_end, listed_with, found_counts, same_letter};
+ghost use Rattle.reg_audit_rows.specs.DerivedAsRead.{letter_by, standing_by, found_not_after, listed_with, found_counts, same_letter};
 ghost use Rattle.reg_audit_rows.specs.Faults.{NotBrokenIf, NotBroken};
 
 use crate::fault::{CheckFault, broken_at};
@@ -31,7 +31,8 @@ pub struct Standing {
     pub letter: Letter,
 }
 
-/// A row of `listed`: a revocation's CRL entry, its certificate's notAfter, and the numbers of its first CRL and of its last, if that was issued.
+/// A row of `listed`: a revocation's CRL entry (RFC 5280 5.1.2.6), its certificate's notAfter, and the numbers of the first and the last CRL
+/// that list it (`last`: `None` until that CRL is issued).
 #[derive(Clone, Copy)]
 pub struct Listed {
     pub serial: Serial,
@@ -104,6 +105,7 @@ fn letter_of(status: Status) -> Letter
     }
 }
 
+/// The rows that `standing` must have, in the order of the certificates.
 pub(crate) fn standings(
     alloc: Global,
     certificates: &[CertRow],
@@ -128,7 +130,7 @@ pub(crate) fn standings(
     Ok(made)
 }
 
-fn is_past(crl: &CrlRow, first: u64, not_after: Moment) -> bool
+fn can_be_last_listing(crl: &CrlRow, first: u64, not_after: Moment) -> bool
     ensures { result ≡ (nat_le first crl.now.number && nat_lt not_after crl.now.this_update) }
 {
     first <= crl.number && not_after < crl.this_update
@@ -140,7 +142,7 @@ fn last_listing(crls: &[CrlRow], first: u64, not_after: Moment) -> Option<u64>
     ensures { NumberedFrom (λ crl. crl.number) 1 crls.now → NeverDecreases (λ crl. crl.this_update) crls.now
         → result ≡ last_in crls.now first not_after }
 {
-    let at = crls.partition_point(|crl| !is_past(crl, first, not_after));
+    let at = crls.partition_point(|crl| !can_be_last_listing(crl, first, not_after));
     match crls.get(at) {
         Some(crl) => Some(crl.number),
         None => None,
@@ -148,7 +150,7 @@ fn last_listing(crls: &[CrlRow], first: u64, not_after: Moment) -> Option<u64>
 }
 
 fn not_after_or_epoch(certificate: Option<CertRow>) -> Moment
-    ensures { result ≡ found_end certificate }
+    ensures { result ≡ found_not_after certificate }
 {
     match certificate {
         Some(certificate) => certificate.not_after,
@@ -156,6 +158,7 @@ fn not_after_or_epoch(certificate: Option<CertRow>) -> Moment
     }
 }
 
+/// The rows that `listed` must have, in the order of the revocations.
 pub(crate) fn listings(
     alloc: Global,
     revocations: &[RevocationRow],

@@ -39,7 +39,8 @@ fn text_of(why: Defect) -> &'static str
         Defect::PastClockEnd => "a moment past the end of the clock",
         Defect::NeverAccepted => "a last accepted moment that no command set",
         Defect::AboveCap => "more rows than the policy's cap",
-        Defect::OutOfOrder => "its number is not one more than that before it",
+        Defect::OutOfOrder =>
+            "its number is not one more than that of the row before it, or not 1 in the first row",
         Defect::BadName => "a name that no command takes",
         Defect::SameName => "an earlier row has the same name",
         Defect::BadDays => "days that no schedule allows",
@@ -62,8 +63,9 @@ fn text_of(why: Defect) -> &'static str
         Defect::WrongFirst => "its first CRL is not the first one after its moment",
         Defect::EarlierFirst => "its first CRL is before that of the row before it",
         Defect::ThisUpdateDecreases => "its thisUpdate is before that of the CRL before it",
-        Defect::DerivedMismatch => "differs from the records, or a row with a lower serial number is missing",
-        Defect::OtherBytes => "its bytes are not those of the CRL by the records",
+        Defect::DerivedMismatch =>
+            "differs from the records, or a row with a lower serial number is missing",
+        Defect::OtherBytes => "its bytes do not encode the CRL that the records give",
         Defect::WrongCounts => "its counts are not those of the records",
         Defect::NoValue => "a value that no register writes, or no such row",
     }
@@ -84,7 +86,7 @@ fn with_number(text: Vec<u8>, label: &[u8], number: u64) -> Result<Vec<u8>, Allo
     with(text, Decimal::of(number).as_bytes())
 }
 
-/// The line for a register in which no row breaks a rule.
+/// The line for a register in which no row breaks a rule. Error: out of memory.
 pub fn sound_line(alloc: Global, found: Audited) -> Result<Vec<u8>, AllocError>
     ensures { IfOk result (λ line. line.items ≡ sound_text found) }
 {
@@ -94,7 +96,7 @@ pub fn sound_line(alloc: Global, found: Audited) -> Result<Vec<u8>, AllocError>
     with(text, b" CRLs\n")
 }
 
-/// The line for a row that breaks a rule.
+/// The line for a row that breaks a rule. Error: out of memory.
 pub fn broken_line(alloc: Global, broken: BrokenRow) -> Result<Vec<u8>, AllocError>
     ensures { IfOk result (λ line. line.items ≡ broken_text broken) }
 {

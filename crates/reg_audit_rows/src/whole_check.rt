@@ -37,7 +37,7 @@ fn check_derived(
 }
 
 /// Checks that the rows are those of sound records (`ReachedRows`), and that the derived tables match these: the letters, their counts, and the
-/// entries of CRLs. It does not check the bytes of CRLs. Errors: `Memory`; `Broken` with a row that breaks a rule. It takes
+/// entries of CRLs. The bytes of CRLs are not checked. Errors: `Memory`; `Broken` with a row that breaks a rule. The check takes
 /// O(n log n) steps for n rows, and one step for each pair of a revocation and a CRL.
 pub fn check(
     alloc: Global,

@@ -1,4 +1,4 @@
--- What the digits of a text say.
+-- The date and time that the digits of a text write.
 use Rattle.std.proofs.Common.{◌≡◌, false, not, ℕ, ◌+◌, ◌*◌, ◌/◌, ◌%◌, List, [], ◌∷◌, length, get_or, refl, ◌∙◌, arith}
 use Rattle.std.specs.Prelude.{codes}
 use Rattle.std.specs.Str.{bytes_eq}

@@ -1,4 +1,4 @@
--- What follows from a request that can be settled.
+-- Lemmas on decisions: accepted answers, and requests that can be declined or lead to a revocation.
 use Rattle.std.proofs.Common.{◌≡◌, true, List, [], ◌∷◌, ◌++◌, refl, ap, Option, Some, None, Result, Ok, IfSome}
 use Rattle.std.specs.Prelude.{⊤}
 use Rattle.reg_core.specs.Checks.{clock_checks, first_refusal, pending_request_checks}

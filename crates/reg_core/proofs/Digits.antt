@@ -1,4 +1,4 @@
--- The number that digits of any base write, taken apart.
+-- The number that digits of any base write: digit by digit, and in two parts.
 use Rattle.std.proofs.Common.{◌≡◌, ℕ, true, suc, zero, ◌+◌, ◌*◌, ◌^◌, ◌<◌, ◌≤◌, List, [], ◌∷◌, ◌++◌, ◌-◌, length, map, get_or, take, drop, inl, inr, refl, sym, ap, ◌∙◌, arith}
 use Rattle.std.proofs.Math.Nat.{pow-succ', pow-zero, pow-le-pow_left, pow-le-pow_right, add-mul, mul_assoc, zero-mul}
 use Rattle.std.proofs.lemmas.List.{length-take, length-drop, length-map, map-append, take-append-drop}

@@ -1,4 +1,4 @@
--- What the texts of a moment say: one moment alone has a given text, and its bytes are few and plain.
+-- The text of a moment: no two moments have the same one, and each of its bytes is an `IsTextByte`.
 use Rattle.std.proofs.Common.{◌≡◌, ℕ, ◌+◌, ◌/◌, ◌%◌, ◌<◌, ◌≤◌, List, [], ◌∷◌, get_or, Option, Some, None, ap, arith}
 use Rattle.std.specs.Prelude.{MatchOption}
 use Rattle.std.specs.List.{All}

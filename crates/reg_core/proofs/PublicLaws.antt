@@ -1,4 +1,4 @@
--- The laws, for proofs above: they cite these alone. Each is stated in specs/, and is what a function of `laws` ensures.
+-- The laws that proofs of other crates cite. Each is stated in specs/, and a function of `laws` ensures it.
 pub use Rattle.reg_core.proofs.Integers.{bytes_order, is_bytes-append, is_bytes-bytes_high_first, is_bytes-cons, is_bytes-tail, is_bytes-take, value-bytes20}
 pub use Rattle.reg_core.proofs.LabelTexts.{label_of-is, label_of-some}
 pub use Rattle.reg_core.proofs.MomentTexts.{moment_of-some, moment_of-text}

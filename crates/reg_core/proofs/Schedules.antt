@@ -200,7 +200,7 @@ pub longest_at_least_1 : (steps : List (ℕ × ℕ)) (moment : ℕ) → IsSchedu
 longest_at_least_1 [] moment schedule = absurd (let bad : 1 ≤ 0 = schedule.not_empty in omega arith)
 longest_at_least_1 (step ∷ rest) moment schedule =
     let test : ℕ × ℕ → Bool = λ other. nat_le other.0 moment in
-    let reached : nat_le step.0 moment ≡ true = rw schedule.begins_at_once (grind (arith, nat_tests)) in
+    let reached : nat_le step.0 moment ≡ true = rw schedule.begins_at_zero (grind (arith, nat_tests)) in
     rw reached (last_at_least_1 step (filter test rest) (schedule.days.0, days_of_filter test rest schedule.days.1))
 
 pub greatest_at_most_398_of : (steps : List (ℕ × ℕ)) → IsSchedule steps → greatest_of steps ≤ 398

@@ -28,8 +28,8 @@ abbrev pub is_out : ℕ → ℕ → ℕ → Bool
 is_out least most number = nat_lt number least || nat_lt most number
 
 -- the cause for the first value of a policy that is out of its range, if one is (docs/RULES.md, "What is kept")
-unfoldable pub terms_cause : ℕ → ℕ → ℕ → ℕ → Option Cause
-terms_cause days crl_life ocsp_life cap =
+unfoldable pub policy_cause : ℕ → ℕ → ℕ → ℕ → Option Cause
+policy_cause days crl_life ocsp_life cap =
     if is_out 1 398 days then Some cause.Days
     else if is_out 1 863999 crl_life then Some cause.CrlLife
     else if is_out 28800 863999 ocsp_life then Some cause.OcspLife

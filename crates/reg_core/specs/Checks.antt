@@ -1,6 +1,5 @@
 -- The checks of each command, in their order. A check that fails gives a refusal, else `None`; the command is refused with the
--- first refusal. `full`: the table to which the command would add a row has at least as many rows as the policy allows. A command with
--- this parameter is refused for it last.
+-- first refusal. `full`: the table to which the command would add a row has as many rows as the policy allows, or more; checked last.
 use Rattle.std.specs.Prelude.{ℕ, Bool, true, not, cond, ◌||◌, ◌==◌, ◌+◌, ◌-◌, ◌*◌, min, nat_le, nat_lt, List, [], ◌∷◌, ◌++◌, Option, Some, None, Result, Ok, Err}
 pub use Rattle.reg_core.specs.Calendar.{clock_end}
 use Rattle.reg_core.specs.Label.{is_name}
@@ -41,7 +40,7 @@ abbrev pub clock_checks : ℕ → ℕ → List (Option Refusal)
 clock_checks now last =
     refused_if (nat_le clock_end now) ClockEnd ∷ refused_if (nat_lt now last) (ClockBack last) ∷ []
 
--- a name of allowed bytes, which no subscriber has
+-- the name has only allowed bytes, and no subscriber has it
 abbrev pub subscriber_checks : List ℕ → Option SubscriberRow → Bool → List (Option Refusal)
 subscriber_checks name by_name full =
     refused_if (not (is_name name)) BadName
@@ -49,7 +48,7 @@ subscriber_checks name by_name full =
     ∷ refused_if full Full
     ∷ []
 
--- an order of a recorded subscriber, for 1 day up to the most days of any step of the schedule
+-- the subscriber exists, and the days are from 1 to the most of any step of the schedule
 abbrev pub order_checks : Terms → Option SubscriberRow → ℕ → Bool → List (Option Refusal)
 order_checks policy subscriber days full =
     refused_if_none subscriber NoSubscriber

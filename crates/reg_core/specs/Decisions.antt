@@ -20,8 +20,8 @@ abbrev pub head_of : Records → ℕ → ℕ → Head
 head_of records now held = record { now = now; last = records.last; policy = records.policy; held = held }
 
 -- the table that would grow has at least as many rows as the policy allows
-abbrev pub head_is_full : Head → Bool
-head_is_full head = nat_le head.policy.cap head.held
+abbrev pub table_is_full : Head → Bool
+table_is_full head = nat_le head.policy.cap head.held
 
 -- the refusal, or else the answer
 abbrev pub refused_or : {Answer : Type 0} → Option Refusal → Answer → Result Answer Refusal
@@ -45,7 +45,7 @@ abbrev pub DecidesSubscriber : Head → List ℕ → Option SubscriberRow → Re
 DecidesSubscriber head name by_name result =
     IsDecided
     head
-    (subscriber_checks name by_name (head_is_full head))
+    (subscriber_checks name by_name (table_is_full head))
     (λ row. row ≡ record { id = head.held + 1; name = name })
     result
 
@@ -54,7 +54,7 @@ abbrev pub DecidesOrder : Head → Option SubscriberRow → ℕ → Result Order
 DecidesOrder head subscriber days result =
     IsDecided
     head
-    (order_checks head.policy subscriber days (head_is_full head))
+    (order_checks head.policy subscriber days (table_is_full head))
     (λ row. IfSome subscriber
     (λ known. row ≡ record { id = head.held + 1; subscriber = known.id; days = days }))
     result
@@ -71,7 +71,7 @@ DecidesRegister head wanted order by_order by_serial result =
     IsDecided
     head
     (cond (is_same wanted by_serial) []
-    (register_checks head.policy head.now wanted order by_order by_serial (head_is_full head)))
+    (register_checks head.policy head.now wanted order by_order by_serial (table_is_full head)))
     (λ row. row ≡ cond (is_same wanted by_serial) None (Some wanted))
     result
 
@@ -89,7 +89,7 @@ abbrev pub DecidesRequest : Head → Option CertRow → List ℕ → Option Revo
 DecidesRequest head certificate word revocation result =
     IsDecided
     head
-    (request_checks head.now certificate word revocation (head_is_full head))
+    (request_checks head.now certificate word revocation (table_is_full head))
     (λ row. IfSome certificate (λ known. IsRequest head known word row))
     result
 
@@ -129,5 +129,5 @@ DecidesRevoke head request certificate revocation latest result =
 -- the row of the new CRL, with the next number and this moment as its thisUpdate
 abbrev pub DecidesCrl : Head → Option CrlRow → Result CrlRow Refusal → Type 0
 DecidesCrl head latest result =
-    IsDecided head (crl_checks (head_is_full head))
+    IsDecided head (crl_checks (table_is_full head))
     (λ row. row ≡ record { number = number_after latest; this_update = head.now }) result

@@ -10,9 +10,9 @@ Ascends (step ∷ []) = Unit {0}
 Ascends (step ∷ next ∷ rest) = (step.0 < next.0) × Ascends (next ∷ rest)
 
 -- the first step, if there is one, is at moment 0
-abbrev pub BeginsAtOnce : List (ℕ × ℕ) → Type 0
-BeginsAtOnce [] = Unit {0}
-BeginsAtOnce (step ∷ rest) = step.0 ≡ 0
+abbrev pub BeginsAtZero : List (ℕ × ℕ) → Type 0
+BeginsAtZero [] = Unit {0}
+BeginsAtZero (step ∷ rest) = step.0 ≡ 0
 
 -- days of validity: 1 to 398, the maximum of the CA/Browser Forum Baseline Requirements 6.3.2
 abbrev pub IsDays : ℕ → Type 0
@@ -27,7 +27,7 @@ HasDays step = IsDays step.1
 pub record IsSchedule (steps : List (ℕ × ℕ)) : Type 0 where
   pub not_empty : 1 ≤ length steps
   pub at_most_16 : length steps ≤ 16
-  pub begins_at_once : BeginsAtOnce steps
+  pub begins_at_zero : BeginsAtZero steps
   pub ascending : Ascends steps
   pub days : AllByRecursion HasDays steps
 

@@ -48,7 +48,7 @@ is_repeat records (Decline id) = false
 is_repeat records (Revoke id) = false
 is_repeat records IssueCrl = false
 
--- the certificate, and below the revocation, of the serial number in the request with this id
+-- the certificate of the serial number in the request with this id; `revocation_of_request` gives its revocation
 abbrev pub certificate_of_request : Records → ℕ → Option CertRow
 certificate_of_request records id =
     option_and_then (λ row. certificate_in records.certificates row.serial) (request_in records.requests id)
@@ -94,7 +94,7 @@ refusal records now command =
     first_refusal
     (clock_checks now records.last ++ cond (is_repeat records command) [] (checks records now command))
 
--- the row of a new request; by the checks `word` names a ground, so `Asked` never replaces another word
+-- the row of a new request. The checks refuse a word that names no ground, so the default `Asked` is never used for one.
 abbrev pub request_row : Records → ℕ → ℕ → List ℕ → RequestRow
 request_row records now serial word = record {
   id = length records.requests + 1;

@@ -1,5 +1,5 @@
 ghost use Rattle.std.specs.Prelude.{◌≡◌, ◌≤◌, Some, None, length, if◌then◌else◌};
-ghost use Rattle.reg_core.specs.Causes.{cause_line, terms_cause};
+ghost use Rattle.reg_core.specs.Causes.{cause_line, policy_cause};
 
 use crate::Label;
 use std::io::ErrorKind;
@@ -22,7 +22,7 @@ pub enum Cause {
     Clock,
     /// The latest CRL was signed with another algorithm than the signer's.
     OtherAlgorithm,
-    /// The latest CRL was signed with an algorithm that this program doesn't know.
+    /// The latest CRL has an algorithm that this program doesn't know, or that can't be read.
     UnknownAlgorithm,
     /// The issuer's key is not of the signer's algorithm.
     OtherKey,
@@ -117,9 +117,9 @@ pub fn port_cause_of(kind: ErrorKind) -> Option<Cause>
 }
 
 /// The cause for the first value that is out of its range, as in [`Policy::new`](crate::Policy::new); `None` if all are in range.
-#[tactic(auto, unfolding(crate::specs::Causes::terms_cause))]
+#[tactic(auto, unfolding(crate::specs::Causes::policy_cause))]
 pub fn policy_cause_of(days: u64, crl_life: u64, ocsp_life: u64, cap: u64) -> Option<Cause>
-    ensures { result ≡ terms_cause days crl_life ocsp_life cap }
+    ensures { result ≡ policy_cause days crl_life ocsp_life cap }
 {
     if days < 1 || days > 398 {
         return Some(Cause::Days);

@@ -4,7 +4,7 @@
 ghost use Rattle.std.specs.Prelude.{◌≡◌, ℕ, ◌+◌, ◌<◌, ◌^◌, false, IfSome, ⊤};
 ghost use Rattle.reg_core.specs.Checks.{clock_checks, first_refusal, live_checks, pending_request_checks, validity_checks, refused_if};
 ghost use Rattle.reg_core.specs.Crls.{number_after};
-ghost use Rattle.reg_core.specs.Decisions.{head_is_full, IsDecided, IsDecidedBy, DecidesSubscriber, DecidesOrder, DecidesRegister, DecidesRequest, DecidesDecline, DecidesRevoke, DecidesCrl};
+ghost use Rattle.reg_core.specs.Decisions.{table_is_full, IsDecided, IsDecidedBy, DecidesSubscriber, DecidesOrder, DecidesRegister, DecidesRequest, DecidesDecline, DecidesRevoke, DecidesCrl};
 
 use crate::grounds::Ground;
 use crate::label::Label;
@@ -196,7 +196,7 @@ pub fn decide_crl(head: &Head, latest: Option<CrlRow>) -> Result<CrlRow, Refusal
 
 /// The id of the new row; `Full` if the table is full.
 fn next_id(head: &Head) -> Result<u64, Refusal>
-    ensures { IsDecidedBy (refused_if (head_is_full head.entry.now) Refusal.Full)
+    ensures { IsDecidedBy (refused_if (table_is_full head.entry.now) Refusal.Full)
         (λ id. id ≡ head.entry.now.held + 1) result }
 {
     if is_full(head) {
@@ -206,7 +206,7 @@ fn next_id(head: &Head) -> Result<u64, Refusal>
 }
 
 fn is_full(head: &Head) -> bool
-    ensures full { result ≡ head_is_full head.entry.now }
+    ensures full { result ≡ table_is_full head.entry.now }
     ensures room { (result ≡ false) → head.entry.now.held < 1000000 }
 {
     head.held >= head.policy.cap()

@@ -1,4 +1,4 @@
--- What it means that a command is accepted: that none of its checks applies.
+-- A command is accepted if none of its checks gives a refusal.
 use Rattle.std.proofs.Common.{◌≡◌, ℕ, ◌<◌, ◌≤◌, false, length, Some, None, IsFalse, IsSome, arith}
 use Rattle.std.specs.List.{AllByRecursion}
 use Rattle.std.proofs.lemmas.Bool.Decides.{nat_tests}

@@ -1,4 +1,4 @@
--- The decisions tied to the step: look-ups, a decision on what they found, and one change, are one step.
+-- Look-ups, a decision on the rows that they found, and one change make one step.
 use Rattle.std.specs.Prelude.{length, ◌==◌, nat_lt, option_and_then, option_map, unwrap_or, Result, Ok, Err, IfSome, IsSome}
 use Rattle.std.specs.List.{list_any}
 use Rattle.std.proofs.Common.{◌≡◌, ℕ, ◌+◌, Bool, true, false, cond, List, [], ◌∷◌, Option, Some, None, find, refl, sym, ap, ◌∙◌, arith}

@@ -1,4 +1,4 @@
--- What comes of a command, in two cases: a refusal or a fault, and the records stay; or an acceptance, and they change.
+-- The outcome of a command, in two cases: a refusal or a fault leaves the records as they are; an acceptance changes them.
 use Rattle.std.proofs.Common.{◌≡◌, ℕ, List, Option, Some, None, Result, Ok, Err, refl}
 use Rattle.reg_core.specs.Crls.{CertList}
 use Rattle.reg_core.specs.Records.{Records}

@@ -1,4 +1,4 @@
--- The lemmas for proofs of crates above: they cite these alone.
+-- The lemmas that proofs of other crates cite.
 pub use Rattle.reg_core_laws.proofs.Accepted.{accepted_clock, accepted_register, accepted_revoke}
 pub use Rattle.reg_core_laws.proofs.Contents.{Grows, next_is}
 pub use Rattle.reg_core_laws.proofs.CountFacts.{equal_numbers, find_here, find_on, one_has, one_if, other_numbers, same_length, same_number, sum_of_two}

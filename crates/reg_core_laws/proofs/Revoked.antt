@@ -1,4 +1,4 @@
--- A revocation comes by a command that is answered so, and by nothing else.
+-- A revocation is added by a command with the reply `Revoked`, and by nothing else.
 use Rattle.std.proofs.Common.{◌≡◌, ℕ, List, None, Ok, refl, sym, ap, ◌∙◌, arith}
 use Rattle.reg_core.specs.Changes.{with_revocation}
 use Rattle.reg_core.specs.Crls.{CertList}

@@ -1,4 +1,4 @@
--- What CRLs tell over runs: of a revocation from the command that it came by, and of recorded CRLs that they stay.
+-- CRLs over runs: which ones list a revocation after its command, and that recorded CRLs stay the same.
 use Rattle.std.proofs.Common.{◌≡◌, ◌↔◌, ℕ, ◌+◌, ◌<◌, ◌≤◌, List, [], ◌∷◌, ◌++◌, length, Bool, Some, Ok, IsTrue, IsFalse, refl, sym, ap, ◌∙◌, subst, arith}
 use Rattle.std.specs.List.{AllByRecursion}
 use Rattle.std.proofs.lemmas.Bool.Decides.{nat_tests}

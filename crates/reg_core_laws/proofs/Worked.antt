@@ -1,4 +1,4 @@
--- The worked examples: what is computed of a day is a run, and so a day goes by its lines where computing says so.
+-- The worked examples: a day is a run if its lines have the outcomes that are computed.
 use Rattle.std.proofs.Common.{◌≡◌, ℕ, List, [], ◌∷◌, Option, Some, None, Result, refl}
 use Rattle.reg_core.specs.Policy.{Terms}
 use Rattle.reg_core.specs.Records.{Records}

@@ -213,7 +213,7 @@ ASecondLaterIsLate =
     ∷ queried (january 3 + 1) (Status 5) (StatusIs (Revoked (january 3 + 1) 1))
     ∷ [])
 
--- each CRL after a revocation lists it while its certificate is not past notAfter; the CRL before it does not
+-- each CRL after a revocation lists it while its certificate is not past notAfter; the CRL before the revocation does not
 abbrev pub EachCrlListsARevocation : Type 0
 EachCrlListsARevocation =
     Then
@@ -256,7 +256,7 @@ ALateCrlListsOnce =
     ∷ queried (january 40 - 90000) (Listing 5) (ListingIs (Some (record { first = 1; last = Some 1 })))
     ∷ [])
 
--- a request needs a known ground other than `hold`, a serial number is revoked once, and a request for a revoked certificate is not overdue
+-- a request needs the name of a ground, and `hold` is none; a serial number is revoked once; a request for a revoked certificate is not overdue
 abbrev pub OneRevocationOfASerialNumber : Type 0
 OneRevocationOfASerialNumber =
     Then

@@ -1,4 +1,4 @@
--- Where something stands first in a list.
+-- The index of the first item of a list that passes a test.
 use Rattle.std.proofs.Common.{◌≡◌, ℕ, Bool, not, List, length, None, Some, arith}
 use Rattle.std.specs.List.{position, position_or_len}
 use Rattle.std.proofs.lemmas.Bool.Decides.{nat_tests}

@@ -1,4 +1,4 @@
--- The pages of a list, one behind the other, have its rows.
+-- The pages of a list, one after another, have its rows.
 use Rattle.std.proofs.Common.{◌≡◌, ◌+◌, ◌-◌, ◌==◌, ℕ, zero, suc, List, [], ◌∷◌, ◌++◌, append-nil, length, map, take, drop, Option, None, Some, refl, sym, ap, ◌∙◌, arith, inl, inr}
 use Rattle.std.specs.Prelude.{filter_map}
 use Rattle.std.proofs.lemmas.Bool.{cases_Bool}

@@ -14,7 +14,7 @@ use Rattle.reg_core_lists.specs.declared.fields.Cell.TheVariants.{Empty, Number,
 use Rattle.reg_core_lists.specs.declared.fields.Field.{Field}
 use Rattle.reg_core_lists.specs.declared.rows.ListedCertificate.{ListedCertificate}
 use Rattle.reg_core_lists.specs.declared.rows.ListedOrder.{ListedOrder}
-use Rattle.reg_core_lists.specs.declared.rows.RequestHistory.{RequestHistory}
+use Rattle.reg_core_lists.specs.declared.rows.RequestWithState.{RequestWithState}
 use Rattle.reg_core_lists.specs.declared.rows.ListedRequest.{ListedRequest}
 use Rattle.reg_core_lists.specs.declared.rows.ListedRevocation.{ListedRevocation}
 use Rattle.reg_core_lists.specs.declared.rows.Row.{Row}
@@ -65,10 +65,10 @@ abbrev pub serial_or_empty : Option ℕ → Cell
 serial_or_empty None = Empty
 serial_or_empty (Some serial) = Serial serial
 
--- the number of the first CRL that lists a certificate, and below that of the last one, if it is issued
-abbrev pub first_listing : Option Listing → Cell
-first_listing None = Empty
-first_listing (Some listing) = Number listing.first
+-- the number of the first CRL that lists a certificate; `last_listing_cell` has that of the last one, if it is issued
+abbrev pub first_listing_cell : Option Listing → Cell
+first_listing_cell None = Empty
+first_listing_cell (Some listing) = Number listing.first
 
 abbrev pub last_listing_cell : Option Listing → Cell
 last_listing_cell None = Empty
@@ -100,7 +100,7 @@ certificate_fields line =
     ∷ (codes "status", Text (status_name line.status))
     ∷ (codes "revokedAt", revoked_at_cell line.status)
     ∷ (codes "reason", reason_cell line.status)
-    ∷ (codes "firstCrl", first_listing line.listing)
+    ∷ (codes "firstCrl", first_listing_cell line.listing)
     ∷ (codes "lastCrl", last_listing_cell line.listing)
     ∷ []
 
@@ -129,8 +129,8 @@ request_fields line =
     ∷ (codes "notAfter", At line.certificate.not_after)
     ∷ []
 
-abbrev pub history_fields : RequestHistory → List (List ℕ × Cell)
-history_fields history =
+abbrev pub request_with_state_fields : RequestWithState → List (List ℕ × Cell)
+request_with_state_fields history =
     request_fields history.request
     ++ ((codes "state", Text (state_name history.request.request.declined history.status))
     ∷ (codes "decided", decided_cell history.request.request.declined history.status)
@@ -163,7 +163,7 @@ abbrev pub row_fields : Row → List (List ℕ × Cell)
 row_fields (kind.Certificate line) = certificate_fields line
 row_fields (kind.Revoked line) = revoked_fields line
 row_fields (kind.Request line) = request_fields line
-row_fields (kind.History history) = history_fields history
+row_fields (kind.History history) = request_with_state_fields history
 row_fields (kind.Subscriber subscriber) = subscriber_fields subscriber
 row_fields (kind.Order line) = order_fields line
 row_fields (kind.Crl crl) = crl_fields crl

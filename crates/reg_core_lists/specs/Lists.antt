@@ -16,7 +16,7 @@ use Rattle.reg_core_lists.specs.declared.cursor.Cursor.{Cursor}
 use Rattle.reg_core_lists.specs.declared.cursor.Cursor.TheVariants.{Revoked, Certificates, Ending, OpenRequests, Overdue, Requests, Subscribers, Orders, Crls}
 use Rattle.reg_core_lists.specs.declared.rows.ListedCertificate.{ListedCertificate}
 use Rattle.reg_core_lists.specs.declared.rows.ListedOrder.{ListedOrder}
-use Rattle.reg_core_lists.specs.declared.rows.RequestHistory.{RequestHistory}
+use Rattle.reg_core_lists.specs.declared.rows.RequestWithState.{RequestWithState}
 use Rattle.reg_core_lists.specs.declared.rows.ListedRequest.{ListedRequest}
 use Rattle.reg_core_lists.specs.declared.rows.ListedRevocation.{ListedRevocation}
 use Rattle.reg_core_lists.specs.declared.rows.Row.{Row}
@@ -89,8 +89,8 @@ lateness_of now request certificate standing =
     cond request.declined None (Some (open_until now certificate standing - deadline request))
 
 -- a request and its state at a moment
-abbrev pub request_history : Records → ℕ → RequestRow → Option RequestHistory
-request_history records now request =
+abbrev pub request_with_state : Records → ℕ → RequestRow → Option RequestWithState
+request_with_state records now request =
     option_map
     (λ line. record {
       request = line;
@@ -144,7 +144,7 @@ overdue_row records now request = cond (nat_lt (deadline request) now) (open_row
 -- the row for any request
 abbrev pub history_row : Records → ℕ → RequestRow → Option Row
 history_row records now request =
-    option_map (λ history. kind.History history) (request_history records now request)
+    option_map (λ history. kind.History history) (request_with_state records now request)
 
 abbrev pub subscriber_row : SubscriberRow → Option Row
 subscriber_row subscriber = Some (kind.Subscriber subscriber)

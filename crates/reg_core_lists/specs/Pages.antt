@@ -33,12 +33,12 @@ IsPaged records now most from (Err Read) = ⊥
 IsPaged records now most from (Err Write) = ⊥
 
 -- the rows of the records are sound, and this is the result for a page of a list
-abbrev pub IsPagedSoundly : Records → ℕ → ℕ → Cursor → Result Page Fault → Type 0
-IsPagedSoundly records now most from given = SoundRows records × IsPaged records now most from given
+abbrev pub IsPageOfSoundRows : Records → ℕ → ℕ → Cursor → Result Page Fault → Type 0
+IsPageOfSoundRows records now most from given = SoundRows records × IsPaged records now most from given
 
 -- the rows of the records are sound, this is the result for a page of a list, and the call leaves the records as they are
 abbrev pub Pages : Records → ℕ → ℕ → Cursor → Result Page Fault → Records → Type 0
-Pages before now most from given after = IsPagedSoundly before now most from given × (after ≡ before)
+Pages before now most from given after = IsPageOfSoundRows before now most from given × (after ≡ before)
 
 -- these are the rows of the pages from a cursor on, one page after another up to the last
 abbrev pub ArePages : Records → ℕ → ℕ → Option Cursor → List Row → List (List Row) → Type 0

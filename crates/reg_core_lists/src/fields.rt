@@ -1,10 +1,10 @@
 //! The fields of a row: their names and values.
 
 ghost use Rattle.std.specs.Prelude.{◌≡◌, ◌≤◌, ◌-◌, IfOk, length, map};
-ghost use Rattle.reg_core_lists.specs.Fields.{certificate_fields, crl_fields, decided_cell, first_listing, ground_name, history_fields, last_listing_cell, number_or_empty, order_fields, reason_cell, request_fields, revoked_at_cell, revoked_fields, row_fields, serial_or_empty, state_name, status_name, subscriber_fields, field_of_text};
+ghost use Rattle.reg_core_lists.specs.Fields.{certificate_fields, crl_fields, decided_cell, first_listing_cell, ground_name, request_with_state_fields, last_listing_cell, number_or_empty, order_fields, reason_cell, request_fields, revoked_at_cell, revoked_fields, row_fields, serial_or_empty, state_name, status_name, subscriber_fields, field_of_text};
 
 use crate::rows::{
-    ListedCertificate, ListedOrder, ListedRequest, ListedRevocation, RequestHistory, Row,
+    ListedCertificate, ListedOrder, ListedRequest, ListedRevocation, RequestWithState, Row,
 };
 use reg_core::{CrlRow, Ground, Label, Listing, Moment, Serial, Status, SubscriberRow};
 use std::alloc::{AllocError, Global};
@@ -102,8 +102,8 @@ fn of_request(alloc: Global, line: &ListedRequest) -> Result<Vec<Field>, AllocEr
     )
 }
 
-fn of_history(alloc: Global, history: &RequestHistory) -> Result<Vec<Field>, AllocError>
-    ensures { IfOk result (λ fields. map field_of_text fields.items ≡ history_fields history.now) }
+fn of_history(alloc: Global, history: &RequestWithState) -> Result<Vec<Field>, AllocError>
+    ensures { IfOk result (λ fields. map field_of_text fields.items ≡ request_with_state_fields history.now) }
 {
     let declined = history.request.request.declined;
     let mut fields = of_request(alloc, &history.request)?;
@@ -228,7 +228,7 @@ fn reason_cell_of(status: Status) -> Cell
 }
 
 fn first_crl_cell(listing: Option<Listing>) -> Cell
-    ensures { result ≡ first_listing listing }
+    ensures { result ≡ first_listing_cell listing }
 {
     match listing {
         Some(listing) => Cell::Number(listing.first),

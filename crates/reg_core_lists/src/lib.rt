@@ -12,6 +12,6 @@ pub use cursor::Cursor;
 pub use filter::Filter;
 pub use list_parameters::{PageQuery, read_page, read_prefix};
 pub use rows::{
-    ListedCertificate, ListedOrder, ListedRequest, ListedRevocation, Page, RequestHistory, Row,
+    ListedCertificate, ListedOrder, ListedRequest, ListedRevocation, Page, RequestWithState, Row,
 };
 pub use texts::{Format, header, page_text, put_rows};

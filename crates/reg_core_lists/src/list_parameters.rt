@@ -40,7 +40,7 @@ pub struct PageQuery {
 }
 
 /// Reads the query for a page, from the list's name and its parameters. The page reads at most 250 rows. `None` if there is no
-/// such list, if `before` is missing for `ending` or given for another list, if a parameter is repeated or is none of the seven, if a
+/// such list, if `before` is missing for `ending` or given for another list, if a parameter has no `=`, is repeated or is none of the seven, if a
 /// value can't be read, if the limit is not 1 to 1,000, or if the rows of the list don't have the fields that the filter needs.
 pub fn read_page(name: &[u8], query: &[u8]) -> Option<PageQuery>
     ensures { result ≡ page_query name.now query.now }

@@ -41,7 +41,7 @@ pub struct ListedRequest {
 
 /// A request and its state at a moment.
 #[derive(Clone, Copy)]
-pub struct RequestHistory {
+pub struct RequestWithState {
     pub request: ListedRequest,
     /// The status of its certificate.
     pub status: Status,
@@ -68,14 +68,14 @@ pub enum Row {
     /// A row of `open-requests` or `overdue`.
     Request(ListedRequest),
     /// A row of `requests`.
-    History(RequestHistory),
+    History(RequestWithState),
     Subscriber(SubscriberRow),
     Order(ListedOrder),
     Crl(CrlRow),
 }
 
 /// A page of a list: its rows in ascending order of their keys, and the cursor of the next page. `next` is `None` if the page read
-/// fewer rows than it may, and so the last one. A next page may be empty.
+/// fewer rows than it may: then it is the last page. A next page may be empty.
 #[derive(Drop)]
 pub struct Page {
     pub rows: Vec<Row>,

@@ -1,4 +1,4 @@
--- The AlgorithmIdentifier of SHA-1 is one.
+-- The AlgorithmIdentifier of SHA-1 satisfies `IsAlgorithm`.
 use Rattle.std.proofs.Common.{[], ◌∷◌, arith, rules}
 use Rattle.reg_der.specs.Der.{tlv, length_octets}
 use Rattle.reg_crl.specs.Signing.{IsAlgorithm}

@@ -1,4 +1,4 @@
--- The law, for proofs above: they cite it alone. It is stated in specs/, and is what the function of `laws` ensures.
+-- The law that proofs of other crates cite. It is stated in specs/, and a function of `laws` ensures it.
 use Rattle.std.proofs.Common.{ℕ, zero, suc, ◌<◌, List, [], ◌∷◌, refl, arith}
 use Rattle.std.specs.List.{AllByRecursion}
 use Rattle.reg_core.specs.Integer.{IsBytes}

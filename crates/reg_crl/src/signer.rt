@@ -61,7 +61,7 @@ pub trait Signer {
     fn sign(&mut self, alloc: Global, message: &[u8]) -> Result<Vec<u8>, SignFault>
         ensures { SignsOrFails identity signs failure_count self.old self.new message.now result };
 
-    /// Resets the back-off: the device is asked for the next signature, even after a timeout.
+    /// Ends the back-off, the time after a timeout in which the device is not asked: it is asked for the next signature.
     fn reset_backoff(&mut self)
         ensures same_identity { identity self.new ≡ identity self.old }
         ensures same_failures { failure_count self.new ≡ failure_count self.old };

@@ -23,7 +23,7 @@ module _ {D : Type 0} (g : Ghosts D) where
     pub preset_signature : signer.preset_signature ≡ None
     pub key : HasKeyForm algorithm (g.public_key device)
 
-  -- a device with the identity's key gave the message this answer, which has the form of a signature
+  -- a device with the identity's key gave this answer to the message, and the answer has the form of a signature
   abbrev pub SignsByDevice : Identity → List ℕ → List ℕ → Type 0
   SignsByDevice identity message signature =
       g.answers identity.public_key message signature × HasForm identity signature

@@ -3,7 +3,7 @@ use Rattle.std.specs.Prelude.{ℕ, List, ◌++◌}
 use Rattle.reg_der.specs.Der.{IsTlv}
 
 -- the bytes are a SEQUENCE of a tbsCertList (a SEQUENCE), this signatureAlgorithm (a SEQUENCE) and any further bytes (RFC 5280 5.1.1)
-pub record IsCrlUnder (bytes algorithm : List ℕ) : Type 0 where
+pub record IsCrlWithAlgorithm (bytes algorithm : List ℕ) : Type 0 where
   pub tbs : List ℕ
   pub tbs_contents : List ℕ
   pub algorithm_contents : List ℕ

@@ -49,8 +49,8 @@ impl Backoff {
     }
 }
 
-/// A device with a back-off. After an exchange that failed and took ten seconds or more, exchanges fail for ten seconds, and the device is not asked.
-/// After any other exchange, the next one asks the device.
+/// A device with a back-off. After the device failed to answer for ten seconds or more, exchanges fail for ten seconds, and the device is not asked.
+/// [`Device::reset_backoff`] ends that. While the clock can't be read, each exchange asks the device.
 #[derive(Drop)]
 pub struct BackoffDevice<D: Device, C: Clock> {
     device: D,
@@ -115,7 +115,7 @@ impl<D: Device, C: Clock> Device for BackoffDevice<D, C> {
 
     ghost answered_another_caller = { D.answered_another_caller };
 
-    ghost others_answers_count = { D.others_answers_count };
+    ghost others_answers_are_answers = { D.others_answers_are_answers };
 
     ghost fails = { FailsOrIsBackedOff D.Device };
 
@@ -126,7 +126,6 @@ impl<D: Device, C: Clock> Device for BackoffDevice<D, C> {
     fn exchange(&mut self, message: &[u8], room: &mut [u8]) -> Result<usize, DeviceFault> {
         match self.clock.monotonic() {
             Ok(began) => self.exchange_at(began, message, room),
-            // If the clock fails, the time since a timeout is unknown, so the device is asked.
             Err(_) => self.device.exchange(message, room),
         }
     }

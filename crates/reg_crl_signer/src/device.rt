@@ -19,14 +19,14 @@ pub trait Device {
     // The device at this path was asked to answer this message, and gave this answer.
     ghost device_answered: { List ℕ → List ℕ → List ℕ → Type 0 };
 
-    // A device with this key gives this message this answer.
+    // A device with this key gives this answer to this message.
     ghost answers: { List ℕ → List ℕ → List ℕ → Type 0 };
 
-    // The device at this path gave this message this answer, for another caller.
+    // The device at this path gave another caller this answer to this message.
     ghost answered_another_caller: { List ℕ → List ℕ → List ℕ → Type 0 };
 
     // An answer that another caller got counts as an answer, for any key.
-    ghost others_answers_count: { (key device_path message answer : List ℕ)
+    ghost others_answers_are_answers: { (key device_path message answer : List ℕ)
         → ∥ answered_another_caller device_path message answer ∥₁ → answers key message answer };
 
     // The device before, a message that it failed to answer, and the device after.

@@ -22,7 +22,7 @@ pub trait DeviceConnection: Read + Write {
     // The sending side was shut down: the connection before, and after.
     ghost finished: { Self → Self → Type 0 };
 
-    // The listener at the path gave this message this answer, over a connection of another type.
+    // The listener at the path gave this answer to this message, over a connection of another type.
     ghost answered_another_caller: { List ℕ → List ℕ → List ℕ → Type 0 };
 
     /// Connects to the listener at `path`. The errors are those of the implementation.
@@ -79,7 +79,7 @@ impl<L: DeviceConnection + Drop> Device for SocketDevice<L> {
 
     ghost answered_another_caller = { L.answered_another_caller };
 
-    ghost others_answers_count = { λ key device_path message answer given. inr (device_path, given) };
+    ghost others_answers_are_answers = { λ key device_path message answer given. inr (device_path, given) };
 
     // No connection could be made, or one was made and gave no answer.
     ghost fails = { λ it message after. L.unconnected (string_bytes it.path)

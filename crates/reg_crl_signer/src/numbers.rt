@@ -31,8 +31,7 @@ pub(crate) fn octets_of_pair(bytes: &[u8]) -> Option<(usize, usize)>
     Some((first, second))
 }
 
-/// How many octets the number in the first INTEGER has, and the bytes after that INTEGER. `None` if there is no INTEGER, or
-/// its number is not above 0.
+/// How many octets the number in the first INTEGER has, and the bytes after that INTEGER. `None` if the bytes don't begin with an INTEGER above 0.
 fn take_positive(bytes: &[u8]) -> Option<(usize, &[u8])>
     ensures { MatchOption result
         ((raw rest : List ℕ) (number : ℕ) → IsPositive raw number → bytes.now ≡ raw ++ rest → ⊥)

@@ -1,4 +1,4 @@
-//! A preset signature: the next `sign` of a `DeviceSigner` returns it instead of asking the device.
+//! A preset signature: the next `sign` of a `DeviceSigner` uses it instead of asking the device.
 
 ghost use Rattle.std.specs.Prelude.{◌≡◌, Some, IfSome};
 

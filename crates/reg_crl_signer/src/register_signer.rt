@@ -1,3 +1,5 @@
+//! The signer of a register.
+
 ghost use Rattle.std.specs.Prelude.{◌≡◌, None};
 ghost use Rattle.std.specs.Option.{ForSome};
 ghost use Rattle.reg_crl_signer.specs.RegisterSigners.{HasNoSigner, SignsAsBefore, register_signer_identity, key_of};
@@ -21,7 +23,7 @@ pub enum RegisterSigner<D: Device> {
 }
 
 impl<D: Device + Drop> RegisterSigner<D> {
-    /// The same signer, but `NoSigner` without failures in place of the placeholder digest.
+    /// The same signer; but instead of the placeholder digest `NoSigner`, with 0 as the count of failures.
     pub fn without_digest(self) -> RegisterSigner<D>
         ensures key { key_of D.Device result ≡ key_of D.Device self }
         ensures same_identity { register_signer_identity D.Device result

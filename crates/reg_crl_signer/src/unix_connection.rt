@@ -5,7 +5,7 @@ ghost use Rattle.std.specs.Duration.{as_nanos};
 ghost use Rattle.std.specs.Time.{instant_nanos};
 
 use crate::exchange::DeviceConnection;
-use mio::net::UnixStream as UnwaitingStream;
+use mio::net::UnixStream as NonblockingStream;
 use std::io::{ErrorKind, Read, Write};
 use std::net::Shutdown;
 use std::os::unix::net::UnixStream;
@@ -82,7 +82,7 @@ impl DeviceConnection for UnixConnection {
         let began = Instant::now(rt)?;
         for _ in 0..u64::MAX {
             let left = time_left_now(rt, began)?;
-            match UnwaitingStream::connect(rt, path) {
+            match NonblockingStream::connect(rt, path) {
                 Ok(stream) => {
                     let (rt, stream) = (*rt, UnixStream::from(stream));
                     stream.set_nonblocking(false)?;

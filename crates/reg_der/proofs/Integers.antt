@@ -1,4 +1,4 @@
--- The INTEGER that any octets of its number give, and that it is a value.
+-- The INTEGER of a number, from any octets that encode the number; it is a DER value.
 use Rattle.std.proofs.Common.{◌≡◌, ℕ, ◌^◌, ◌<◌, ◌≤◌, List, length, refl, sym, ap, ◌∙◌, arith}
 use Rattle.std.specs.Int.{bytes_high_first}
 use Rattle.std.proofs.Math.Nat.{mod-eq_of_lt}

@@ -1,4 +1,4 @@
--- Key identifiers one after the other, behind a Name.
+-- The key identifiers after a Name, one after another.
 use Rattle.std.proofs.Common.{◌≡◌, ℕ, zero, suc, ◌+◌, ◌<◌, ◌≤◌, ◌^◌, Bool, true, false, cond, eqb, ltb, leb, List, [], ◌∷◌, ◌++◌, length, take, drop, get_or, Option, Some, None, refl, sym, ap, subst, ◌∙◌, arith, inl, inr}
 use Rattle.std.specs.Prelude.{◌&&◌, ◌↔◌, IsSome, unwrap_or}
 use Rattle.std.specs.Int.{bytes_high_first}
@@ -12,7 +12,7 @@ use Rattle.reg_core.specs.Sequence.{◌>>=◌}
 use Rattle.reg_core.proofs.PublicLaws.{octets_are_below, octets_are_lowest, is_bytes-take, is_bytes-append}
 use Rattle.reg_der.specs.Der.{tlv, IsTlv}
 use Rattle.reg_der.specs.ValueReading.{Parts, value_at}
-use Rattle.reg_der.specs.Authority.{IsIssuerName, IsStoredName, IsIssuer, name_in, after_name, name_of, key_identifiers, key_identifier_at, identifier_value, identifier_at, identifiers_by, identifiers_at, identifier_for, but_for, others_than, with_identifier, HasIdentifier, IdentifiersFollow, IsPlain, NamesArePlain}
+use Rattle.reg_der.specs.Authority.{IsIssuerName, IsStoredName, IsIssuer, name_in, after_name, name_of, key_identifiers, key_identifier_at, identifier_value, identifier_at, identifiers_by, identifiers_at, identifier_for, without_latest, earlier_identifiers, with_identifier, HasIdentifier, IdentifiersFollow, IsPlain, NamesArePlain}
 use Rattle.reg_der.specs.declared.identifiers.KeyIdentifier.{KeyIdentifier}
 use Rattle.reg_der.proofs.ValueLemmas.{bind_then, value_takes, value_again, value_reads, length-tlv_at_least, is_bytes-tlv}
 
@@ -267,11 +267,11 @@ record AreOthers (first : ℕ) (old others : List ℕ) : Type 0 where
   pub each : IsBytes others
   pub same : (number : ℕ) → number < first → identifier_for (all_of others) number ≡ identifier_for (all_of old) number
 
-others_are : (first : ℕ) (old : List ℕ) → IsBytes old → IsSome (identifiers_at old) → AreOthers first old (others_than first old)
-unfolding others_than
+others_are : (first : ℕ) (old : List ℕ) → IsBytes old → IsSome (identifiers_at old) → AreOthers first old (earlier_identifiers first old)
+unfolding earlier_identifiers
 others_are first old each some = by (identifier_at old) refl
   where
-    by : (read : Option (KeyIdentifier × List ℕ)) → identifier_at old ≡ read → AreOthers first old (but_for first read old)
+    by : (read : Option (KeyIdentifier × List ℕ)) → identifier_at old ≡ read → AreOthers first old (without_latest first read old)
     by None is = record { some = some; each = each; same = λ number before. refl }
     by (Some x) is = elim (cases_Bool (eqb x.0.first first)) [
       | inl here ↦ rw here (let starts : x.0.first ≡ first = eqb-true x.0.first first here in
@@ -293,7 +293,7 @@ identifiers_follow issuer first octets is fits label =
     let name = name_in kept in
     let was = after_name kept in
     let others = others_are first was (behind_bytes kept is.name.each) is.name.identifiers in
-    let old = others_than first was in
+    let old = earlier_identifiers first was in
     let more = identifier_value first octets ++ old in
     let x : KeyIdentifier = record { first = first; octets = octets } in
     let name_is : name_in (name ++ more) ≡ name = name_in-is name more is.name.name in

@@ -1,4 +1,4 @@
--- When bytes are a name, by the value that their front is.
+-- Bytes are a Name if the value at their front is one, and is all of them.
 use Rattle.std.proofs.Common.{◌≡◌, ℕ, ◌≤◌, List, [], ◌++◌, length, sym, ap, subst, ◌∙◌}
 use Rattle.std.proofs.lemmas.List.{append-nil, nil_from_length}
 use Rattle.reg_der.specs.Der.{IsTlv}

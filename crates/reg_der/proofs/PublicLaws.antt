@@ -1,8 +1,8 @@
--- The laws, for proofs above: they cite these alone. Each is stated in specs/, and is what a function of `laws` ensures.
+-- The laws that proofs of other crates cite. Each is stated in specs/, and a function of `laws` ensures it.
 pub use Rattle.reg_der.proofs.KeyIdentifiers.{bind_same}
 pub use Rattle.reg_der.proofs.ValueLemmas.{bind_then, kept, or_false, some_is}
 use Rattle.reg_der.specs.Der.{NoTwoPrefixes, LengthIsFewest, ValuesHaveSizes}
-use Rattle.reg_der.specs.ValueReading.{ReadsValues, ReadsAgain}
+use Rattle.reg_der.specs.ValueReading.{ReadsValues, EachValueIsRead}
 use Rattle.reg_der.specs.Authority.{IdentifiersFollow, NamesArePlain}
 use Rattle.reg_der.proofs.ValueLemmas as values
 use Rattle.reg_der.proofs.KeyIdentifiers as identifiers
@@ -21,7 +21,7 @@ value_size = values.value_size
 pub value_takes : ReadsValues
 value_takes = values.value_takes
 
-pub value_again : ReadsAgain
+pub value_again : EachValueIsRead
 value_again = values.value_again
 
 pub identifiers_follow : IdentifiersFollow

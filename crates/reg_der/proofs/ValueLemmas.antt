@@ -1,4 +1,4 @@
--- What is read is a value, and each value is read again: the two laws of `value_at`, and the lengths of values.
+-- The two laws of `value_at` (it gives only values, and each value), and the lengths of values.
 use Rattle.std.proofs.Common.{◌≡◌, ℕ, suc, ◌+◌, ◌-◌, ◌%◌, ◌^◌, ◌<◌, ◌≤◌, Bool, true, false, cond, ltb, eqb, ◌||◌, List, [], ◌∷◌, ◌++◌, length, get_or, take, drop, Option, Some, None, refl, sym, ap, subst, ◌∙◌, ◌⊎◌, append_assoc, arith, inl, inr}
 use Rattle.std.specs.Int.{bytes_high_first}
 use Rattle.std.proofs.Math.Nat.{mod-eq_of_lt, mod-lt, pow-le-pow_right}
@@ -7,7 +7,7 @@ use Rattle.std.proofs.lemmas.List.{take_at, drop_at, take-append-drop, length-ap
 use Rattle.reg_core.specs.Integer.{IsBytes, value, without_zeros}
 use Rattle.reg_core.specs.Sequence.{◌>>=◌}
 use Rattle.reg_der.specs.Der.{fewest, length_octets, tlv, IsTlv, IsLength, IsLongForm, NoTwoPrefixes, LengthIsFewest, ValuesHaveSizes}
-use Rattle.reg_der.specs.ValueReading.{Parts, Takes, TakesValue, ReadsValues, ReadsAgain, long_at, length_at, counted_at, value_at}
+use Rattle.reg_der.specs.ValueReading.{Parts, Takes, TakesValue, ReadsValues, EachValueIsRead, long_length_at, length_at, contents_at, value_at}
 use Rattle.reg_core.proofs.PublicLaws.{octets_are_below, octets_are_lowest, one_spelling, zeros_count_nothing, is_bytes-cons, is_bytes-tail, is_bytes-take, is_bytes-append}
 use Rattle.reg_der.proofs.Octets.{is_bytes-drop, is_bytes-without_zeros, without_zeros-leads, without_zeros-first, length-without_zeros, same_digits}
 
@@ -138,8 +138,8 @@ digits_fewest digits each few first =
     let places : 256 ^ length digits ≤ 256 ^ 4 = pow-le-pow_right {n = 256} (omega arith) {i = length digits} {j = 4} few in
     fewest-digits digits (value digits) each (omega arith) refl ∙ without_zeros-leads digits first
 
-long_takes : (count : ℕ) (bytes : List ℕ) (x : ℕ × List ℕ) → IsBytes bytes → long_at count bytes ≡ Some x → Takes ((128 + count) ∷ bytes) (length_octets x.0) x.1 × (x.0 < 2 ^ 32)
-unfolding long_at
+long_takes : (count : ℕ) (bytes : List ℕ) (x : ℕ × List ℕ) → IsBytes bytes → long_length_at count bytes ≡ Some x → Takes ((128 + count) ∷ bytes) (length_octets x.0) x.1 × (x.0 < 2 ^ 32)
+unfolding long_length_at
 long_takes count bytes x each e =
     let outer = kept (refused_first count bytes) (cond (refused_digits count bytes) None (Some (value (take count bytes), drop count bytes))) x e in
     let inner = kept (refused_digits count bytes) (Some (value (take count bytes), drop count bytes)) x outer.1 in
@@ -174,7 +174,7 @@ length_takes (first ∷ rest) x each e =
     ]
 
 pub length_again : (size : ℕ) (rest : List ℕ) → size < 2 ^ 32 → length_at (length_octets size ++ rest) ≡ Some (size, rest)
-unfolding length_at long_at length_octets
+unfolding length_at long_length_at length_octets
 length_again size rest fits =
     elim (cases_lt size 128) [
       | inl lt ↦ rw (lt-ltb size 128 lt, lt-ltb size 128 lt) refl
@@ -197,8 +197,8 @@ counted_octets contents = length_octets (length contents) ++ contents
 abbrev after_length : ℕ × List ℕ → Option (List ℕ × List ℕ)
 after_length size = cond (ltb (length size.1) size.0) None (Some (take size.0 size.1, drop size.0 size.1))
 
-pub counted_takes : (bytes : List ℕ) (x : List ℕ × List ℕ) → IsBytes bytes → counted_at bytes ≡ Some x → Takes bytes (counted_octets x.0) x.1 × IsBytes x.0 × (length x.0 < 2 ^ 32)
-unfolding counted_at
+pub counted_takes : (bytes : List ℕ) (x : List ℕ × List ℕ) → IsBytes bytes → contents_at bytes ≡ Some x → Takes bytes (counted_octets x.0) x.1 × IsBytes x.0 × (length x.0 < 2 ^ 32)
+unfolding contents_at
 counted_takes bytes x each e =
     bind_then (length_at bytes) after_length x e (λ size read then.
     let taken = length_takes bytes size each read in
@@ -210,8 +210,8 @@ counted_takes bytes x each e =
     let whole : Takes bytes (counted_octets (take size.0 size.1)) (drop size.0 size.1) = subst (λ (k : ℕ). Takes bytes (length_octets k ++ take size.0 size.1) (drop size.0 size.1)) (sym len) both in
     subst (λ (y : List ℕ × List ℕ). Takes bytes (counted_octets y.0) y.1 × IsBytes y.0 × (length y.0 < 2 ^ 32)) (some_is (take size.0 size.1, drop size.0 size.1) x g.1) (whole, is_bytes-take size.0 size.1 taken.0.each, omega (arith, taken.1)))
 
-pub counted_again : (contents rest : List ℕ) → length contents < 2 ^ 32 → counted_at (counted_octets contents ++ rest) ≡ Some (contents, rest)
-unfolding counted_at
+pub counted_again : (contents rest : List ℕ) → length contents < 2 ^ 32 → contents_at (counted_octets contents ++ rest) ≡ Some (contents, rest)
+unfolding contents_at
 counted_again contents rest fits =
     let again = length_again (length contents) (contents ++ rest) fits in
     let whole = length-append contents rest in
@@ -239,15 +239,15 @@ pub value_takes : ReadsValues
 unfolding value_at
 value_takes [] x each e = absurd cc
 value_takes (tag ∷ bytes) x each e =
-    let g = kept (eqb (tag % 32) 31) (counted_at bytes >>= after_tag tag) x e in
-    bind_then (counted_at bytes) (after_tag tag) x g.1 (λ counted read then.
+    let g = kept (eqb (tag % 32) 31) (contents_at bytes >>= after_tag tag) x e in
+    bind_then (contents_at bytes) (after_tag tag) x g.1 (λ counted read then.
     let t = counted_takes bytes counted (is_bytes-tail tag bytes each) read in
     let made : Parts × List ℕ = (record { tag = tag; contents = counted.0 }, counted.1) in
     let front : Takes (tag ∷ bytes) (tlv tag counted.0) counted.1 = front_tag tag bytes counted.0 counted.1 t.0 in
     subst (λ (y : Parts × List ℕ). TakesValue (tag ∷ bytes) y.0 y.1) (some_is made x then)
     (record { taken = front; fits = record { one_byte = each 0; low_tag = low_tag tag g.0; byte_contents = t.1; short = t.2; spelled = refl } }))
 
-pub value_again : ReadsAgain
+pub value_again : EachValueIsRead
 unfolding value_at tlv
 value_again tag contents rest low fits =
     let again = counted_again contents rest fits in

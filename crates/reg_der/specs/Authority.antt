@@ -87,19 +87,19 @@ abbrev pub key_identifier_at : core.Issuer → ℕ → Option (List ℕ)
 key_identifier_at issuer number = identifier_for (key_identifiers issuer) number
 
 -- the key identifiers, without the latest one if its first CRL is the one with this number
-abbrev pub but_for : ℕ → Option (KeyIdentifier × List ℕ) → List ℕ → List ℕ
-but_for first None bytes = bytes
-but_for first (Some latest) bytes = if latest.0.first == first then latest.1 else bytes
+abbrev pub without_latest : ℕ → Option (KeyIdentifier × List ℕ) → List ℕ → List ℕ
+without_latest first None bytes = bytes
+without_latest first (Some latest) bytes = if latest.0.first == first then latest.1 else bytes
 
-unfoldable pub others_than : ℕ → List ℕ → List ℕ
-others_than first bytes = but_for first (identifier_at bytes) bytes
+unfoldable pub earlier_identifiers : ℕ → List ℕ → List ℕ
+earlier_identifiers first bytes = without_latest first (identifier_at bytes) bytes
 
 -- the issuer with one more key identifier, for CRLs from this number on; it replaces the latest one if that has the same first CRL
 abbrev pub with_identifier : core.Issuer → ℕ → List ℕ → core.Issuer
 with_identifier issuer first octets =
     record {
       name = name_in issuer.name
-          ++ (identifier_value first octets ++ others_than first (after_name issuer.name));
+          ++ (identifier_value first octets ++ earlier_identifiers first (after_name issuer.name));
       key = issuer.key;
     }
 

@@ -15,8 +15,8 @@ pub record Parts : Type 0 where
   pub contents : List ℕ
 
 -- a length of 128 or more in the first `count` octets, 1 to 4, without a leading zero (X.690 8.1.3.5, 10.1), and the bytes after them
-unfoldable pub long_at : ℕ → List ℕ → Option (ℕ × List ℕ)
-long_at count bytes =
+unfoldable pub long_length_at : ℕ → List ℕ → Option (ℕ × List ℕ)
+long_length_at count bytes =
     if (count == 0 || nat_lt 4 count) || nat_lt (length bytes) count then None
     else (if get_or bytes 0 0 == 0 || nat_lt (value (take count bytes)) 128 then None
     else Some (value (take count bytes), drop count bytes))
@@ -24,11 +24,11 @@ long_at count bytes =
 -- the length at the front (X.690 8.1.3), and the bytes after it
 unfoldable pub length_at : List ℕ → Option (ℕ × List ℕ)
 length_at [] = None
-length_at (first ∷ rest) = if nat_lt first 128 then Some (first, rest) else long_at (first - 128) rest
+length_at (first ∷ rest) = if nat_lt first 128 then Some (first, rest) else long_length_at (first - 128) rest
 
 -- the contents whose length is at the front, and the bytes after them
-unfoldable pub counted_at : List ℕ → Option (List ℕ × List ℕ)
-counted_at bytes = do
+unfoldable pub contents_at : List ℕ → Option (List ℕ × List ℕ)
+contents_at bytes = do
   size ← length_at bytes
   if nat_lt (length size.1) size.0 then None else Some (take size.0 size.1, drop size.0 size.1)
 
@@ -37,7 +37,7 @@ unfoldable pub value_at : List ℕ → Option (Parts × List ℕ)
 value_at [] = None
 value_at (tag ∷ rest) =
     if tag % 32 == 31 then None
-    else (counted_at rest >>= λ counted. Some (record { tag = tag; contents = counted.0 }, counted.1))
+    else (contents_at rest >>= λ counted. Some (record { tag = tag; contents = counted.0 }, counted.1))
 
 -- the bytes are this text, and then the rest, which is bytes too
 pub record Takes (bytes text rest : List ℕ) : Type 0 where
@@ -55,7 +55,7 @@ ReadsValues =
     (bytes : List ℕ) (x : Parts × List ℕ) → IsBytes bytes → value_at bytes ≡ Some x → TakesValue bytes x.0 x.1
 
 -- each value at the front of bytes is read
-abbrev pub ReadsAgain : Type 0
-ReadsAgain =
+abbrev pub EachValueIsRead : Type 0
+EachValueIsRead =
     (tag : ℕ) (contents rest : List ℕ) → tag % 32 < 31 → length contents < 2 ^ 32
     → value_at (tlv tag contents ++ rest) ≡ Some (record { tag = tag; contents = contents }, rest)

@@ -4,7 +4,7 @@ use Rattle.reg_core.specs.Integer.{integer}
 use Rattle.reg_core.specs.Calendar.{civil_of, utc_text, general_text}
 use Rattle.reg_der.specs.Der.{tlv}
 
--- the INTEGER of a number below 2^160 that is not negative (X.690 8.3)
+-- the INTEGER of a number below 2^160 (X.690 8.3)
 abbrev pub integer_value : ℕ → List ℕ
 integer_value number = tlv 2 (integer number)
 

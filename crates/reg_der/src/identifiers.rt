@@ -58,9 +58,9 @@ pub(crate) fn are_identifiers(bytes: &[u8]) -> bool
 }
 
 /// The key identifiers, without the latest one if its first CRL is the one with this number.
-#[tactic(auto, unfolding(crate::specs::Authority::others_than))]
-pub(crate) fn others_than(bytes: &[u8], first: u64) -> &[u8]
-    ensures { result.now ≡ authority.others_than first bytes.now }
+#[tactic(auto, unfolding(crate::specs::Authority::earlier_identifiers))]
+pub(crate) fn earlier_identifiers(bytes: &[u8], first: u64) -> &[u8]
+    ensures { result.now ≡ authority.earlier_identifiers first bytes.now }
 {
     match first_element(bytes) {
         Some((latest, rest)) if latest.first == first => rest,

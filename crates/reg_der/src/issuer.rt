@@ -1,10 +1,10 @@
 ghost use Rattle.std.specs.Prelude.{◌≡◌, ◌≤◌, ◌↔◌, ◌++◌, length, IfOk, IfSome, OnOk, IsErrOf, IsTrue};
 ghost use Rattle.sha1.specs.Sha1.{sha1};
-ghost use Rattle.reg_der.specs.Authority.{IsIssuerName, IsKey, IsStoredName, IsIssuer, name_in, after_name, name_of, identifier_value, key_identifier_at, others_than, with_identifier, HasIdentifier};
+ghost use Rattle.reg_der.specs.Authority.{IsIssuerName, IsKey, IsStoredName, IsIssuer, name_in, after_name, name_of, identifier_value, key_identifier_at, earlier_identifiers, with_identifier, HasIdentifier};
 ghost use Rattle.reg_der.specs.declared.issuer.IssuerFault.TheVariants.{Memory};
 ghost use Rattle.reg_core.specs.Buffers.{AppendsOnOk};
 
-use crate::identifiers::{KEY_IDENTIFIER, are_identifiers, identifier_for, others_than};
+use crate::identifiers::{KEY_IDENTIFIER, are_identifiers, earlier_identifiers, identifier_for};
 use crate::tags::SEQUENCE;
 use crate::tlv_reader::take;
 use crate::tlv_writer::{copy_of, put, put_raw};
@@ -189,12 +189,12 @@ fn stored_name_with(
     requires { length octets.now ≤ 64 }
     ensures { IfOk result (λ made. made.items
         ≡ (name_in stored_name.now ++ identifier_value first octets.now)
-        ++ others_than first (after_name stored_name.now)) }
+        ++ earlier_identifiers first (after_name stored_name.now)) }
 {
     let (name, identifiers) = parts(stored_name);
     let mut stored = copy_of(alloc, name)?;
     put_identifier(alloc, &mut stored, first, octets)?;
-    put_raw(&mut stored, others_than(identifiers, first))?;
+    put_raw(&mut stored, earlier_identifiers(identifiers, first))?;
     Ok(stored)
 }
 

@@ -1,7 +1,7 @@
 //! Laws of DER values: contracts of functions that do nothing. Proofs in other crates cite them by `proofs/PublicLaws.antt`.
 
 ghost use Rattle.reg_der.specs.Der.{NoTwoPrefixes, LengthIsFewest, ValuesHaveSizes};
-ghost use Rattle.reg_der.specs.ValueReading.{ReadsValues, ReadsAgain};
+ghost use Rattle.reg_der.specs.ValueReading.{ReadsValues, EachValueIsRead};
 ghost use Rattle.reg_der.specs.Authority.{IdentifiersFollow, NamesArePlain};
 
 /// Bytes have at most one prefix that is a value: the one that `take` gives.
@@ -23,11 +23,11 @@ pub fn values_have_sizes()
 /// that is there.
 pub fn values_are_read()
     ensures reads { ReadsValues }
-    ensures again { ReadsAgain }
+    ensures again { EachValueIsRead }
 {}
 
-/// An issuer with one more key identifier has the same Name and key; its CRLs from that number on have the new key identifier,
-/// and those below it keep theirs.
+/// An issuer with one more key identifier, set from a CRL number on, has the same Name and key. CRLs from that number on have the new
+/// key identifier; those with lower numbers keep theirs.
 pub fn identifiers_follow()
     ensures { IdentifiersFollow }
 {}

@@ -3,7 +3,7 @@
 ghost use Rattle.std.specs.Prelude.{◌≡◌, ℕ, List, ◌+◌, ◌++◌, ◌≤◌, length, IfSome, IfNone};
 ghost use Rattle.reg_core.specs.Integer.{value};
 ghost use Rattle.reg_der.specs.Der.{IsTlv};
-ghost use Rattle.reg_der.specs.ValueReading.{AgreesWith, Parts, long_at, length_at, counted_at, value_at};
+ghost use Rattle.reg_der.specs.ValueReading.{AgreesWith, Parts, long_length_at, length_at, contents_at, value_at};
 
 /// A DER value, as slices of the bytes from which it was read.
 #[derive(Clone, Copy)]
@@ -32,9 +32,9 @@ fn number(digits: &[u8]) -> usize
 }
 
 /// The length in the first `count` octets, and the bytes after them. The octet before them gave `count`.
-#[tactic(auto, unfolding(crate::specs::ValueReading::long_at))]
+#[tactic(auto, unfolding(crate::specs::ValueReading::long_length_at))]
 fn long_length(count: usize, bytes: &[u8]) -> Option<(usize, &[u8])>
-    ensures exact { AgreesWith (λ x. (x.0, x.1.now)) result (long_at count bytes.now) }
+    ensures exact { AgreesWith (λ x. (x.0, x.1.now)) result (long_length_at count bytes.now) }
     ensures shorter { IfSome result (λ x. length x.1.now ≤ length bytes.now) }
 {
     if count == 0 || count > 4 || bytes.len() < count {
@@ -68,9 +68,9 @@ fn length(bytes: &[u8]) -> Option<(usize, &[u8])>
 }
 
 /// The contents, whose length octets are at the front, and the bytes after them.
-#[tactic(auto, unfolding(crate::specs::ValueReading::counted_at))]
+#[tactic(auto, unfolding(crate::specs::ValueReading::contents_at))]
 fn counted(bytes: &[u8]) -> Option<(&[u8], &[u8])>
-    ensures exact { AgreesWith (λ x. (x.0.now, x.1.now)) result (counted_at bytes.now) }
+    ensures exact { AgreesWith (λ x. (x.0.now, x.1.now)) result (contents_at bytes.now) }
     ensures shorter { IfSome result (λ x. length x.1.now ≤ length bytes.now) }
 {
     let (length, rest) = length(bytes)?;

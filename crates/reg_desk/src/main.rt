@@ -1,7 +1,7 @@
 //! The program `desk`: the register and status service of one certification authority.
 #![tactic(auto)]
 
-use reg_desk_cli::{Usage, no_text, read_words};
+use reg_desk_cli::{Usage, not_utf8_usage, read_words};
 use reg_desk_program::run_desk;
 use std::fs::{File, OpenOptions};
 use std::io::ErrorKind;
@@ -42,7 +42,7 @@ fn fill_closed_streams(rt: &HostRuntime) -> io::Result<Vec<File>> {
 fn words_of(rt: &HostRuntime) -> Result<Vec<String>, Usage> {
     match env::args(rt) {
         Ok(args) => args.collect(rt.alloc()).map_err(|_| Usage::Memory),
-        Err(error) if error.kind() == ErrorKind::InvalidData => Err(no_text(rt.alloc())),
+        Err(error) if error.kind() == ErrorKind::InvalidData => Err(not_utf8_usage(rt.alloc())),
         Err(_) => Err(Usage::Memory),
     }
 }

@@ -58,8 +58,8 @@ abbrev pub IsNoPolicy : Terms → Failure → Type 0
 IsNoPolicy terms why = (why ≡ failure.BadPolicy) × ¬ IsPolicy terms
 
 -- no valid issuer, or a valid issuer and no policy
-abbrev pub IsNoOffice : List ℕ → List ℕ → Option (List ℕ) → Terms → Failure → Type 0
-IsNoOffice name key key_id terms why = IsNotIdentified name key key_id why
+abbrev pub IsNoIssuerOrPolicy : List ℕ → List ℕ → Option (List ℕ) → Terms → Failure → Type 0
+IsNoIssuerOrPolicy name key key_id terms why = IsNotIdentified name key key_id why
     ⊎ (((issuer : core.Issuer) × WritesIdentified name key key_id issuer) × IsNoPolicy terms why)
 
 -- the steps are no schedule

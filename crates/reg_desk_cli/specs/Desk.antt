@@ -149,8 +149,8 @@ bare_app = record (new_app (codes "desk")) {
 }
 
 -- `desk [--why]`
-abbrev pub begun_app : App
-begun_app = with_rules bare_app (flag (codes "why") ∷ [])
+abbrev pub app_without_commands : App
+app_without_commands = with_rules bare_app (flag (codes "why") ∷ [])
 
 -- a command line with these commands added in order
 abbrev pub with_commands : App → List App → App
@@ -166,4 +166,4 @@ other_command_apps = at_app ∷ replay_app ∷ schedule_app ∷ key_id_app ∷ l
 
 -- `desk [--why] COMMAND ..`
 abbrev pub desk_app : App
-desk_app = with_commands (with_commands begun_app first_command_apps) other_command_apps
+desk_app = with_commands (with_commands app_without_commands first_command_apps) other_command_apps

@@ -273,7 +273,7 @@ key_id_of rows = do
 abbrev pub form_in : List Row → Format
 form_in rows = if has_flag (codes "json") rows then Json else Csv
 
--- the text of an option, if it is given, of 1 to 64 bytes; and of 1 to 40 hexadecimal digits
+-- the text of an option, if it is given: for `label_given` 1 to 64 bytes, for `prefix_given` 1 to 40 hexadecimal digits
 abbrev pub label_given : Text → List Row → Option (Option Text)
 label_given id rows =
     option_map_or (λ text. option_map (λ label. Some label) (label_of text)) (first_of id rows) (Some None)
@@ -364,7 +364,7 @@ job_of words = job_found (subcommand_of desk_app words)
 abbrev pub ClapAccepts : List Text → Type 0
 ClapAccepts words = fault_of desk_app words ≡ []
 
--- the invocation from what clap found before and after the command: the job; whether the cause of a fault is asked for, by `--why` before or
+-- the invocation from what clap found before and after the command: the job; whether the cause of a failure is reported, by `--why` before or
 -- after it; and the log, by `--log` and `--log-file` after it
 abbrev pub IsInvocationIn : List Row → Option (Text × List Row) → Invocation → Type 0
 IsInvocationIn before found invocation = (job_found found ≡ Some invocation.job)

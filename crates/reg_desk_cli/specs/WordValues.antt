@@ -18,7 +18,7 @@ step_from from days =
 unfoldable pub step_of : List ℕ → Option (ℕ × ℕ)
 step_of text = step_from (before_first (λ b. b == 61) text) (after_first (λ b. b == 61) text)
 
--- the terms of an order, if the texts are the subscriber's number and the days
+-- the terms of an order, if the texts are the subscriber's id and the days
 abbrev pub order_terms_of : List (List ℕ) → Option OrderTerms
 order_terms_of (subscriber ∷ days ∷ []) =
     option_and_then

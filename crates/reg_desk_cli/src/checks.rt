@@ -2,7 +2,7 @@
 
 ghost use Rattle.std.specs.Prelude.{◌≡◌, ◌⊎◌, IfErr, IfOk, IsErr, Ok};
 ghost use Rattle.reg_core.specs.Schedule.{IsSchedule};
-ghost use Rattle.reg_desk_cli.specs.Checks.{WritesIssuer, WritesIdentifier, WritesIdentified, IsNoIssuer, IsNoIdentifier, IsNotIdentified, IsNoPolicy, IsNoOffice, IsNoSchedule, terms_of_days};
+ghost use Rattle.reg_desk_cli.specs.Checks.{WritesIssuer, WritesIdentifier, WritesIdentified, IsNoIssuer, IsNoIdentifier, IsNotIdentified, IsNoPolicy, IsNoIssuerOrPolicy, IsNoSchedule, terms_of_days};
 ghost use Rattle.reg_core.specs.Policy.{IsPolicy};
 ghost use Rattle.hex.specs.Hex.{decode_of};
 
@@ -95,7 +95,7 @@ pub fn policy_of(days: u64, crl_life: u64, ocsp_life: u64, cap: u64) -> Result<P
 }
 
 /// The issuer and the policy of a new register. Errors: those of [`identified_issuer_of`], then those of [`policy_of`].
-pub fn office_of(
+pub fn issuer_and_policy_of(
     alloc: Global,
     name: &Argument<'_>,
     key: &Argument<'_>,
@@ -108,7 +108,7 @@ pub fn office_of(
     ensures ok { IfOk result (λ made. WritesIdentified name.now key.now key_id.now made.0
         × (made.1 ≡ terms_of_days days crl_life ocsp_life cap) × IsPolicy made.1) }
     ensures err { IfErr result
-        (IsNoOffice name.now key.now key_id.now (terms_of_days days crl_life ocsp_life cap)) }
+        (IsNoIssuerOrPolicy name.now key.now key_id.now (terms_of_days days crl_life ocsp_life cap)) }
 {
     let issuer = identified_issuer_of(alloc, name, key, key_id)?;
     let policy = policy_of(days, crl_life, ocsp_life, cap)?;

@@ -157,7 +157,7 @@ fn read_import<'a>(given: &ArgMatches<'a>) -> Option<Job<'a>>
     }))
 }
 
-/// The moment of `--now`, or `Some(None)` for `--clock`; `None` if neither is given, or both.
+/// The moment of `--now`, or `Some(None)` for `--clock`; `None` if neither or both are given, or the value of `--now` is no moment.
 #[tactic(auto, unfolding(crate::specs::Jobs::import_moment))]
 fn import_moment(given: &ArgMatches<'_>) -> Option<Option<Moment>>
     ensures { result ≡ import_moment (rows_of (found_of given.now)) }

@@ -3,7 +3,7 @@
 ghost use Rattle.std.specs.Prelude.{◌≡◌, IfOk, OnOk, [], false, map};
 ghost use Rattle.clap.specs.Words.{App, app_of, rule_of, with_subcommand};
 ghost use Rattle.clap.specs.declared.builder.command.Command.TheViews.{out-Command as fields_of};
-ghost use Rattle.reg_desk_cli.specs.Desk.{may, needs, bare_app, begun_app, desk_app, other_command_apps, first_command_apps, with_commands, with_rules};
+ghost use Rattle.reg_desk_cli.specs.Desk.{may, needs, bare_app, app_without_commands, desk_app, other_command_apps, first_command_apps, with_commands, with_rules};
 ghost use Rattle.reg_desk_cli.specs.Table.{AreLocal, app_of_entry, rule_of_part, with_made};
 
 use crate::table::{CommandEntry, FIRST_COMMANDS, GLOBAL_OPTIONS, OTHER_COMMANDS, Part};
@@ -20,7 +20,7 @@ pub(crate) fn desk<'a>(alloc: Global) -> Result<Command<'a>, AllocError>
     let mut commands = Vec::new(alloc);
     add_commands(alloc, &mut commands, first_commands())?;
     add_commands(alloc, &mut commands, other_commands())?;
-    begun(alloc)?.subcommands(commands)
+    without_commands(alloc)?.subcommands(commands)
 }
 
 fn first_commands() -> &'static [CommandEntry]
@@ -66,8 +66,8 @@ fn add_command<'a>(
 }
 
 /// The command line without its commands.
-fn begun<'a>(alloc: Global) -> Result<Command<'a>, AllocError>
-    ensures app { IfOk result (λ made. app_of made ≡ begun_app) }
+fn without_commands<'a>(alloc: Global) -> Result<Command<'a>, AllocError>
+    ensures app { IfOk result (λ made. app_of made ≡ app_without_commands) }
     ensures local { IfOk result (λ made. (fields_of made).has_globals ≡ false) }
 {
     with_parts(alloc, bare(alloc), GLOBAL_OPTIONS)

@@ -25,16 +25,16 @@ pub enum Failure {
     BadPolicy,
     /// The clock is more than 30 days past the last accepted moment.
     BadClock,
-    /// No CRL with the signer's algorithm may follow the latest one, the issuer's key does not fit that algorithm, or a signer is given for a
-    /// register in memory.
+    /// No CRL with the signer's algorithm (or without a signer: the placeholder digest) may follow the latest one, the issuer's key does not fit the
+    /// signer's algorithm, or a signer is given for a register in memory.
     BadSigner,
     /// A certificate for OCSP responses can't be read, or its key is not the issuer's (`--embed`) or not of the given algorithm (`--responder`).
     BadResponder,
-    /// A reply at a control socket, or in a strict script or import, was a refusal or a fault; or a replay stopped at a line of the log.
+    /// A reply was not accepted, at a control socket or in a strict script or import; or a replay stopped at a line of the log.
     Refused,
     /// The last line of the input has no line end, and did not run.
     NoLineEnd,
-    /// Both: a reply was a refusal or a fault, and the last line has no line end.
+    /// Both at a control socket: a reply was not accepted, and the last line has no line end.
     RefusedNoLineEnd,
     /// An audit found a broken row, or tables that are not those of a register.
     Broken,

@@ -44,11 +44,11 @@ pub struct ScriptOptions {
 #[derive(Drop)]
 pub struct NewRegister<'a> {
     pub file: Argument<'a>,
-    /// The DER of the issuer's Name, in hexadecimal.
+    /// The DER of the issuer's Name, in hexadecimal (RFC 5280 4.1.2.4).
     pub name: Argument<'a>,
-    /// The bits of the issuer's subjectPublicKey, in hexadecimal.
+    /// The bits of the issuer's subjectPublicKey, in hexadecimal (RFC 5280 4.1.2.7).
     pub key: Argument<'a>,
-    /// The key identifier of the issuer's certificate, in hexadecimal, if it is given.
+    /// The key identifier of the issuer's certificate, in hexadecimal (RFC 5280 4.2.1.2). Without it CRLs have the SHA-1 of the key.
     pub key_id: Option<Argument<'a>>,
     /// The longest validity of a certificate, in days.
     pub days: u64,

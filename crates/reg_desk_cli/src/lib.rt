@@ -14,7 +14,8 @@ mod wrong;
 
 pub use argument::{Argument, Steps};
 pub use checks::{
-    identified_issuer_of, issuer_of, key_identifier_of, office_of, policy_of, schedule_of,
+    identified_issuer_of, issuer_and_policy_of, issuer_of, key_identifier_of, policy_of,
+    schedule_of,
 };
 pub use desk::VERSION;
 pub use failure::{Failure, status_of};
@@ -23,4 +24,4 @@ pub use job::{
     OrderTerms, ResponderChoice, RowTask, ScriptOptions, ServeJob, SignerAddress, Usage,
 };
 pub use option_values::read_step;
-pub use reading_words::{no_text, read_words};
+pub use reading_words::{not_utf8_usage, read_words};

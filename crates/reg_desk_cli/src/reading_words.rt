@@ -97,7 +97,7 @@ fn read_job<'a>(alloc: Global, matches: &ArgMatches<'a>) -> Result<Option<Job<'a
 }
 
 /// The usage error for a word of the command line that is not UTF-8.
-pub fn no_text(alloc: Global) -> Usage
+pub fn not_utf8_usage(alloc: Global) -> Usage
     ensures { PrintsUsage ErrorKind.InvalidValue result }
 {
     match desk(alloc) {

@@ -67,9 +67,9 @@ const NUMBER: &str = "The number of the CRL, 1 to 18 digits [default: the latest
 const PORT: &str = "The TCP port, 1 to 65535";
 
 const LISTEN: &str =
-    "The address of the loopback interface at which the port is, 127.0.0.1 or [::1] [default: 127.0.0.1]";
+    "The loopback address at which the desk listens, 127.0.0.1 or [::1] [default: 127.0.0.1]";
 
-const REQUESTS: &str = "How many connections to answer before it ends, 1 to 1000000";
+const REQUESTS: &str = "How many HTTP connections to answer before the program ends, 1 to 1000000";
 
 const SIGNER: &str =
     "The Unix socket of the signer with the issuer's key [default: no signer, and a placeholder digest replaces each signature with this key]";
@@ -110,7 +110,7 @@ const CONTROL: &str =
     "The Unix socket at which the open desk takes commands; it is created with mode 0600";
 
 const PUBLISHED: &str =
-    "A published CRL in DER: if its number is above that of the register's latest CRL, or if it lists serial numbers that aren't revoked, nothing is served, and a line on standard output names each missing number";
+    "A published CRL in DER: if its number is above that of the register's latest CRL, or if it lists serial numbers that aren't revoked, nothing is served, and standard output has a line for the CRL's number and for each such serial number that the register lacks";
 
 const AT_CONTROL: &str =
     "The control socket of an open desk: the path that it was given by --control";
@@ -138,7 +138,7 @@ const BEFORE_MOMENT: &str =
     "For the list ending: only certificates whose notAfter is before it, in UTC, as 2026-02-01T00:00:00Z";
 
 const LIST_NOW: &str =
-    "The moment at which the list has each status, in UTC, as 2026-01-01T00:00:00Z [default: the machine's clock]";
+    "The moment for which the list gives each status, in UTC, as 2026-01-01T00:00:00Z [default: the machine's clock]";
 
 const SUBSCRIBER: &str = "Only rows of the subscriber with this name";
 
@@ -332,7 +332,7 @@ pub(crate) const OTHER_COMMANDS: &[CommandEntry] = &[
     },
     CommandEntry {
         name: "copy",
-        about: "Copy a register that no program has open into one new file, with what its -wal has.",
+        about: "Copy a register that no program has open, with the changes in its -wal file, into one new file.",
         example: "Example:\n  desk copy ca.db /var/backups/ca/ca.db\n\nAn open register is copied by the line `copy PATH` at its control socket: echo copy /var/backups/ca/ca.db | desk at ca.control",
         parts: &[
             Part::RequiredArgument("file", "FILE", FILE),

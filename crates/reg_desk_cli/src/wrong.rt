@@ -15,7 +15,7 @@ pub(crate) const MOST_REQUESTS: u64 = 1_000_000;
 /// The greatest number of 18 digits.
 const MOST: u64 = 999_999_999_999_999_999;
 
-/// The options whose value is a number: the id and the name of each, and its least and its greatest number.
+/// The options whose value is a number: the id and the name of each, and its bounds here. `policy_of` checks the narrower bounds of a policy.
 const NUMBERS: [(&str, &str, u64, u64); 7] = [
     ("days", "--days", 0, MOST),
     ("crl-life", "--crl-life", 0, MOST),
@@ -125,7 +125,7 @@ fn first_wrong<'a>(matches: &ArgMatches<'a>) -> Option<Wrong<'a>> {
     if let Some(wrong) = wrong_step(given) {
         return Some(wrong);
     }
-    if let Some(wrong) = wrong_terms(given) {
+    if let Some(wrong) = wrong_orders(given) {
         return Some(wrong);
     }
     if let Some(wrong) = wrong_filter(given) {
@@ -177,7 +177,7 @@ fn wrong_step<'a>(given: &ArgMatches<'a>) -> Option<Wrong<'a>> {
 }
 
 /// The value of `--orders` that is no number.
-fn wrong_terms<'a>(given: &ArgMatches<'a>) -> Option<Wrong<'a>> {
+fn wrong_orders<'a>(given: &ArgMatches<'a>) -> Option<Wrong<'a>> {
     for value in given.get_strs("orders")? {
         if read_number(value.as_bytes()).is_none() {
             return Some(Wrong::of("--orders", value, NUMBER_WANTED));

@@ -7,17 +7,17 @@ use Rattle.sqlite_wal.specs.Reads.{AreClean}
 use Rattle.sqlite_wal.specs.Recovery.{Image}
 use Rattle.reg_core.specs.declared.refusal.Fault.TheVariants.{Memory, Store}
 use Rattle.reg_desk_files.specs.declared.file_fault.FileFault.{FileFault}
-use Rattle.reg_desk_files.specs.declared.read_only.UnreadFile.{UnreadFile}
-use Rattle.reg_desk_files.specs.declared.read_only.UnreadFile.TheVariants as unread
+use Rattle.reg_desk_files.specs.declared.read_only.ReadFailure.{ReadFailure}
+use Rattle.reg_desk_files.specs.declared.read_only.ReadFailure.TheVariants as unread
 
 -- out of memory, or the store failed
 abbrev pub IsFileFault : FileFault → Type 0
 IsFileFault why = (why.fault ≡ Memory) ⊎ (why.fault ≡ Store)
 
 -- there is no database in the files yet; or the fault is out of memory or of the store
-abbrev pub IsUnread : UnreadFile → Type 0
-IsUnread unread.Nothing = Unit {0}
-IsUnread (unread.Fault why) = IsFileFault why
+abbrev pub IsReadFailureOfFiles : ReadFailure → Type 0
+IsReadFailureOfFiles unread.Nothing = Unit {0}
+IsReadFailureOfFiles (unread.Fault why) = IsFileFault why
 
 -- `Tells` holds of the result and of the image that the files held, if the disk returned all that was written
 abbrev pub TellsOfImage

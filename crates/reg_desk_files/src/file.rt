@@ -29,10 +29,10 @@ const MOST_PAGES: usize = 131_072;
 
 const OWNER_ONLY: u32 = 0o600;
 
-/// Opens the database at a path for writing, or creates it. The crate `sqlite` checks each page and row. `start` is what contracts suppose of the
-/// file and its log (`-wal`). The page cache has room for twice the pages of the file, at least 2,000 and at most 131,072. So a look-up seldom reads
-/// the file, and a transaction writes each page to the log once. Errors: `Memory`; `Store`, with its cause if that is known, if the file can't be
-/// opened or is no database. `Store` too if the path is `:memory:` or begins with `file:`.
+/// Opens the database at a path for writing, or creates it. The crate `sqlite` checks each page, index and constraint. `start` is what contracts
+/// suppose of the file and its log (`-wal`). The page cache has room for twice the pages of the file, at least 2,000 and at most 131,072. So a
+/// look-up seldom reads the file, and a transaction writes each page to the log once. Errors: `Memory`; `Store`, with its cause if that is known, if
+/// the file can't be opened or is no database. `Store` too if the path is `:memory:` or begins with `file:`.
 pub fn open_file<S: Start>(
     rt: &HostRuntime,
     path: &str,
@@ -65,7 +65,7 @@ pub(crate) fn options_for(rt: &HostRuntime, path: &str) -> Result<Options, FileF
     let Ok(state) = RandomState::new(rt) else {
         return Err(fault_with_cause(Fault::Store, None));
     };
-    let pages = pages_for(rt, path);
+    let pages = cache_pages_for(rt, path);
     Ok(Options {
         cache_pages: pages,
         spill_pages: pages,
@@ -73,7 +73,7 @@ pub(crate) fn options_for(rt: &HostRuntime, path: &str) -> Result<Options, FileF
     })
 }
 
-fn pages_for(rt: &HostRuntime, path: &str) -> usize
+fn cache_pages_for(rt: &HostRuntime, path: &str) -> usize
     ensures fewest { 2000 ≤ result }
     ensures most { result ≤ 131072 }
 {

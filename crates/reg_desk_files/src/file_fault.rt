@@ -35,7 +35,7 @@ impl From<OpenError> for FileFault {
             OpenError::Io(error) if error.kind() == ErrorKind::OutOfMemory => Fault::Memory,
             _ => Fault::Store,
         };
-        fault_with_cause(fault, of_opening(&error))
+        fault_with_cause(fault, open_cause_of(&error))
     }
 }
 
@@ -47,7 +47,7 @@ impl From<Error> for FileFault {
             Error::SqliteFailure(ErrorCode::OutOfMemory) => Fault::Memory,
             _ => Fault::Store,
         };
-        fault_with_cause(fault, of_database(&error))
+        fault_with_cause(fault, database_cause_of(&error))
     }
 }
 
@@ -104,7 +104,7 @@ pub(crate) fn in_use_fault() -> FileFault
     fault_with_cause(Fault::Store, Some(Cause::InUse))
 }
 
-fn of_opening(error: &OpenError) -> Option<Cause>
+fn open_cause_of(error: &OpenError) -> Option<Cause>
     ensures busy { error.now ≡ OpenError.Busy → result ≡ Some Cause.InUse }
     ensures memory { error.now ≡ OpenError.OutOfMemory → result ≡ None }
 {
@@ -115,7 +115,7 @@ fn of_opening(error: &OpenError) -> Option<Cause>
     }
 }
 
-fn of_database(error: &Error) -> Option<Cause>
+fn database_cause_of(error: &Error) -> Option<Cause>
     ensures no_database { error.now ≡ Error.SqliteFailure ErrorCode.NotADatabase
         → result ≡ Some Cause.Damaged }
     ensures corrupt { error.now ≡ Error.SqliteFailure ErrorCode.DatabaseCorrupt

@@ -19,6 +19,6 @@ pub use overlay::{Overlay, overlaid};
 pub use page_copy::{copy_closed, copy_open, put_pages, recovered};
 pub use read_file::ReadFile;
 pub use read_only::{
-    Sources, UnreadFile, check_database, copy_of, open_begun, open_sources, read_at,
+    ReadFailure, Sources, check_database, copy_of, open_existing, open_sources, read_at,
 };
 pub use source::Source;

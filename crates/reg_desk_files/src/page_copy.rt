@@ -1,4 +1,4 @@
-//! Copies a database's file and its log to one new file. It has each page as opening finds the page, even if only the log has it.
+//! Copies a database's file and its log to one new file, which has each page as opening would find it, even if only the log has that page.
 
 ghost use Rattle.std.specs.Prelude.{◌≡◌, ◌*◌, min, IfErr, IfOk, IsTrue, OnOk};
 ghost use Rattle.std.specs.Io.KnownBytes.{Appends};
@@ -7,13 +7,13 @@ ghost use Rattle.sqlite_pager.specs.Pager.{page_count, state, visible};
 ghost use Rattle.sqlite_wal.specs.Reads.{OnlyReads};
 ghost use Rattle.sqlite_wal.specs.Recovery.{Recovers};
 ghost use Rattle.reg_desk_files.specs.Copied.{pages_in_order, page_bytes};
-ghost use Rattle.reg_desk_files.specs.Reading.{IsFileFault, IsUnread};
+ghost use Rattle.reg_desk_files.specs.Reading.{IsFileFault, IsReadFailureOfFiles};
 
 use crate::file_creation::write_copy;
 use crate::file_fault::{FileFault, create_fault_of, damaged_fault, fault_with_cause};
 use crate::overlay::overlaid;
 use crate::read_file::OpenedBy;
-use crate::read_only::{Sources, UnreadFile, check_begun, sources_at};
+use crate::read_only::{ReadFailure, Sources, check_has_database, sources_at};
 use crate::source::Source;
 use reg_core::Fault;
 use sqlite::Options;
@@ -27,16 +27,16 @@ use std::io::Write;
 /// and gets that path once it is complete and synced. After an error no copy is left. Errors: `Nothing` if there is no database yet; `Memory`;
 /// `Store` if the files can't be read, or if the copy can't be written. `Store` too if there is a file at the second path, or at that path with
 /// `-wal`, `-journal` or `.part`.
-pub fn copy_closed(rt: &HostRuntime, path: &str, to: &str) -> Result<u64, UnreadFile>
-    ensures { IfErr result IsUnread }
+pub fn copy_closed(rt: &HostRuntime, path: &str, to: &str) -> Result<u64, ReadFailure>
+    ensures { IfErr result IsReadFailureOfFiles }
 {
     copy_locked(rt, path, OpenedBy::NoWriter, to)
 }
 
 /// As [`copy_closed`], for a database that this program has open, between two transactions; `Store` also if no lock for writing is held on the file
 /// at the path, because it is another one now.
-pub fn copy_open(rt: &HostRuntime, path: &str, to: &str) -> Result<u64, UnreadFile>
-    ensures { IfErr result IsUnread }
+pub fn copy_open(rt: &HostRuntime, path: &str, to: &str) -> Result<u64, ReadFailure>
+    ensures { IfErr result IsReadFailureOfFiles }
 {
     copy_locked(rt, path, OpenedBy::ThisProgram, to)
 }
@@ -46,8 +46,8 @@ fn copy_locked(
     path: &str,
     opened_by: OpenedBy,
     to: &str,
-) -> Result<u64, UnreadFile>
-    ensures { IfErr result IsUnread }
+) -> Result<u64, ReadFailure>
+    ensures { IfErr result IsReadFailureOfFiles }
 {
     copy_sources(rt, sources_at(rt, path, opened_by)?, to)
 }
@@ -56,8 +56,8 @@ fn copy_sources<F: Source + Drop>(
     rt: &HostRuntime,
     sources: Sources<F>,
     to: &str,
-) -> Result<u64, UnreadFile>
-    ensures { IfErr result IsUnread }
+) -> Result<u64, ReadFailure>
+    ensures { IfErr result IsReadFailureOfFiles }
 {
     let options = Options::new(sources.options.seed);
     let files = overlaid(rt.alloc(), sources.log, sources.db, sources.key);
@@ -69,10 +69,10 @@ fn copy_files<D: Disk + Drop>(
     files: Files<D>,
     options: Options,
     to: &str,
-) -> Result<u64, UnreadFile>
+) -> Result<u64, ReadFailure>
     requires log { IsTrue (D.Disk.is_usable files.log) }
     requires db { IsTrue (D.Disk.is_usable files.db) }
-    ensures { IfErr result IsUnread }
+    ensures { IfErr result IsReadFailureOfFiles }
 {
     let mut pager = recovered(rt.alloc(), files, options)?;
     Ok(write_copy(rt, &mut pager, to)?)
@@ -84,30 +84,30 @@ pub fn recovered<D: Disk + Drop>(
     alloc: Global,
     mut files: Files<D>,
     options: Options,
-) -> Result<Pager<D>, UnreadFile>
+) -> Result<Pager<D>, ReadFailure>
     requires log { IsTrue (D.Disk.is_usable files.log) }
     requires db { IsTrue (D.Disk.is_usable files.db) }
     ensures found { IfOk result (λ pager.
         IsTrue (state pager).is_clean
         → Recovers (state pager).page_size (image_of D.Disk files) (visible pager)) }
-    ensures faults { IfErr result IsUnread }
+    ensures faults { IfErr result IsReadFailureOfFiles }
 {
-    check_begun(alloc, &mut files)?;
+    check_has_database(alloc, &mut files)?;
     let size = size_in(&mut files)?;
     recovered_by(alloc, files, size, options)
 }
 
-fn size_in<D: Disk>(files: &mut Files<D>) -> Result<PageSize, UnreadFile>
+fn size_in<D: Disk>(files: &mut Files<D>) -> Result<PageSize, ReadFailure>
     requires log { IsTrue (D.Disk.is_usable files.old.log) }
     requires db { IsTrue (D.Disk.is_usable files.old.db) }
     ensures log { OnlyReads D.Disk files.old.log files.new.log }
     ensures db { OnlyReads D.Disk files.old.db files.new.db }
-    ensures faults { IfErr result IsUnread }
+    ensures faults { IfErr result IsReadFailureOfFiles }
 {
     match probe_page_size(files) {
         Ok(Some(size)) => Ok(size),
-        Ok(None) => Err(UnreadFile::Fault(damaged_fault())),
-        Err(error) => Err(UnreadFile::Fault(FileFault::from(error))),
+        Ok(None) => Err(ReadFailure::Fault(damaged_fault())),
+        Err(error) => Err(ReadFailure::Fault(FileFault::from(error))),
     }
 }
 
@@ -116,20 +116,20 @@ fn recovered_by<D: Disk + Drop>(
     files: Files<D>,
     size: PageSize,
     options: Options,
-) -> Result<Pager<D>, UnreadFile>
+) -> Result<Pager<D>, ReadFailure>
     requires log { IsTrue (D.Disk.is_usable files.log) }
     requires db { IsTrue (D.Disk.is_usable files.db) }
     ensures found { IfOk result (λ pager.
         IsTrue (state pager).is_clean
         → Recovers (state pager).page_size (image_of D.Disk files) (visible pager)) }
-    ensures faults { IfErr result IsUnread }
+    ensures faults { IfErr result IsReadFailureOfFiles }
 {
     let Ok(mut pager) = Pager::new(alloc, files, size, options) else {
-        return Err(UnreadFile::Fault(fault_with_cause(Fault::Memory, None)));
+        return Err(ReadFailure::Fault(fault_with_cause(Fault::Memory, None)));
     };
     match pager.recover() {
         Ok(()) => Ok(pager),
-        Err(error) => Err(UnreadFile::Fault(FileFault::from(error))),
+        Err(error) => Err(ReadFailure::Fault(FileFault::from(error))),
     }
 }
 

@@ -53,7 +53,7 @@ pub(crate) struct LockedFiles {
 /// Opens the files of a database read-only, also through a symbolic link. With `NoWriter`, the database's file is locked until the result is dropped.
 /// Errors: `Memory`; `Store` if a system call fails, or if SQLite left a rollback journal, which only SQLite can play back. `Store` with `NoWriter`
 /// if a program holds a lock for writing, and with `ThisProgram` if none does. `Store` too if the path is `:memory:` or begins with `file:`, or if a
-/// file is not a regular one or has a hard link.
+/// file is not a regular one or has two names (hard links).
 pub(crate) fn lock_files(
     rt: &HostRuntime,
     path: &str,

@@ -7,7 +7,7 @@ ghost use Rattle.sqlite.specs.Start.{FindsIn};
 ghost use Rattle.sqlite.specs.State.{HasCleanDisk};
 ghost use Rattle.sqlite_wal.specs.Reads.{AreClean, OnlyReads};
 ghost use Rattle.reg_desk_files.specs.Overlaid.{image};
-ghost use Rattle.reg_desk_files.specs.Reading.{IsFileFault, IsUnread};
+ghost use Rattle.reg_desk_files.specs.Reading.{IsFileFault, IsReadFailureOfFiles};
 
 use crate::file::options_for;
 use crate::file_check::{FileContent, probe_content};
@@ -26,20 +26,20 @@ const ROOM: usize = 64;
 
 /// Why files can't be read.
 #[derive(Clone, Copy, PartialEq, Eq)]
-pub enum UnreadFile {
+pub enum ReadFailure {
     /// There is no database in them yet: opening for writing would create one.
     Nothing,
     /// They can't be opened or read, because of this fault.
     Fault(FileFault),
 }
 
-impl From<FileFault> for UnreadFile {
-    ghost use Rattle.reg_desk_files.specs.declared.read_only.UnreadFile.TheVariants.{Fault as IsFault};
+impl From<FileFault> for ReadFailure {
+    ghost use Rattle.reg_desk_files.specs.declared.read_only.ReadFailure.TheVariants.{Fault as IsFault};
 
     ghost from_gives = { λ fault why. why ≡ IsFault fault };
 
-    fn from(fault: FileFault) -> UnreadFile {
-        UnreadFile::Fault(fault)
+    fn from(fault: FileFault) -> ReadFailure {
+        ReadFailure::Fault(fault)
     }
 }
 
@@ -58,7 +58,7 @@ pub struct Sources<F: Source> {
 /// Opens the file at a path read-only, also through a symbolic link, and copies its log into memory. Creates no file. Until the result is dropped,
 /// `desk` can't open them for writing; SQLite in WAL mode can. Errors: `Memory`; `Store`, with its cause if that is known, if the files can't be
 /// read, or if a program has locked them for writing. `Store` too if SQLite left a rollback journal, if the path is `:memory:` or begins with
-/// `file:`, or if a file is not a regular one or has a hard link.
+/// `file:`, or if a file is not a regular one or has two names (hard links).
 pub fn read_at(rt: &HostRuntime, path: &str) -> Result<Sources<ReadFile>, FileFault>
     ensures { IfErr result IsFileFault }
 {
@@ -90,25 +90,25 @@ pub(crate) fn sources_at(
 
 /// Checks that the files at a path, which are only read, have the beginning of a database. Errors: `Nothing` if there is no database yet; those of
 /// [`read_at`]; `Store` with the cause `Damaged` if the files hold something else.
-pub fn check_database(rt: &HostRuntime, path: &str) -> Result<(), UnreadFile>
-    ensures { IfErr result IsUnread }
+pub fn check_database(rt: &HostRuntime, path: &str) -> Result<(), ReadFailure>
+    ensures { IfErr result IsReadFailureOfFiles }
 {
     check_sources(rt.alloc(), read_at(rt, path)?)
 }
 
-fn check_sources<F: Source + Drop>(alloc: Global, sources: Sources<F>) -> Result<(), UnreadFile>
-    ensures { IfErr result IsUnread }
+fn check_sources<F: Source + Drop>(alloc: Global, sources: Sources<F>) -> Result<(), ReadFailure>
+    ensures { IfErr result IsReadFailureOfFiles }
 {
     let mut files = overlaid(alloc, sources.log, sources.db, sources.key);
-    check_begun(alloc, &mut files)
+    check_has_database(alloc, &mut files)
 }
 
 /// Opens a database over a file that has no method that writes, and a copy of its log. So no use of the connection changes the file: opening
-/// writes only into the copy. Errors are those of [`open_begun`].
+/// writes only into the copy. Errors are those of [`open_existing`].
 pub fn open_sources<F: Source + Drop>(
     alloc: Global,
     sources: Sources<F>,
-) -> Result<Connection<FileStore<Overlay<F>>>, UnreadFile>
+) -> Result<Connection<FileStore<Overlay<F>>>, ReadFailure>
     ensures opened { IfOk result (λ connection. HasCleanDisk (file_state connection) → IsOpened connection) }
     ensures found { IfOk result (λ connection. HasCleanDisk (file_state connection)
         → FindsIn (image sources.log.items (F.Source.bytes sources.db)) (file_state connection)) }
@@ -117,20 +117,20 @@ pub fn open_sources<F: Source + Drop>(
         → ¬ IsNothing (image sources.log.items (F.Source.bytes sources.db))) }
     ensures fresh { IfOk result IsNew }
     ensures idle { IfOk result (λ connection. connection.in_transaction ≡ false) }
-    ensures faults { IfErr result IsUnread }
+    ensures faults { IfErr result IsReadFailureOfFiles }
 {
     let options = sources.options;
     let files = overlaid(alloc, sources.log, sources.db, sources.key);
-    open_begun(alloc, files, options)
+    open_existing(alloc, files, options)
 }
 
 /// Opens the database in a file and its log, and creates none. Errors: `Nothing` if there is no database yet; `Memory`; `Store` if the files hold
 /// something else, or if a call failed.
-pub fn open_begun<D: Disk + Drop>(
+pub fn open_existing<D: Disk + Drop>(
     alloc: Global,
     mut files: Files<D>,
     options: Options,
-) -> Result<Connection<FileStore<D>>, UnreadFile>
+) -> Result<Connection<FileStore<D>>, ReadFailure>
     requires log { IsTrue (D.Disk.is_usable files.log) }
     requires db { IsTrue (D.Disk.is_usable files.db) }
     ensures opened { IfOk result (λ connection. HasCleanDisk (file_state connection) → IsOpened connection) }
@@ -140,28 +140,31 @@ pub fn open_begun<D: Disk + Drop>(
         HasCleanDisk (file_state connection) → ¬ IsNothing (image_of D.Disk files)) }
     ensures fresh { IfOk result IsNew }
     ensures idle { IfOk result (λ connection. connection.in_transaction ≡ false) }
-    ensures faults { IfErr result IsUnread }
+    ensures faults { IfErr result IsReadFailureOfFiles }
 {
-    check_begun(alloc, &mut files)?;
+    check_has_database(alloc, &mut files)?;
     match Connection::open_files_with(alloc, files, options, false) {
         Ok(connection) => Ok(connection),
-        Err((error, _)) => Err(UnreadFile::Fault(FileFault::from(error))),
+        Err((error, _)) => Err(ReadFailure::Fault(FileFault::from(error))),
     }
 }
 
-pub(crate) fn check_begun<D: Disk>(alloc: Global, files: &mut Files<D>) -> Result<(), UnreadFile>
+pub(crate) fn check_has_database<D: Disk>(
+    alloc: Global,
+    files: &mut Files<D>,
+) -> Result<(), ReadFailure>
     requires log { IsTrue (D.Disk.is_usable files.old.log) }
     requires db { IsTrue (D.Disk.is_usable files.old.db) }
     ensures begun { OnOk result
         (AreClean D.Disk files.new.log files.new.db → ¬ IsNothing (image_of D.Disk files.old)) }
     ensures log { OnlyReads D.Disk files.old.log files.new.log }
     ensures db { OnlyReads D.Disk files.old.db files.new.db }
-    ensures faults { IfErr result IsUnread }
+    ensures faults { IfErr result IsReadFailureOfFiles }
 {
     match probe_content(alloc, files)? {
         FileContent::PossibleDatabase => Ok(()),
-        FileContent::Nothing => Err(UnreadFile::Nothing),
-        FileContent::Other => Err(UnreadFile::Fault(damaged_fault())),
+        FileContent::Nothing => Err(ReadFailure::Nothing),
+        FileContent::Other => Err(ReadFailure::Fault(damaged_fault())),
     }
 }
 

@@ -4,7 +4,7 @@ use Rattle.std.specs.Prelude.{Result, Ok, Err, IfOk}
 use Rattle.reg_office_api.specs.CallSteps.{Signs}
 use Rattle.reg_office_api.specs.Drafts.{Drafts}
 use Rattle.reg_office_api.specs.Leads.{Leads}
-use Rattle.reg_office_api.specs.Signatories.{Signatory}
+use Rattle.reg_office_api.specs.Signers.{OfficeSigners}
 use Rattle.reg_office_api.proofs.PublicLaws.{follows, stays}
 use Rattle.reg_core.specs.Records.{Records}
 use Rattle.reg_core.specs.declared.memory.Memory.{Memory as NoMemory}
@@ -39,15 +39,15 @@ use Rattle.reg_desk_jobs.specs.declared.http_exchanges.Dispatch.TheVariants.{ToL
 use Rattle.reg_desk_jobs.proofs.Finishing.{left_exchange}
 
 -- what is begun behind the limits of an open desk is begun there
-pub limited_begins : (admission : Admission) (is_open : Bool) (signs : Signs) (now : ℕ) (signatory : Signatory) (before : Records) (method target body : List ℕ)
+pub limited_begins : (admission : Admission) (is_open : Bool) (signs : Signs) (now : ℕ) (signers : OfficeSigners) (before : Records) (method target body : List ℕ)
     (begun : Result (ReadyOrUnsigned Answered Drafted) NoMemory) (after : Records) → dispatch is_open (route_at (path_of target)) ≡ ToLimits
-    → BeginsAdmitted admission signs now signatory before (asks_for method target body) begun after
-    → BeginsAt is_open signs now admission signatory before method target body begun after
-limited_begins admission is_open signs now signatory before method target body (Ok (Ready answered)) after to (says, adds) =
-    let P : Dispatch → Type 0 = λ by. AnswersAtRoute signs now admission signatory before (answer_effects answered) after by method target body in
+    → BeginsAdmitted admission signs now signers before (asks_for method target body) begun after
+    → BeginsAt is_open signs now admission signers before method target body begun after
+limited_begins admission is_open signs now signers before method target body (Ok (Ready answered)) after to (says, adds) =
+    let P : Dispatch → Type 0 = λ by. AnswersAtRoute signs now admission signers before (answer_effects answered) after by method target body in
     (subst P (sym to) says, adds)
-limited_begins admission is_open signs now signatory before method target body (Ok (Unsigned draft)) after to left = (subst MayNeedSignature (sym to) tt, left)
-limited_begins admission is_open signs now signatory before method target body (Err memory) after to same = same
+limited_begins admission is_open signs now signers before method target body (Ok (Unsigned draft)) after to left = (subst MayNeedSignature (sym to) tt, left)
+limited_begins admission is_open signs now signers before method target body (Err memory) after to same = same
 
 -- the limits after a request at its route
 pub counted_at : {A : Type 0} (result : Result A NoMemory) (is_open : Bool) (now : ℕ) (method target body : List ℕ) (admission admission' : Admission) (by : Dispatch)
@@ -67,38 +67,38 @@ may_count is_open now line_outcome method target body admission admission' holds
 may_count is_open now line_outcome method target body admission admission' holds (inr counted) = inr (asked method target body, holds, counted)
 
 -- What stands in an office before and after, who signs, and the moment; and the limits.
-module _ {S : Type 0} (is_clean : S → Type 0) (stands : Signatory → S → Records → Type 0) (signs : Signs) (now : ℕ) (admission admission' : Admission) (is_open : Bool) (s t : S) where
+module _ {S : Type 0} (is_clean : S → Type 0) (stands : OfficeSigners → S → Records → Type 0) (signs : Signs) (now : ℕ) (admission admission' : Admission) (is_open : Bool) (s t : S) where
   -- The signer gave this, and what that is; the bytes that came.
   module _ (signer_answered : List ℕ → List ℕ → Type 0)
       (answer_in_form_signs : (identity : Identity) (message answer : List ℕ) → signer_answered message answer → HasForm identity answer → signs identity message answer)
       (line_outcome : List ℕ) where
     -- an exchange, or what is left of one
-    abbrev pub Answer : ReadyOrUnsigned Exchange UnsignedResponse → Signatory → Records → Records → Type 0
-    Answer begun signatory before after = AnswersBegun signer_answered is_open signs now admission admission' signatory before line_outcome begun after
+    abbrev pub Answer : ReadyOrUnsigned Exchange UnsignedResponse → OfficeSigners → Records → Records → Type 0
+    Answer begun signers before after = AnswersBegun signer_answered is_open signs now admission admission' signers before line_outcome begun after
 
     -- a request that asks something
     pub asked_answers : (method target body : List ℕ) (route : Route) (begun : Result (ReadyOrUnsigned Answered Drafted) NoMemory) (made : ReadyOrUnsigned Exchange UnsignedResponse)
         → ∥ HoldsRequest line_outcome (asked method target body) ∥₁ → BeginsExchange now route begun made
         → CountsRequest begun (admission_after is_open now (asked method target body) admission) admission admission'
-        → Leads is_clean stands (λ signatory before after. BeginsAt is_open signs now admission signatory before method target body begun after) s t
+        → Leads is_clean stands (λ signers before after. BeginsAt is_open signs now admission signers before method target body begun after) s t
         → Leads is_clean stands (Answer made) s t
     asked_answers method target body route (Ok (Ready answered)) (Ready exchange) holds tells counted moved =
         follows is_clean stands _ _
-        (λ signatory before after said. (inl (asked method target body, answer_effects answered, holds, said.0, tells.1, counted), said.1)) s t moved
+        (λ signers before after said. (inl (asked method target body, answer_effects answered, holds, said.0, tells.1, counted), said.1)) s t moved
     asked_answers method target body route (Ok (Ready answered)) (Unsigned left) holds tells counted moved = absurd tells
     asked_answers method target body route (Ok (Unsigned draft)) (Ready exchange) holds tells counted moved = absurd tells
     asked_answers method target body route (Ok (Unsigned draft)) (Unsigned left) holds tells counted moved =
         follows is_clean stands _ _
-        (λ signatory before after (to, (request, asks_it, drafted)).
-        let P : Drafted → Type 0 = λ it. Drafts signatory before now request it after in (
-          (λ text finished. left_exchange signs signer_answered answer_in_form_signs now signatory before after admission admission' is_open line_outcome method target body request text left.draft holds to asks_it
+        (λ signers before after (to, (request, asks_it, drafted)).
+        let P : Drafted → Type 0 = λ it. Drafts signers before now request it after in (
+          (λ text finished. left_exchange signs signer_answered answer_in_form_signs now signers before after admission admission' is_open line_outcome method target body request text left.draft holds to asks_it
               (subst P (sym tells.1) drafted) finished counted),
           nothing_added now before after drafted.1,
         ))
         s t moved
     asked_answers method target body route (Err memory) (Ready exchange) holds tells counted moved =
         follows is_clean stands _ _
-        (λ signatory before after same.
+        (λ signers before after same.
         (inr (tells.2, inr tells.1, same, may_count is_open now line_outcome method target body admission admission' holds counted), nothing_added now before after same))
         s t moved
     asked_answers method target body route (Err memory) (Unsigned left) holds tells counted moved = absurd tells
@@ -109,25 +109,25 @@ module _ {S : Type 0} (is_clean : S → Type 0) (stands : Signatory → S → Re
         → admission' ≡ admission → t ≡ s → Leads is_clean stands (Answer made) s t
     refused_answers status route (Ok answered) (Ready exchange) holds is tells uncounted same =
         follows is_clean stands _ _
-        (λ signatory before after stayed. (inl (refused status, answer_effects answered, holds, (is, stayed), tells.1, uncounted), nothing_added now before after stayed)) s t
+        (λ signers before after stayed. (inl (refused status, answer_effects answered, holds, (is, stayed), tells.1, uncounted), nothing_added now before after stayed)) s t
         (stays is_clean stands s t same)
     refused_answers status route (Ok answered) (Unsigned left) holds is tells uncounted same = absurd tells
     refused_answers status route (Err memory) (Ready exchange) holds is tells uncounted same =
         follows is_clean stands _ _
-        (λ signatory before after stayed. (inr (tells.2, inr tells.1, stayed, inl uncounted), nothing_added now before after stayed)) s t (stays is_clean stands s t same)
+        (λ signers before after stayed. (inr (tells.2, inr tells.1, stayed, inl uncounted), nothing_added now before after stayed)) s t (stays is_clean stands s t same)
     refused_answers status route (Err memory) (Unsigned left) holds is tells uncounted same = absurd tells
 
     -- what was begun and counted meets what is wanted of its text
     pub answers_meet : (clock : ℕ → Type 0) (begun : ReadyOrUnsigned Exchange UnsignedResponse) (outcome : Outcome UnsignedOf) (before_it behind : Tally)
         → clock now → CountsBegun now line_outcome begun outcome before_it behind → Leads is_clean stands (Answer begun) s t
         → Leads is_clean stands
-        (λ signatory before after. Meets (FinishesUnsigned signer_answered) (λ text. AnswersBy is_open signs clock admission admission' signatory before line_outcome text after) outcome) s t
+        (λ signers before after. Meets (FinishesUnsigned signer_answered) (λ text. AnswersBy is_open signs clock admission admission' signers before line_outcome text after) outcome) s t
     answers_meet clock (Ready exchange) (said text) first last at is moved =
         follows is_clean stands _ _
-        (λ signatory before after made. (now, at, record { exchange = exchange; is_exchange = made.0; text_is = is.0; adds = made.1 })) s t moved
+        (λ signers before after made. (now, at, record { exchange = exchange; is_exchange = made.0; text_is = is.0; adds = made.1 })) s t moved
     answers_meet clock (Unsigned left) (pending unsigned) first last at is moved =
         follows is_clean stands _ _
-        (λ signatory before after made text finished.
+        (λ signers before after made text finished.
         let P : Drafted → ℕ → Type 0 = λ it moment. FinishesAt signer_answered it moment text in
         (now, at, made.0 text (subst (λ it. P it now) is.0 (subst (P unsigned.draft) is.1 finished))))
         s t moved

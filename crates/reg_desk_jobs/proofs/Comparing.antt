@@ -21,7 +21,7 @@ use Rattle.reg_desk_cli.specs.declared.failure.Failure.TheVariants as failure
 use Rattle.reg_desk_jobs.specs.Conversations.{IsInput}
 use Rattle.reg_desk_jobs.specs.Ends.{PrintsText}
 use Rattle.reg_office_api.specs.Leads.{Leads, Looks}
-use Rattle.reg_office_api.specs.Signatories.{Signatory}
+use Rattle.reg_office_api.specs.Signers.{OfficeSigners}
 use Rattle.reg_office_api.proofs.PublicLaws.{chains, follows, stays}
 use Rattle.reg_desk_jobs.proofs.Looks.{looks_as, looks_then}
 use Rattle.reg_desk_jobs.specs.Published.{Compares, FindsMissing, HasAll, ReportsMissing, latest_number, missing_at, missing_crl, missing_revocation}
@@ -75,7 +75,7 @@ one_more records moment serial old lines more done so_far grown =
     ∙ ap (λ l. old ++ (flat_map line done ++ l)) (sym (append-nil (line serial)))
     ∙ ap (λ l. old ++ l) (sym (flat_append line done (serial ∷ [])))
 
-module _ {S : Type 0} (is_clean : S → Type 0) (stands : Signatory → S → Records → Type 0) (moment : ℕ) (old : List ℕ) where
+module _ {S : Type 0} (is_clean : S → Type 0) (stands : OfficeSigners → S → Records → Type 0) (moment : ℕ) (old : List ℕ) where
   -- a line by whether it is revoked, as it was looked up
   pub looked_up : (s t : S) (new : List ℕ) (serial : ℕ) (is : Bool) (result : Result (Unit {0}) Fault)
       → Looks is_clean stands (λ records. is ≡ is_revoked (status records serial moment)) s t → OnOk result (new ≡ old ++ missing_revocation is serial)
@@ -169,7 +169,7 @@ has_all records input out out' (Ok (first ∷ rest), found, inl told) = let same
 has_all records input out out' (Ok (first ∷ rest), found, inr told) = let same : Ok tt ≡ Err (failure.Fault fault.Write) = told.0 in absurd cc
 has_all records input out out' (Err why, found, told) = let same : Ok tt ≡ Err why = told.0 in absurd cc
 
-module _ {S : Type 0} (is_clean : S → Type 0) (stands : Signatory → S → Records → Type 0) where
+module _ {S : Type 0} (is_clean : S → Type 0) (stands : OfficeSigners → S → Records → Type 0) where
   -- a look that tells nothing
   pub unlooked : (s t : S) → t ≡ s → Looks is_clean stands (λ records. Unit {0}) s t
   unlooked s t same =
@@ -192,7 +192,7 @@ module _ {S : Type 0} (is_clean : S → Type 0) (stands : Signatory → S → Re
       (λ records it. (found, (bytes, is, it), tells)) s t
 
   -- what a register that has all of a CRL does then
-  pub has_all_then : (input out out' : Option (List ℕ)) (is : Bool) (step : Signatory → Records → Records → Type 0) (s m t : S)
+  pub has_all_then : (input out out' : Option (List ℕ)) (is : Bool) (step : OfficeSigners → Records → Records → Type 0) (s m t : S)
       → Looks is_clean stands (λ records. Compares records input out out' (Ok tt)) s m → Leads is_clean stands step m t
       → Leads is_clean stands (λ identity before after. (IsTrue is → HasAll before input) × step identity before after) s t
   has_all_then input out out' is step s m t one two =
@@ -207,7 +207,7 @@ module _ {S : Type 0} (is_clean : S → Type 0) (stands : Signatory → S → Re
       (λ identity before after. Compares before input out out' (Ok tt) × (after ≡ before)) step s m t one two)
 
   -- what a register does that is compared with none
-  pub uncompared : (input : Option (List ℕ)) (is : Bool) (step : Signatory → Records → Records → Type 0) (s t : S) → IsFalse is
+  pub uncompared : (input : Option (List ℕ)) (is : Bool) (step : OfficeSigners → Records → Records → Type 0) (s t : S) → IsFalse is
       → Leads is_clean stands step s t → Leads is_clean stands (λ identity before after. (IsTrue is → HasAll before input) × step identity before after) s t
   uncompared input is step s t not =
       follows is_clean stands step (λ identity before after. (IsTrue is → HasAll before input) × step identity before after)

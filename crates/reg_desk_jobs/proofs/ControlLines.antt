@@ -8,16 +8,16 @@ use Rattle.reg_core_lists.specs.Texts.{object_text, row_text}
 use Rattle.reg_core_lists.specs.declared.rows.Row.{Row}
 use Rattle.reg_core_lists.specs.declared.texts.Format.TheVariants.{Json}
 use Rattle.reg_office_api.specs.Leads.{Leads}
-use Rattle.reg_office_api.specs.Signatories.{Signatory}
+use Rattle.reg_office_api.specs.Signers.{OfficeSigners}
 use Rattle.reg_office_api.specs.CallSteps.{Signs}
 use Rattle.reg_office_api.proofs.PublicLaws.{follows, stays}
-use Rattle.reg_lines.specs.Script.{IsShortCommand, line_of}
+use Rattle.reg_lines.specs.Script.{IsShortUntimedLine, line_of}
 use Rattle.reg_desk_cli.specs.ExitStatus.{failure_line}
 use Rattle.reg_desk_cli.specs.declared.failure.Failure.TheVariants as failure
 use Rattle.reg_desk_jobs.specs.ControlReplies.{IsReplyWith, IsReplyText, ReportsLineOutcome}
 use Rattle.reg_desk_jobs.specs.Copies.{AnswersCopy, copied_text}
 use Rattle.reg_desk_jobs.specs.Reasons.{kept_reason_text}
-use Rattle.reg_desk_jobs.specs.ControlWords.{LineAt, WordMeaning, AnswersWord, WordAt, commands, copies, helps, meaning_in}
+use Rattle.reg_desk_jobs.specs.ControlWords.{LineAt, WordMeaning, AnswersWord, AnswersLineAt, commands, copies, helps, meaning_in}
 use Rattle.reg_desk_jobs.specs.RowLookUps.{help_text}
 use Rattle.reg_desk_jobs.specs.declared.control_reply.LineOutcome.{LineOutcome}
 use Rattle.reg_desk_jobs.specs.declared.control_reply.LineOutcome.TheVariants.{Done, Failed}
@@ -64,24 +64,24 @@ row_accepted row = later_accepted (row_text Json row) (lit< tt)
 -- ---- lines
 
 -- a line that says a word, which is told
-pub told_word : {S : Type 0} (is_clean : S → Type 0) (stands : Signatory → S → Records → Type 0) (accepted : Option ℕ) (signs : Signs) (now : ℕ) (s t : S)
+pub told_word : {S : Type 0} (is_clean : S → Type 0) (stands : OfficeSigners → S → Records → Type 0) (accepted : Option ℕ) (signs : Signs) (now : ℕ) (s t : S)
     (line text : List ℕ) (word : WordMeaning) → meaning_in line ≡ word
     → Leads is_clean stands (λ identity before after. AnswersWord accepted signs now identity before line word text after) s t
-    → Leads is_clean stands (λ identity before after. WordAt accepted signs now identity before line text after) s t
+    → Leads is_clean stands (λ identity before after. AnswersLineAt accepted signs now identity before line text after) s t
 told_word is_clean stands accepted signs now s t line text word is told =
     follows is_clean stands
     (λ identity before after. AnswersWord accepted signs now identity before line word text after)
-    (λ identity before after. WordAt accepted signs now identity before line text after)
+    (λ identity before after. AnswersLineAt accepted signs now identity before line text after)
     (λ identity before after made. inl (subst (λ w. AnswersWord accepted signs now identity before line w text after) (sym is) made))
     s
     t
     told
 
 -- a command line, without its end
-pub entered : {S : Type 0} (is_clean : S → Type 0) (stands : Signatory → S → Records → Type 0) (accepted : Option ℕ) (signs : Signs) (now : ℕ) (s t : S)
-    (line text command : List ℕ) → meaning_in line ≡ commands → command ≡ line_of line → IsShortCommand line
+pub entered : {S : Type 0} (is_clean : S → Type 0) (stands : OfficeSigners → S → Records → Type 0) (accepted : Option ℕ) (signs : Signs) (now : ℕ) (s t : S)
+    (line text command : List ℕ) → meaning_in line ≡ commands → command ≡ line_of line → IsShortUntimedLine line
     → Leads is_clean stands (λ identity before after. LineAt accepted signs now identity before command text after) s t
-    → Leads is_clean stands (λ identity before after. WordAt accepted signs now identity before line text after) s t
+    → Leads is_clean stands (λ identity before after. AnswersLineAt accepted signs now identity before line text after) s t
 entered is_clean stands accepted signs now s t line text command is same short ran =
     told_word is_clean stands accepted signs now s t line text commands is
     (follows is_clean stands
@@ -93,9 +93,9 @@ entered is_clean stands accepted signs now s t line text command is same short r
     ran)
 
 -- a line that asks for a copy
-pub copied : {S : Type 0} (is_clean : S → Type 0) (stands : Signatory → S → Records → Type 0) (accepted : Option ℕ) (signs : Signs) (now : ℕ) (s t : S) (line text : List ℕ)
+pub copied : {S : Type 0} (is_clean : S → Type 0) (stands : OfficeSigners → S → Records → Type 0) (accepted : Option ℕ) (signs : Signs) (now : ℕ) (s t : S) (line text : List ℕ)
     → meaning_in line ≡ copies → t ≡ s → AnswersCopy (λ bytes. Unit {0}) text
-    → Leads is_clean stands (λ identity before after. WordAt accepted signs now identity before line text after) s t
+    → Leads is_clean stands (λ identity before after. AnswersLineAt accepted signs now identity before line text after) s t
 copied is_clean stands accepted signs now s t line text is same told =
     told_word is_clean stands accepted signs now s t line text copies is
     (follows is_clean stands
@@ -107,9 +107,9 @@ copied is_clean stands accepted signs now s t line text is same told =
     (stays is_clean stands s t same))
 
 -- a line that asks for the words
-pub helped : {S : Type 0} (is_clean : S → Type 0) (stands : Signatory → S → Records → Type 0) (accepted : Option ℕ) (signs : Signs) (now : ℕ) (s t : S) (line text : List ℕ)
+pub helped : {S : Type 0} (is_clean : S → Type 0) (stands : OfficeSigners → S → Records → Type 0) (accepted : Option ℕ) (signs : Signs) (now : ℕ) (s t : S) (line text : List ℕ)
     → meaning_in line ≡ helps → t ≡ s → IsReplyText (help_text ++ 10 ∷ []) text
-    → Leads is_clean stands (λ identity before after. WordAt accepted signs now identity before line text after) s t
+    → Leads is_clean stands (λ identity before after. AnswersLineAt accepted signs now identity before line text after) s t
 helped is_clean stands accepted signs now s t line text is same told =
     told_word is_clean stands accepted signs now s t line text helps is
     (follows is_clean stands

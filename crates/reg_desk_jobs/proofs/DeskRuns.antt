@@ -2,17 +2,17 @@
 use Rattle.std.proofs.Common.{◌≡◌, ℕ, Bool, List, [], ◌∷◌, Option, IsTrue, refl, subst, sym, ◌∙◌}
 use Rattle.reg_office_api.specs.CallSteps.{Signs}
 use Rattle.reg_office_api.specs.Leads.{Leads}
-use Rattle.reg_office_api.specs.Signatories.{Signatory}
+use Rattle.reg_office_api.specs.Signers.{OfficeSigners}
 use Rattle.reg_office_api.proofs.PublicLaws.{runs}
 use Rattle.reg_core.specs.Records.{Records}
 use Rattle.reg_desk_server.specs.Exchange.{Input, request, line, Outcome, said, pending, later, Handles}
 use Rattle.reg_io.specs.RunsOfAnswers.{Answered}
-use Rattle.reg_desk_jobs.specs.ControlWords.{IsAdmissionAfter, Word}
+use Rattle.reg_desk_jobs.specs.ControlWords.{IsAdmissionAfter, AnswersLineByClock}
 use Rattle.reg_desk_jobs.specs.Admission.{first_admission}
 use Rattle.reg_desk_jobs.specs.Exchanges.{AnswersBy}
 use Rattle.reg_desk_jobs.specs.SignerAnswers.{AnsweredAtPath, AnsweredAtSomePath}
 use Rattle.reg_desk_jobs.specs.FinishedResponses.{FinishesUnsigned, Meets}
-use Rattle.reg_desk_jobs.specs.Serving.{DeskState, Exchanging, Serves, OpenWord, Unmoved}
+use Rattle.reg_desk_jobs.specs.Serving.{DeskState, Exchanging, Serves, AnswersControlLine, StateStays}
 use Rattle.reg_desk_jobs.specs.declared.admission.Admission.{Admission}
 use Rattle.reg_desk_jobs.specs.declared.unsigned_responses.Unsigned.{Unsigned}
 use Rattle.reg_desk_jobs.proofs.Finishing.{told_moves}
@@ -29,69 +29,69 @@ kept_runs answers other Keeps each s t (q ∷ asked) (a ∷ given) keeps run =
     (run.0, step, kept_runs answers other Keeps each run.0 t asked given kept run.2)
 
 -- A desk, whether it is open, its limits, and the records that stand in it; who signs, and what the clock told.
-module _ {S : Type 0} (is_clean : S → Type 0) (stands : Signatory → S → Records → Type 0) (is_open : S → Bool) (admission_of : S → Admission)
+module _ {S : Type 0} (is_clean : S → Type 0) (stands : OfficeSigners → S → Records → Type 0) (is_open : S → Bool) (admission_of : S → Admission)
     (signs : Signs) (signer_answered : List ℕ → List ℕ → List ℕ → Type 0) (socket : Option (List ℕ)) (told : ℕ → Type 0) where
   -- what it answers, tells and looks at
   abbrev AnswersOf : S → List ℕ → Outcome Unsigned → S → Type 0
   AnswersOf s came outcome t = (is_open t ≡ is_open s) × Leads is_clean stands
-      (λ signatory before after. Meets (FinishesUnsigned (AnsweredAtSomePath signer_answered))
-      (λ text. AnswersBy (is_open s) signs told (admission_of s) (admission_of t) signatory before came text after) outcome) s t
+      (λ signers before after. Meets (FinishesUnsigned (AnsweredAtSomePath signer_answered))
+      (λ text. AnswersBy (is_open s) signs told (admission_of s) (admission_of t) signers before came text after) outcome) s t
 
   abbrev TellsOf : S → List ℕ → List ℕ → S → Type 0
   TellsOf s came text t = IsTrue (is_open s) × IsTrue (is_open t) × IsAdmissionAfter came (admission_of s) (admission_of t)
-      × Leads is_clean stands (λ signatory before after. Word (admission_of s).accepted signs told signatory before came text after) s t
+      × Leads is_clean stands (λ signers before after. AnswersLineByClock (admission_of s).accepted signs told signers before came text after) s t
 
   abbrev DefersOf : S → List ℕ → S → Type 0
-  DefersOf s came t = (is_open t ≡ is_open s) × (admission_of t ≡ admission_of s) × Leads is_clean stands (λ signatory before after. after ≡ before) s t
+  DefersOf s came t = (is_open t ≡ is_open s) × (admission_of t ≡ admission_of s) × Leads is_clean stands (λ signers before after. after ≡ before) s t
 
   -- the records that stand in it, and its limits
-  abbrev Stands : Signatory → S → DeskState → Type 0
-  Stands signatory s state = stands signatory s state.0 × (state.1 ≡ admission_of s)
+  abbrev Stands : OfficeSigners → S → DeskState → Type 0
+  Stands signers s state = stands signers s state.0 × (state.1 ≡ admission_of s)
 
   -- the same over the records and limits of one that is open, or is not
-  abbrev Handled : Bool → Signatory → DeskState → Input → Outcome Unsigned → DeskState → Type 0
-  Handled now_open signatory = Handles (Exchanging now_open signs (AnsweredAtPath signer_answered socket) told signatory) (OpenWord now_open signs told signatory) Unmoved
+  abbrev Handled : Bool → OfficeSigners → DeskState → Input → Outcome Unsigned → DeskState → Type 0
+  Handled now_open signers = Handles (Exchanging now_open signs (AnsweredAtPath signer_answered socket) told signers) (AnswersControlLine now_open signs told signers) StateStays
 
   abbrev Moves : Bool → S → Input → Outcome Unsigned → S → Type 0
-  Moves now_open s input outcome t = Leads is_clean Stands (λ signatory before after. Handled now_open signatory before input outcome after) s t
+  Moves now_open s input outcome t = Leads is_clean Stands (λ signers before after. Handled now_open signers before input outcome after) s t
 
   -- a step of the records, as one of the records and limits
-  with_limits : (step : Signatory → Records → Records → Type 0) (other : Signatory → DeskState → DeskState → Type 0) (s t : S)
-      → ((signatory : Signatory) (before after : Records) → step signatory before after → other signatory (before, admission_of s) (after, admission_of t))
+  with_limits : (step : OfficeSigners → Records → Records → Type 0) (other : OfficeSigners → DeskState → DeskState → Type 0) (s t : S)
+      → ((signers : OfficeSigners) (before after : Records) → step signers before after → other signers (before, admission_of s) (after, admission_of t))
       → Leads is_clean stands step s t → Leads is_clean Stands other s t
   with_limits step other s t from moved = (
     moved.0,
-    (λ signatory before stood clean.
-        let (after, made, stands_now) = moved.1 signatory before.0 stood.0 clean in
-        let P : Admission → Type 0 = λ it. other signatory (before.0, it) (after, admission_of t) in
-        ((after, admission_of t), subst P (sym stood.1) (from signatory before.0 after made), (stands_now, refl))),
+    (λ signers before stood clean.
+        let (after, made, stands_now) = moved.1 signers before.0 stood.0 clean in
+        let P : Admission → Type 0 = λ it. other signers (before.0, it) (after, admission_of t) in
+        ((after, admission_of t), subst P (sym stood.1) (from signers before.0 after made), (stands_now, refl))),
   )
 
   step_moves : (now_open : Bool) (s : S) (input : Input) (outcome : Outcome Unsigned) (t : S) → is_open s ≡ now_open
       → Handles AnswersOf TellsOf DefersOf s input outcome t → Moves now_open s input outcome t × (is_open t ≡ now_open)
   step_moves now_open s (request came) outcome t is step =
       let P : Bool → Type 0 = λ b. Leads is_clean stands
-      (λ signatory before after. Meets (FinishesUnsigned (AnsweredAtSomePath signer_answered))
-      (λ text. AnswersBy b signs told (admission_of s) (admission_of t) signatory before came text after) outcome) s t in (
+      (λ signers before after. Meets (FinishesUnsigned (AnsweredAtSomePath signer_answered))
+      (λ text. AnswersBy b signs told (admission_of s) (admission_of t) signers before came text after) outcome) s t in (
         with_limits
-            (λ signatory before after. Meets (FinishesUnsigned (AnsweredAtPath signer_answered socket))
-            (λ text. AnswersBy now_open signs told (admission_of s) (admission_of t) signatory before came text after) outcome)
-            (λ signatory before after. Exchanging now_open signs (AnsweredAtPath signer_answered socket) told signatory before came outcome after)
-            s t (λ signatory before after answered. answered)
+            (λ signers before after. Meets (FinishesUnsigned (AnsweredAtPath signer_answered socket))
+            (λ text. AnswersBy now_open signs told (admission_of s) (admission_of t) signers before came text after) outcome)
+            (λ signers before after. Exchanging now_open signs (AnsweredAtPath signer_answered socket) told signers before came outcome after)
+            s t (λ signers before after answered. answered)
             (told_moves is_clean stands s t signer_answered socket
-            (λ signatory before after text. AnswersBy now_open signs told (admission_of s) (admission_of t) signatory before came text after) outcome (subst P is step.1)),
+            (λ signers before after text. AnswersBy now_open signs told (admission_of s) (admission_of t) signers before came text after) outcome (subst P is step.1)),
         step.0 ∙ is,
       )
   step_moves now_open s (line came) (said text) t is step = (
-    with_limits (λ signatory before after. Word (admission_of s).accepted signs told signatory before came text after)
-        (λ signatory before after. OpenWord now_open signs told signatory before came text after)
-        s t (λ signatory before after word. (sym is ∙ step.0, step.2, word)) step.3,
+    with_limits (λ signers before after. AnswersLineByClock (admission_of s).accepted signs told signers before came text after)
+        (λ signers before after. AnswersControlLine now_open signs told signers before came text after)
+        s t (λ signers before after word. (sym is ∙ step.0, step.2, word)) step.3,
     step.1 ∙ sym step.0 ∙ is,
   )
   step_moves now_open s (line came) (pending ticket) t is step = absurd step
   step_moves now_open s (line came) later t is step = (
-    with_limits (λ signatory before after. after ≡ before) (λ signatory before after. Unmoved before came after)
-        s t (λ signatory before after same. (same, step.1)) step.2,
+    with_limits (λ signers before after. after ≡ before) (λ signers before after. StateStays before came after)
+        s t (λ signers before after same. (same, step.1)) step.2,
     step.0 ∙ is,
   )
 
@@ -103,7 +103,7 @@ module _ {S : Type 0} (is_clean : S → Type 0) (stands : Signatory → S → Re
       let moved = runs is_clean Stands (Moves now_open) (Handled now_open) (λ s input outcome t moved. moved) s t inputs outcomes
       (kept_runs (Handles AnswersOf TellsOf DefersOf) (Moves now_open) (λ s. is_open s ≡ now_open) (step_moves now_open) s t inputs outcomes is ran) in (
         moved.0,
-        (λ signatory before stood clean.
-            let (after, made, stands_now) = moved.1 signatory (before, first_admission) (stood, sym starts) clean in
+        (λ signers before stood clean.
+            let (after, made, stands_now) = moved.1 signers (before, first_admission) (stood, sym starts) clean in
             (after.0, (after.1, made), stands_now.0)),
       )

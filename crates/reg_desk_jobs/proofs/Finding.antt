@@ -9,14 +9,14 @@ use Rattle.reg_core.specs.declared.refusal.Fault.{Fault}
 use Rattle.reg_core.specs.declared.refusal.Fault.TheVariants.{Refused, Memory, Store, Signer, Read, Write}
 use Rattle.reg_core.specs.declared.rows.RequestRow.{RequestRow}
 use Rattle.reg_core_lists.specs.Lists.{key_of, page, rows_from}
-use Rattle.reg_core_lists.specs.Pages.{IsPaged, IsPagedSoundly, Pages}
+use Rattle.reg_core_lists.specs.Pages.{IsPaged, IsPageOfSoundRows, Pages}
 use Rattle.reg_core_lists.specs.declared.cursor.Cursor.{Cursor}
 use Rattle.reg_core_lists.specs.declared.cursor.Cursor.TheVariants as cursor
 use Rattle.reg_core_lists.specs.declared.rows.Page.{Page}
 use Rattle.reg_core_lists.specs.declared.rows.Row.{Row}
 use Rattle.reg_core_lists.proofs.PublicLaws.{page_step, rest_of}
 use Rattle.reg_office_api.specs.Leads.{Leads}
-use Rattle.reg_office_api.specs.Signatories.{Signatory}
+use Rattle.reg_office_api.specs.Signers.{OfficeSigners}
 use Rattle.reg_office_api.proofs.PublicLaws.{chains, follows}
 use Rattle.reg_desk_jobs.specs.ControlReplies.{IsReplyText}
 use Rattle.reg_desk_jobs.specs.SerialDecisions.{request_of_row}
@@ -45,7 +45,7 @@ seen_equal : {A : Type 0} (records : Records) (now : ℕ) (known other : A) (res
 seen_equal records now known other (Ok found) same seen = (seen.0, (seen.1.0, seen.1.1 ∙ same seen.0))
 seen_equal records now known other (Err why) same seen = seen
 
-module _ {S : Type 0} (is_clean : S → Type 0) (stands : Signatory → S → Records → Type 0) (now : ℕ) where
+module _ {S : Type 0} (is_clean : S → Type 0) (stands : OfficeSigners → S → Records → Type 0) (now : ℕ) where
   abbrev Sees : {A : Type 0} → (Records → A) → Result A Fault → S → S → Type 0
   Sees known result = Leads is_clean stands (λ identity before after. IsSoundLookUp before now (known before) result × (after ≡ before))
 
@@ -131,7 +131,7 @@ module _ {S : Type 0} (is_clean : S → Type 0) (stands : Signatory → S → Re
       × (rows_from before now (cursor.Subscribers 0) ≡ passed ++ given.rows.items ++ rest_of before now given.next) × (after ≡ before))
       (λ identity before after made.
       let middle = made.0 in
-      let paged : IsPagedSoundly before now 250 from (Ok given) = subst (λ records. IsPagedSoundly records now 250 from (Ok given)) made.1.0 made.2.0 in
+      let paged : IsPageOfSoundRows before now 250 from (Ok given) = subst (λ records. IsPageOfSoundRows records now 250 from (Ok given)) made.1.0 made.2.0 in
       let is = paged.1.1 in (
         paged.0,
         paged.1.0,
@@ -187,7 +187,7 @@ module _ {S : Type 0} (is_clean : S → Type 0) (stands : Signatory → S → Re
       (λ identity before after. (middle : Records) × IsGoing now (cursor.Subscribers 0) passed (Some from) identity before middle × Pages middle now 250 from (Err why) after)
       (λ identity before after. IsSoundLookUp before now (known before) (Err why) × (after ≡ before))
       (λ identity before after made.
-      let paged : IsPagedSoundly before now 250 from (Err why) = subst (λ records. IsPagedSoundly records now 250 from (Err why)) made.1.0 made.2.0 in
+      let paged : IsPageOfSoundRows before now 250 from (Err why) = subst (λ records. IsPageOfSoundRows records now 250 from (Err why)) made.1.0 made.2.0 in
       ((tt, page_fails before now 250 from why paged.1), made.2.1 ∙ made.1.0))
       s
       u

@@ -7,7 +7,7 @@ use Rattle.reg_office_api.specs.Drafts.{Drafts, IsBy, IsDraft}
 use Rattle.reg_office_api.specs.Items.{items_of}
 use Rattle.reg_office_api.specs.Leads.{Leads}
 use Rattle.reg_office_api.specs.Responses.{IsOcspResponse, Replies}
-use Rattle.reg_office_api.specs.Signatories.{Responder, Signatory}
+use Rattle.reg_office_api.specs.Signers.{Responder, OfficeSigners}
 use Rattle.reg_office_api.specs.CallSteps.{Signs, Runs, Asks, GivesCrl}
 use Rattle.reg_office_api.specs.declared.response.ResponseKind.{ResponseKind}
 use Rattle.reg_office_api.specs.declared.response.ResponseKind.TheVariants.{Signed, SignerFailure}
@@ -62,19 +62,19 @@ module _ (signs : Signs) (signer_answered : List ℕ → List ℕ → Type 0)
   response_of responder records now request draft None left given = unsigned_response signs responder records now request draft left
 
   -- The moment, who signs, and the records where it was begun.
-  module _ (now : ℕ) (signatory : Signatory) (before after : Records) where
+  module _ (now : ℕ) (signers : OfficeSigners) (before after : Records) where
     -- what finishes it, with its kind
     abbrev kinded : Option (List ℕ) → Result (List ℕ) NoMemory → Result (ResponseKind × List ℕ) NoMemory
     kinded signature (Ok bytes) = Ok (kind_of signature, bytes)
     kinded signature (Err memory) = Err memory
 
     replies_of : (request : List ℕ) (draft : Drafted) (signature : Option (List ℕ)) (given : Result (List ℕ) NoMemory)
-        → Drafts signatory before now request draft after → IsSignatureOf signer_answered draft signature
+        → Drafts signers before now request draft after → IsSignatureOf signer_answered draft signature
         → (IfOk given (λ bytes. bytes ≡ drafted_response draft signature))
-        → Replies signs signatory before now request (kinded signature given) after
+        → Replies signs signers before now request (kinded signature given) after
     replies_of request draft signature (Ok bytes) (left, same) signed made =
-        let P : List ℕ → Type 0 = λ it. IsOcspResponse signs signatory.answers before now request (kind_of signature) it in
-        (subst P (sym made) (response_of signatory.answers before now request draft signature left signed), same)
+        let P : List ℕ → Type 0 = λ it. IsOcspResponse signs signers.answers before now request (kind_of signature) it in
+        (subst P (sym made) (response_of signers.answers before now request draft signature left signed), same)
     replies_of request draft signature (Err memory) (left, same) signed made = same
 
     told_of : (signature : Option (List ℕ)) (given : Result (List ℕ) NoMemory) (exchange : Exchange) → AnswersText now (ocsp_reply given) exchange
@@ -84,8 +84,8 @@ module _ (signs : Signs) (signer_answered : List ℕ → List ℕ → Type 0)
 
     -- what the register says to an OCSP request is said at a desk, also behind its limits
     says_left : (admission : Admission) (by : Dispatch) (method target body request : List ℕ) (it : AnswerEffects) → MayNeedSignature by → asks_for method target body ≡ ocsp_of request
-        → Answers (Runs signs signatory) Asks (Replies signs signatory) GivesCrl now before (asks_for method target body) it after
-        → AnswersAtRoute signs now admission signatory before it after by method target body
+        → Answers (Runs signs signers) Asks (Replies signs signers) GivesCrl now before (asks_for method target body) it after
+        → AnswersAtRoute signs now admission signers before it after by method target body
     says_left admission ToRegister method target body request it to asks_it answers = answers
     says_left admission ToLimits method target body request it to asks_it answers =
         let P : RoutedRequest → Type 0 = λ what. IsWithin admission before now (requested_serial what) in
@@ -97,13 +97,13 @@ module _ (signs : Signs) (signer_answered : List ℕ → List ℕ → Type 0)
     -- the exchange of the register
     pub left_exchange : (admission admission' : Admission) (is_open : Bool) (line_outcome method target body request text : List ℕ) (draft : Drafted)
         → ∥ HoldsRequest line_outcome (asked method target body) ∥₁ → MayNeedSignature (dispatch is_open (route_at (path_of target)))
-        → asks_for method target body ≡ ocsp_of request → Drafts signatory before now request draft after
+        → asks_for method target body ≡ ocsp_of request → Drafts signers before now request draft after
         → FinishesAt signer_answered draft now text → admission' ≡ admission_after is_open now (asked method target body) admission
-        → AnswersAt is_open signs now admission admission' signatory before line_outcome text after
+        → AnswersAt is_open signs now admission admission' signers before line_outcome text after
     left_exchange admission admission' is_open line_outcome method target body request text draft holds to asks_it drafted it counted =
         let given = kinded it.signature it.finished.given in
         let replies = replies_of request draft it.signature it.finished.given drafted it.signed it.finished.made in
-        let P : RoutedRequest → Type 0 = λ what. Answers (Runs signs signatory) Asks (Replies signs signatory) GivesCrl now before what (ocsp_effects given) after in
+        let P : RoutedRequest → Type 0 = λ what. Answers (Runs signs signers) Asks (Replies signs signers) GivesCrl now before what (ocsp_effects given) after in
         record {
           exchange = record {
             route = it.exchange.route;
@@ -163,9 +163,9 @@ module _ (signer_answered : List ℕ → List ℕ → List ℕ → Type 0) (told
   meets_told wanted later met = met
 
 -- What stands in an office before and after.
-module _ {S : Type 0} (is_clean : S → Type 0) (stands : Signatory → S → Records → Type 0) (s t : S) where
+module _ {S : Type 0} (is_clean : S → Type 0) (stands : OfficeSigners → S → Records → Type 0) (s t : S) where
   -- where what finishes an answer has its signature from some path, so where it is the one that was told
-  pub told_moves : (signer_answered : List ℕ → List ℕ → List ℕ → Type 0) (told : Option (List ℕ)) (wanted : Signatory → Records → Records → List ℕ → Type 0)
+  pub told_moves : (signer_answered : List ℕ → List ℕ → List ℕ → Type 0) (told : Option (List ℕ)) (wanted : OfficeSigners → Records → Records → List ℕ → Type 0)
       (outcome : Outcome Unsigned)
       → Leads is_clean stands (λ identity before after. Meets (FinishesUnsigned (AnsweredAtSomePath signer_answered)) (λ text. wanted identity before after text) outcome) s t
       → Leads is_clean stands (λ identity before after. Meets (FinishesUnsigned (AnsweredAtPath signer_answered told)) (λ text. wanted identity before after text) outcome) s t

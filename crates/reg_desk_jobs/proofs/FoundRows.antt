@@ -14,7 +14,7 @@ use Rattle.reg_core.specs.declared.rows.SubscriberRow.{SubscriberRow}
 use Rattle.reg_core_lists.specs.Lists.{listed_certificate, certificate_row, history_row, in_order, key_of, page, past, insert_by_key, listed_request, rows_from, subscriber_of_order, subscriber_row}
 use Rattle.reg_core_lists.specs.declared.cursor.Cursor.TheVariants as cursor
 use Rattle.reg_core_lists.specs.declared.rows.ListedCertificate.{ListedCertificate}
-use Rattle.reg_core_lists.specs.declared.rows.RequestHistory.{RequestHistory}
+use Rattle.reg_core_lists.specs.declared.rows.RequestWithState.{RequestWithState}
 use Rattle.reg_core_lists.specs.declared.rows.ListedRequest.{ListedRequest}
 use Rattle.reg_core_lists.specs.declared.rows.Row.{Row}
 use Rattle.reg_core_lists.specs.declared.rows.Row.TheVariants as kind
@@ -124,7 +124,7 @@ owned_line c (Some s) make has_it line is =
     sym (ap (λ (it : ListedCertificate). it.certificate) same) ∙ has_it s
 
 module _ (records : Records) (now : ℕ) where
-  history_fits : (id : ℕ) (r : RequestRow) (line : Option ListedRequest) (make : ListedRequest → RequestHistory) → ((it : ListedRequest) → (make it).request ≡ it)
+  history_fits : (id : ℕ) (r : RequestRow) (line : Option ListedRequest) (make : ListedRequest → RequestWithState) → ((it : ListedRequest) → (make it).request ≡ it)
       → ((it : ListedRequest) → line ≡ Some it → it.request ≡ r) → (row : Row)
       → option_map (λ h. kind.History h) (option_map make line) ≡ Some row → has_key (Request id) row ≡ (r.id == id)
   history_fits id r None make has_it is row made = absurd (cc)
@@ -197,7 +197,7 @@ module _ (records : Records) (now : ℕ) (sound : SoundRows records) where
       let owned : option_map (line_with r c.0) (subscriber_of_order records c.0.order) ≡ Some (line_with r c.0 s.0) = ap (option_map (line_with r c.0)) owner in
       (line_with r c.0 s.0, held ∙ owned)
 
-  of_line : (r : RequestRow) (line : Option ListedRequest) (make : ListedRequest → RequestHistory) → ((it : ListedRequest) → (make it).request ≡ it)
+  of_line : (r : RequestRow) (line : Option ListedRequest) (make : ListedRequest → RequestWithState) → ((it : ListedRequest) → (make it).request ≡ it)
       → (it : ListedRequest) → line ≡ Some it → it.request ≡ r → request_of_row (option_map (λ h. kind.History h) (option_map make line)) ≡ Some r
   of_line r None make has_it it is same = absurd (cc)
   of_line r (Some line) make has_it it is same =

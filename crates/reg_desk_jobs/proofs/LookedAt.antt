@@ -5,7 +5,7 @@ use Rattle.reg_core.specs.Records.{Records}
 use Rattle.reg_core.specs.declared.memory.Memory.{Memory as NoMemory}
 use Rattle.reg_office_api.specs.Drafts.{Begins, Drafts}
 use Rattle.reg_office_api.specs.Leads.{Leads}
-use Rattle.reg_office_api.specs.Signatories.{Signatory}
+use Rattle.reg_office_api.specs.Signers.{OfficeSigners}
 use Rattle.reg_office_api.specs.CallSteps.{Signs}
 use Rattle.reg_office_api.specs.Responses.{Replies}
 use Rattle.reg_office_api.specs.declared.response.OcspResponse.{OcspResponse}
@@ -40,8 +40,8 @@ module _ {S I R : Type 0} (is_clean : S → Type 0) (stands : I → S → R → 
   )
 
 -- what begins an OCSP answer changes no record
-pub begun_still : (signs : Signs) (signatory : Signatory) (before : Records) (now : ℕ) (request : List ℕ) (result : Result (ReadyOrUnsigned OcspResponse Drafted) NoMemory)
-    (after : Records) → Begins (Replies signs signatory) (Drafts signatory) before now request result after → after ≡ before
-begun_still signs signatory before now request (Ok (Ready response)) after begun = begun.1
-begun_still signs signatory before now request (Ok (Unsigned draft)) after begun = begun.1
-begun_still signs signatory before now request (Err memory) after begun = begun
+pub begun_still : (signs : Signs) (signers : OfficeSigners) (before : Records) (now : ℕ) (request : List ℕ) (result : Result (ReadyOrUnsigned OcspResponse Drafted) NoMemory)
+    (after : Records) → Begins (Replies signs signers) (Drafts signers) before now request result after → after ≡ before
+begun_still signs signers before now request (Ok (Ready response)) after begun = begun.1
+begun_still signs signers before now request (Ok (Unsigned draft)) after begun = begun.1
+begun_still signs signers before now request (Err memory) after begun = begun

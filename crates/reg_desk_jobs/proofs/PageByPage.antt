@@ -5,11 +5,11 @@ use Rattle.std.proofs.lemmas.List.Elements.{filter-append}
 use Rattle.reg_core.specs.Checks.{clock_checks, first_refusal}
 use Rattle.reg_core.specs.Records.{Records}
 use Rattle.reg_office_api.specs.Leads.{Leads}
-use Rattle.reg_office_api.specs.Signatories.{Signatory}
+use Rattle.reg_office_api.specs.Signers.{OfficeSigners}
 use Rattle.reg_office_api.proofs.PublicLaws.{chains, follows, stays}
 use Rattle.reg_core_lists.specs.Filters.{keeps}
 use Rattle.reg_core_lists.specs.Lists.{rows_from}
-use Rattle.reg_core_lists.specs.Pages.{IsPagedSoundly, Pages}
+use Rattle.reg_core_lists.specs.Pages.{IsPageOfSoundRows, Pages}
 use Rattle.reg_core_lists.specs.Texts.{opening_text, row_text}
 use Rattle.reg_core_lists.specs.declared.cursor.Cursor.{Cursor}
 use Rattle.reg_core_lists.specs.declared.filter.Filter.{Filter}
@@ -19,7 +19,7 @@ use Rattle.reg_core_lists.specs.declared.texts.Format.{Format}
 use Rattle.reg_core_lists.proofs.PublicLaws.{page_step, rest_of}
 
 -- so much of a list was given: the rows of its pages so far, and where the next one goes on
-abbrev pub IsGoing : ℕ → Cursor → List Row → Option Cursor → Signatory → Records → Records → Type 0
+abbrev pub IsGoing : ℕ → Cursor → List Row → Option Cursor → OfficeSigners → Records → Records → Type 0
 IsGoing now from done next identity before after =
     (after ≡ before) × (rows_from before now from ≡ done ++ rest_of before now next) × (next ≡ None → first_refusal (clock_checks now before.last) ≡ None)
 
@@ -45,7 +45,7 @@ pub text_begun : (form : Format) (wanted : Filter) (from : Cursor) (text : List 
 text_begun form wanted from text is = is ∙ sym (append-nil (opening_text form from))
 
 -- What stands in a register before and after.
-module _ {S : Type 0} (is_clean : S → Type 0) (stands : Signatory → S → Records → Type 0) (now m : ℕ) (from : Cursor) where
+module _ {S : Type 0} (is_clean : S → Type 0) (stands : OfficeSigners → S → Records → Type 0) (now m : ℕ) (from : Cursor) where
   -- nothing yet
   pub begun : (s : S) → Leads is_clean stands (IsGoing now from [] (Some from)) s s
   begun s =
@@ -62,7 +62,7 @@ module _ {S : Type 0} (is_clean : S → Type 0) (stands : Signatory → S → Re
       (IsGoing now from (done ++ given.rows.items) given.next)
       (λ identity before after made.
       let middle = made.0 in
-      let paged : IsPagedSoundly before now (suc m) at (Ok given) = subst (λ records. IsPagedSoundly records now (suc m) at (Ok given)) made.1.0 made.2.0 in
+      let paged : IsPageOfSoundRows before now (suc m) at (Ok given) = subst (λ records. IsPageOfSoundRows records now (suc m) at (Ok given)) made.1.0 made.2.0 in
       let is = paged.1.1 in (
         made.2.1 ∙ made.1.0,
         made.1.1 ∙ ap (λ l. done ++ l) (page_step before now m paged.0 at ∙ (λ i. sym is.rows i ++ rest_of before now (sym is.next i)))

@@ -3,7 +3,7 @@ use Rattle.std.proofs.Common.{◌≡◌, ℕ, List, Result, Err, inl, inr, refl,
 use Rattle.reg_core.specs.Records.{Records}
 use Rattle.reg_core.specs.Schedule.{IsSchedule}
 use Rattle.reg_office_api.specs.Leads.{Leads}
-use Rattle.reg_office_api.specs.Signatories.{Signatory}
+use Rattle.reg_office_api.specs.Signers.{OfficeSigners}
 use Rattle.reg_desk_cli.specs.Checks.{IsNoSchedule}
 use Rattle.reg_desk_cli.specs.declared.failure.Failure.{Failure}
 use Rattle.reg_office_api.proofs.PublicLaws.{follows, stays}
@@ -12,7 +12,7 @@ use Rattle.reg_desk_jobs.specs.Schedules.{SetsSteps}
 use Rattle.reg_desk_jobs.specs.RegisterUses.{exit_of}
 use Rattle.reg_office_api.specs.Settings.{ReplacesSchedule}
 
-module _ {S : Type 0} (is_clean : S → Type 0) (stands : Signatory → S → Records → Type 0) (s t : S) (steps : List (ℕ × ℕ)) where
+module _ {S : Type 0} (is_clean : S → Type 0) (stands : OfficeSigners → S → Records → Type 0) (s t : S) (steps : List (ℕ × ℕ)) where
   -- the steps are no schedule
   pub none_set : (why : Failure) → IsNoSchedule steps why → t ≡ s
       → Leads is_clean stands (λ identity before after. SetsSteps steps (Err why) before after) s t

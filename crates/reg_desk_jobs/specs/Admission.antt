@@ -8,7 +8,7 @@ use Rattle.reg_office_api.specs.CallSteps.{Signs, Runs, Asks, GivesCrl}
 use Rattle.reg_office_api.specs.Drafts.{Drafts}
 use Rattle.reg_office_api.specs.LookUps.{IsOfStore, request_load_in}
 use Rattle.reg_office_api.specs.Responses.{Replies}
-use Rattle.reg_office_api.specs.Signatories.{Signatory}
+use Rattle.reg_office_api.specs.Signers.{OfficeSigners}
 use Rattle.reg_office_api.specs.declared.register_summary.RequestLoad.{RequestLoad}
 use Rattle.reg_http.specs.Added.{AddsARequestAtMost}
 use Rattle.reg_http.specs.Answers.{Answers, BeginsTo}
@@ -25,11 +25,11 @@ use Rattle.reg_desk_jobs.specs.declared.admission.RecentRequests.{RecentRequests
 
 -- ---- a hundred requests a minute
 
--- the admission of a desk that was just opened: no request is counted, and no clock is accepted
+-- the admission of a desk that was just opened: no request is counted, and the operator has accepted no moment
 abbrev pub first_admission : Admission
 first_admission = record { recent = record { moments = replicate 100 None; next = 0 }; accepted = None }
 
--- there is a moment, and it is less than 60 seconds before another one, or equal to that
+-- there is a moment, and it is 0 to 59 seconds before `now`
 abbrev pub is_recent : ℕ → Option ℕ → Bool
 is_recent now (Some at) = nat_le at now && nat_lt (now - at) 60
 is_recent now None = false
@@ -56,8 +56,8 @@ after_request_if now None admission = admission
 
 -- ---- the limits
 
--- 503 if the clock is too far ahead, or less than a tenth of the cap is left, rounded down (RFC 9110 15.6.4); else 429 with three or more open
--- requests for the serial number (RFC 6585 4)
+-- 503 (RFC 9110 15.6.4) if the clock is too far ahead, or if the rows of requests leave less than a tenth of the cap, rounded down; else 429
+-- (RFC 6585 4) with three or more open requests for the serial number
 abbrev pub limit_by : RequestLoad → Bool → Option ℕ
 limit_by request_load ahead =
     if ahead || nat_lt (request_load.cap - request_load.requests) (request_load.cap / 10) then Some 503
@@ -83,16 +83,16 @@ RefusesSerial admission records now serial it =
     ⊎ ((fault : Fault) × IsOfStore fault × (is_rate_reached now admission.recent ≡ false)
     × (it ≡ fault_effects fault))
 
--- the same for any request: one for no serial number is not refused so
+-- the same for any request: a request for no serial number is never refused at a limit
 abbrev pub RefusesAtLimit : Admission → Records → ℕ → Option ℕ → AnswerEffects → Type 0
 RefusesAtLimit admission records now None it = ⊥
 RefusesAtLimit admission records now (Some serial) it = RefusesSerial admission records now serial it
 
 -- how a request for a serial number is refused, or that it is within the limits
-abbrev pub MeetsLimits : Admission → Records → ℕ → ℕ → Option Answered → Type 0
-MeetsLimits admission records now serial (Some answered) =
+abbrev pub ChecksLimits : Admission → Records → ℕ → ℕ → Option Answered → Type 0
+ChecksLimits admission records now serial (Some answered) =
     RefusesSerial admission records now serial (answer_effects answered)
-MeetsLimits admission records now serial None = limit_at admission records now serial ≡ None
+ChecksLimits admission records now serial None = limit_at admission records now serial ≡ None
 
 -- there is an answer, which refuses with this status
 abbrev pub IsRefusedBy : ℕ → Option Answered → Type 0
@@ -101,24 +101,24 @@ IsRefusedBy status None = ⊥
 
 -- a request is within the limits, and the register answers it; or it is refused, and no record changes
 abbrev pub AnswersAdmitted
-    : Admission → Signs → ℕ → Signatory → Records → RoutedRequest → AnswerEffects → Records → Type 0
-AnswersAdmitted admission signs now signatory before what it after =
+    : Admission → Signs → ℕ → OfficeSigners → Records → RoutedRequest → AnswerEffects → Records → Type 0
+AnswersAdmitted admission signs now signers before what it after =
     (IsWithin admission before now (requested_serial what)
-    × Answers (Runs signs signatory) Asks (Replies signs signatory) GivesCrl now before what it after)
+    × Answers (Runs signs signers) Asks (Replies signs signers) GivesCrl now before what it after)
     ⊎ (RefusesAtLimit admission before now (requested_serial what) it × (after ≡ before))
 
 -- the same for an answer that is ready, and adds at most one request; or a response is left to be signed; or out of memory, and no record changes
 abbrev pub BeginsAdmitted
-    : Admission → Signs → ℕ → Signatory → Records → RoutedRequest
+    : Admission → Signs → ℕ → OfficeSigners → Records → RoutedRequest
     → Result (ReadyOrUnsigned Answered Drafted) NoMemory
     → Records → Type 0
-BeginsAdmitted admission signs now signatory before what (Ok (Ready answered)) after =
-    AnswersAdmitted admission signs now signatory before what (answer_effects answered) after
+BeginsAdmitted admission signs now signers before what (Ok (Ready answered)) after =
+    AnswersAdmitted admission signs now signers before what (answer_effects answered) after
     × AddsARequestAtMost now before after
-BeginsAdmitted admission signs now signatory before what (Ok (Unsigned draft)) after =
-    BeginsTo (Runs signs signatory) Asks (Replies signs signatory) GivesCrl (Drafts signatory) now before what
+BeginsAdmitted admission signs now signers before what (Ok (Unsigned draft)) after =
+    BeginsTo (Runs signs signers) Asks (Replies signs signers) GivesCrl (Drafts signers) now before what
     (Unsigned draft) after
-BeginsAdmitted admission signs now signatory before what (Err memory) after = after ≡ before
+BeginsAdmitted admission signs now signers before what (Err memory) after = after ≡ before
 
 -- the admission after a request is `counted`; if memory ran out, it is that or the one before
 abbrev pub CountsRequest : {A : Type 0} → Result A NoMemory → Admission → Admission → Admission → Type 0

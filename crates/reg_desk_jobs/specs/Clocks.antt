@@ -1,4 +1,4 @@
--- The moment of a clock. `stood seconds`: the clock was read, and showed so many whole seconds since the start of 1970.
+-- The moment of a clock. `stood seconds`: the clock was read, and showed this number of whole seconds since the start of 1970.
 use Rattle.std.specs.Prelude.{◌≡◌, ◌≤◌, ◌⊎◌, ℕ}
 
 -- the moment that many seconds after the start of 1970; or, after the last moment, 9999-12-31T23:59:59Z, that last one

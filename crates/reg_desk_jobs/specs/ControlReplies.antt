@@ -34,7 +34,7 @@ ReportsFault why text = IsReplyText (fault_line why ++ 10 ∷ []) text
 -- the result of a command line
 abbrev pub line_outcome_of : Answered → LineOutcome
 line_outcome_of (answered.Completed what outcome) = Completed what outcome
-line_outcome_of (answered.Response reply) = Response reply.is_refusal
+line_outcome_of (answered.Response reply) = Response reply.has_only_status
 
 -- the reply shows the result of a line; an OCSP response that has only a status has five bytes (RFC 6960 4.2.1)
 abbrev pub ReportsLineOutcome : LineOutcome → List ℕ → Type 0

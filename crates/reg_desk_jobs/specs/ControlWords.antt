@@ -12,13 +12,13 @@ use Rattle.reg_core.specs.Records.{Records}
 use Rattle.reg_core.specs.declared.refusal.Fault.{Fault}
 use Rattle.reg_core.specs.declared.refusal.Fault.TheVariants as fault
 use Rattle.reg_office_api.specs.LookUps.{IsOfStore}
-use Rattle.reg_office_api.specs.Signatories.{Signatory}
+use Rattle.reg_office_api.specs.Signers.{OfficeSigners}
 use Rattle.reg_office_api.specs.CallSteps.{Signs}
 use Rattle.reg_lines.specs.Answer.{ComesTo, Replied}
 use Rattle.reg_lines.specs.ByCalls.{Lines}
 use Rattle.reg_lines.specs.Fields.{fields_of}
 use Rattle.reg_lines.specs.Meaning.{LineMeans, means_command}
-use Rattle.reg_lines.specs.Script.{IsShortCommand, line_of}
+use Rattle.reg_lines.specs.Script.{IsShortUntimedLine, line_of}
 use Rattle.reg_desk_cli.specs.WordValues.{steps_of}
 use Rattle.reg_desk_metrics.specs.Ahead.{is_ahead}
 use Rattle.reg_desk_jobs.specs.ControlReplies.{IsReplyText, ReportsFault}
@@ -117,10 +117,10 @@ IsWord line (Decide serial_decision) = meaning_in line ≡ decides serial_decisi
 IsWord line (AcceptClock clock) = meaning_in line ≡ accepts clock.moment
 IsWord line (Schedule steps) = meaning_in line ≡ schedules steps
 IsWord line (Line command) = (meaning_in line ≡ commands)
-    × MatchOption command (¬ IsShortCommand line) (λ text. (text.now ≡ line_of line) × IsShortCommand line)
+    × MatchOption command (¬ IsShortUntimedLine line) (λ text. (text.now ≡ line_of line) × IsShortUntimedLine line)
 
 -- a command line at a moment, without its line end, and its reply; or the reply is out of memory, or empty, and no record changes
-abbrev pub CommandAt : Signs → ℕ → Signatory → Records → List ℕ → List ℕ → Records → Type 0
+abbrev pub CommandAt : Signs → ℕ → OfficeSigners → Records → List ℕ → List ℕ → Records → Type 0
 CommandAt signs now identity before line text after =
     Replied (ComesTo (Lines signs identity) now) before line text after
     ⊎ (ReportsFault fault.Memory text × (after ≡ before))
@@ -142,9 +142,9 @@ AtClock accepted now before Runs text after =
     ⊎ (RepliesStoreFault text × (after ≡ before))
 
 -- no reply, if the clock is not too far ahead; or the reply that refuses a command before it runs, or is a fault of the store
-abbrev pub MeetsClock : Option ℕ → ℕ → Records → Option ControlReply → Type 0
-MeetsClock accepted now before None = IsFalse (is_ahead now before.last accepted)
-MeetsClock accepted now before (Some reply) =
+abbrev pub ChecksClock : Option ℕ → ℕ → Records → Option ControlReply → Type 0
+ChecksClock accepted now before None = IsFalse (is_ahead now before.last accepted)
+ChecksClock accepted now before (Some reply) =
     RefusesClock accepted now before reply.text.items ⊎ RepliesStoreFault reply.text.items
 
 -- a line means a command
@@ -152,22 +152,22 @@ abbrev pub HasCommand : List ℕ → Type 0
 HasCommand line = (command : Command) × LineMeans line (means_command command)
 
 -- a command line without its line end: a command is checked against the clock; a line of another meaning is not
-abbrev pub LineAt : Option ℕ → Signs → ℕ → Signatory → Records → List ℕ → List ℕ → Records → Type 0
+abbrev pub LineAt : Option ℕ → Signs → ℕ → OfficeSigners → Records → List ℕ → List ℕ → Records → Type 0
 LineAt accepted signs now identity before line text after =
     (HasCommand line
     × AtClock accepted now before (CommandAt signs now identity before line text after) text after)
     ⊎ ((¬ HasCommand line) × CommandAt signs now identity before line text after)
 
 -- a command line with its line end; or it has too many bytes, the reply is the fault `Read`, or empty, and no record changes
-abbrev pub EntryAt : Option ℕ → Signs → ℕ → Signatory → Records → List ℕ → List ℕ → Records → Type 0
-EntryAt accepted signs now identity before line text after =
-    (IsShortCommand line × LineAt accepted signs now identity before (line_of line) text after)
-    ⊎ ((¬ IsShortCommand line) × ReportsFault fault.Read text × (after ≡ before))
+abbrev pub CommandLineAt : Option ℕ → Signs → ℕ → OfficeSigners → Records → List ℕ → List ℕ → Records → Type 0
+CommandLineAt accepted signs now identity before line text after =
+    (IsShortUntimedLine line × LineAt accepted signs now identity before (line_of line) text after)
+    ⊎ ((¬ IsShortUntimedLine line) × ReportsFault fault.Read text × (after ≡ before))
 
--- the reply to each word, and the records after it: `help`, `why`, `copy`, `show` and `accept-clock` change no record; a decision, a schedule and
--- a command line may
+-- the reply to a line with this meaning (any reply to `why`), and the records after it: `help`, `why`, `copy`, `show` and `accept-clock` change no
+-- record; a decision, a schedule and a command line may
 abbrev pub AnswersWord
-    : Option ℕ → Signs → ℕ → Signatory → Records → List ℕ → WordMeaning → List ℕ → Records → Type 0
+    : Option ℕ → Signs → ℕ → OfficeSigners → Records → List ℕ → WordMeaning → List ℕ → Records → Type 0
 AnswersWord accepted signs now identity before line helps text after =
     IsReplyText (help_text ++ 10 ∷ []) text × (after ≡ before)
 AnswersWord accepted signs now identity before line why text after = after ≡ before
@@ -182,14 +182,14 @@ AnswersWord accepted signs now identity before line (accepts moment) text after 
 AnswersWord accepted signs now identity before line (schedules steps) text after =
     SetAt steps before text after
 AnswersWord accepted signs now identity before line commands text after =
-    EntryAt accepted signs now identity before line text after
+    CommandLineAt accepted signs now identity before line text after
 
 -- the moment that the operator has accepted after a line of this meaning
 abbrev pub accepted_by : WordMeaning → Option ℕ → Option ℕ
 accepted_by (accepts moment) accepted = Some moment
 accepted_by other accepted = accepted
 
--- the same after a line; or the accepted moment stays, as if there was no memory to read the line
+-- the same after a line; or the accepted moment stays, for example because there was no memory to read the line
 abbrev pub IsAcceptedAfter : List ℕ → Option ℕ → Option ℕ → Type 0
 IsAcceptedAfter line accepted accepted' =
     (accepted' ≡ accepted_by (meaning_in line) accepted) ⊎ (accepted' ≡ accepted)
@@ -200,12 +200,12 @@ IsAdmissionAfter line admission admission' =
     (admission'.recent ≡ admission.recent) × IsAcceptedAfter line admission.accepted admission'.accepted
 
 -- a line at a moment, its reply and the records after it; or the reply is out of memory, or empty, and no record changes
-abbrev pub WordAt : Option ℕ → Signs → ℕ → Signatory → Records → List ℕ → List ℕ → Records → Type 0
-WordAt accepted signs now identity before line text after =
+abbrev pub AnswersLineAt : Option ℕ → Signs → ℕ → OfficeSigners → Records → List ℕ → List ℕ → Records → Type 0
+AnswersLineAt accepted signs now identity before line text after =
     AnswersWord accepted signs now identity before line (meaning_in line) text after
     ⊎ (ReportsFault fault.Memory text × (after ≡ before))
 
 -- the same at some moment that the clock has reached
-abbrev pub Word : Option ℕ → Signs → (ℕ → Type 0) → Signatory → Records → List ℕ → List ℕ → Records → Type 0
-Word accepted signs clock_reached identity before line text after =
-    (now : ℕ) × clock_reached now × WordAt accepted signs now identity before line text after
+abbrev pub AnswersLineByClock : Option ℕ → Signs → (ℕ → Type 0) → OfficeSigners → Records → List ℕ → List ℕ → Records → Type 0
+AnswersLineByClock accepted signs clock_reached identity before line text after =
+    (now : ℕ) × clock_reached now × AnswersLineAt accepted signs now identity before line text after

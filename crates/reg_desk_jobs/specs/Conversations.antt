@@ -54,10 +54,10 @@ pub record ExchangedLines (sent sent' incoming incoming' out out' : Option (List
   pub said : Appends out out' (concat replies)
   pub each : length replies ≡ length lines
 
--- why a conversation fails at its end, by its replies and the rest of the input: a reply is not good, a last line has no line end and was not
--- sent, or both
-abbrev pub IsWhyBy : (List ℕ → Type 0) → List (List ℕ) → List ℕ → Failure → Type 0
-IsWhyBy IsGood replies left why =
+-- why a conversation fails at its end, by its replies and the rest of the input: a reply is not as `IsGood` states, a last line has no line end
+-- and was not sent, or both
+abbrev pub IsFailureBy : (List ℕ → Type 0) → List (List ℕ) → List ℕ → Failure → Type 0
+IsFailureBy IsGood replies left why =
     ((why ≡ failure.Refused) × (left ≡ []) × (¬ AllByRecursion IsGood replies))
     ⊎ (((why ≡ failure.NoLineEnd) × IsCutOff left × AllByRecursion IsGood replies)
     ⊎ ((why ≡ failure.RefusedNoLineEnd) × IsCutOff left × (¬ AllByRecursion IsGood replies)))
@@ -90,7 +90,7 @@ module _ (sent sent' incoming incoming' out out' : Option (List ℕ)) where
   ExchangesLines input (Err why) = IsConversationFault why
       ⊎ ((lines replies : List (List ℕ)) × (left : List ℕ)
       × ExchangedLines sent sent' incoming incoming' out out' lines replies
-      × IsInput input (concat lines ++ left) × IsWhyBy IsAccepted replies left why)
+      × IsInput input (concat lines ++ left) × IsFailureBy IsAccepted replies left why)
 
 -- a conversation over a connection about which nothing else is known: it failed with nothing written, or as `ExchangesLines` states
 abbrev pub ExchangesLinesOver

@@ -8,13 +8,13 @@ use Rattle.reg_core.specs.Records.{Records, no_records}
 use Rattle.reg_core.specs.Schedule.{IsSchedule}
 use Rattle.reg_core.specs.declared.refusal.Fault.{Fault}
 use Rattle.reg_core.specs.declared.refusal.Fault.TheVariants as fault
-use Rattle.reg_office_api.specs.Signatories.{Signatory}
+use Rattle.reg_office_api.specs.Signers.{OfficeSigners}
 use Rattle.reg_lines.specs.ByCalls.{Lines}
 use Rattle.reg_office_api.specs.CallSteps.{GivesCrl}
 use Rattle.reg_office_api.specs.declared.office.Office.{Ghosts as Office}
 use Rattle.reg_desk_server.specs.Exchange.{Input, Outcome}
 use Rattle.reg_desk_server.specs.Failures.{EndsEarly}
-use Rattle.reg_desk_cli.specs.Checks.{WritesIdentified, WritesIdentifier, IsNoIdentifier, IsNoOffice, IsNoSchedule, terms_of_days}
+use Rattle.reg_desk_cli.specs.Checks.{WritesIdentified, WritesIdentifier, IsNoIdentifier, IsNoIssuerOrPolicy, IsNoSchedule, terms_of_days}
 use Rattle.reg_desk_cli.specs.ExitStatus.{exit_status}
 use Rattle.reg_desk_cli.specs.declared.failure.Failure.{Failure}
 use Rattle.reg_desk_cli.specs.declared.failure.Failure.TheVariants as failure
@@ -64,7 +64,7 @@ abbrev pub PrintsText : List ℕ → Option (List ℕ) → Option (List ℕ) →
 PrintsText text out out' (Ok done) = Appends out out' text
 PrintsText text out out' (Err why) = (why ≡ failure.Fault fault.Write) × AppendsPrefix out out' text
 
--- the result is written; or its fault ends the job, and nothing is written
+-- the text of the result is written, as `PrintsText` states; or its fault ends the job, and nothing is written
 abbrev pub PrintsResult
     : {W : Type 0} → (W → Option (List ℕ)) → W → W → Result (List ℕ) Fault → Result (Unit {0}) Failure
     → Type 0
@@ -73,7 +73,7 @@ PrintsResult contents writer writer' (Ok text) result =
 PrintsResult contents writer writer' (Err why) result =
     (result ≡ Err (failure.Fault why)) × (writer' ≡ writer)
 
--- a text is written after something was set; or out of memory or a failure of the store ends the job, and nothing is written
+-- a text is written after a setting was changed; or out of memory or a failure of the store ends the job, and nothing is written
 abbrev pub PrintsSetResult
     : {W : Type 0} → List ℕ → (W → Option (List ℕ)) → W → W → Result (Unit {0}) Fault
     → Result (Unit {0}) Failure → Type 0
@@ -82,7 +82,7 @@ PrintsSetResult text contents writer writer' (Ok done) result =
 PrintsSetResult text contents writer writer' (Err why) result =
     (result ≡ Err (failure.Fault why)) × IsOfStore why × (writer' ≡ writer)
 
--- the text of a line is written; or there was no memory for it, and nothing is written
+-- the text of a line is written, as `PrintsText` states; or there was no memory for it, and nothing is written
 abbrev pub PrintsLine
     : {W : Type 0} → List ℕ → (W → Option (List ℕ)) → W → W → Result (Unit {0}) Failure → Type 0
 PrintsLine text contents writer writer' result =
@@ -142,8 +142,8 @@ module _ {M O D S R W : Type 0} (machines : Machine M O D S R) (offices : Office
       GivesCrl before number given after)
       × PrintsResult contents writer writer' given result)
 
-  -- a list of the register at a path, at a moment: all rows that are wanted are written, each once and in order, or none; no record changes. If the
-  -- clock can't be read, the job ends before it opens the path
+  -- a list of the register at a path, at a moment: all rows that are wanted, each once and in order, written as `PrintsResult` states; no record
+  -- changes. If the clock can't be read, the job ends before it opens the path
   abbrev pub ListAt : ListJob → Result (Unit {0}) Failure → Type 0
   ListAt it result =
       ((result ≡ Err (failure.Fault fault.Read)) × (writer' ≡ writer) × (machine' ≡ machine))
@@ -153,7 +153,7 @@ module _ {M O D S R W : Type 0} (machines : Machine M O D S R) (offices : Office
       (λ identity before after. GivesWholeList before now it.form it.filter it.from given after)
       × PrintsResult contents writer writer' given result))
 
-  -- an audit of the register at a path: it could not be read, or what was found is reported; the machine is as it was
+  -- an audit of the register at a path: the register could not be read, or the audit's result is reported; the machine is as it was
   abbrev pub AuditAt : List ℕ → Result (Unit {0}) Failure → Type 0
   AuditAt path result =
       (machine' ≡ machine)
@@ -162,8 +162,8 @@ module _ {M O D S R W : Type 0} (machines : Machine M O D S R) (offices : Office
       ⊎ ((found : AuditResult) × Audits machines machine path found
       × ReportsAuditResult contents writer writer' found result))
 
-  -- a copy of the register at a path, to a path that had no file: none was created; or one was, and the reply has its bytes and how many
-  -- milliseconds it took
+  -- a copy of the register at a path, to another path: none was created; or one was, where nothing lay before, and its length in bytes and the
+  -- milliseconds that it took are written
   abbrev pub CopyAt : List ℕ → List ℕ → Result (Unit {0}) Failure → Type 0
   CopyAt path to result =
       ((why : Failure) × (result ≡ Err why) × machines.copy_failed machine path to why machine'
@@ -195,12 +195,12 @@ module _ {M O D S R W : Type 0} (machines : Machine M O D S R) (offices : Office
 module _ {M O D S R W : Type 0} (machines : Machine M O D S R) (offices : Office O)
     (contents : W → Option (List ℕ))
     (machine machine' : M) (writer writer' : W) where
-  -- a path was claimed, with the machine after that; or it was taken (`Machine.taken`), and the machine did not change
+  -- an empty file was created at a path, with the machine after that; or the path was taken (`Machine.taken`), and the machine did not change
   abbrev pub Claims : List ℕ → M → Type 0
   Claims path start = machines.claimed machine path start ⊎ (machines.taken machine path × (start ≡ machine))
 
-  -- what is left at the path of a new register: all stays if the job is done, if the file had tables already (`NotEmpty`), and if the path was taken
-  -- before; else what was created there is removed
+  -- what is left at the path of a new register: all stays if the job is done, if the file had tables already (`NotEmpty`), or if the path was taken
+  -- before; else the file that was created there is removed
   abbrev pub Leaves : List ℕ → M → M → Result (Unit {0}) Failure → Type 0
   Leaves path start between (Ok done) = machine' ≡ between
   Leaves path start between (Err why) =
@@ -211,7 +211,7 @@ module _ {M O D S R W : Type 0} (machines : Machine M O D S R) (offices : Office
   -- a new register at a path, with the given issuer and policy, which are checked before the path is used
   abbrev pub InitAt : NewRegister → Result (Unit {0}) Failure → Type 0
   InitAt new result =
-      ((why : Failure) × (result ≡ Err why) × IsNoOffice new.name new.key new.key_id (terms_of_new new) why
+      ((why : Failure) × (result ≡ Err why) × IsNoIssuerOrPolicy new.name new.key new.key_id (terms_of_new new) why
       × (writer' ≡ writer) × (machine' ≡ machine))
       ⊎ ((issuer : Issuer) × WritesIdentified new.name new.key new.key_id issuer × IsPolicy (terms_of_new new)
       × ((start between : M) × Claims new.file start
@@ -229,7 +229,7 @@ ScriptInMemory remaining contents input_failed output_failed reader reader' writ
     × ScriptEnds (Lines digests digest_alone) remaining contents input_failed output_failed sample_records after
     reader reader' writer writer' ran))
 
--- lines run at the machine's clock, which is too far ahead, and the operator does not accept that
+-- the lines of a script are to run at the machine's clock, which is too far ahead, and the operator does not accept that
 abbrev pub IsClockRefused : ScriptOptions → (ℕ → Type 0) → Records → Type 0
 IsClockRefused options clock_reached records =
     IsTrue options.is_clocked × IsFalse options.accepts_clock
@@ -240,10 +240,10 @@ IsClockRefused options clock_reached records =
 module _ {M O D S R E W : Type 0} (machines : Machine M O D S R) (offices : Office O)
     (remaining : E → Option (List ℕ)) (contents : W → Option (List ℕ)) (input_failed output_failed : Type 0)
     (machine machine' : M) (reader reader' : E) (writer writer' : W) where
-  -- a run over the register at a path, and how the job ends: it could not be opened, or the run led from its records to others
+  -- a run over the register at a path, and how the job ends: the register could not be opened, or the run led from its records to others
   abbrev pub RunsAt
       : {A : Type 0} → (A → Result (Unit {0}) Failure) → List ℕ → Signing
-      → (A → Signatory → Records → Records → Type 0)
+      → (A → OfficeSigners → Records → Records → Type 0)
       → Result (Unit {0}) Failure → Type 0
   RunsAt {A = A} ending path signing Ran result =
       (NotOpened machines machine machine' path signing result × (reader' ≡ reader) × (writer' ≡ writer))
@@ -294,14 +294,14 @@ module _ {M O D S R E W : Type 0} (machines : Machine M O D S R) (offices : Offi
       (NotOpened machines machine machine' path unsigned result × (reader' ≡ reader) × (writer' ≡ writer))
       ⊎ ImportRan is_strict path now result
 
-  -- no row is imported at a moment, because that is too far ahead
+  -- no row is imported, because the moment of the import is too far ahead
   abbrev pub ImportRefusedAt : List ℕ → ℕ → Result (Unit {0}) Failure → Type 0
   ImportRefusedAt path now result =
       (result ≡ Err failure.BadClock) × (reader' ≡ reader) × (writer' ≡ writer)
       × UsesRegister machines offices machine machine' path unsigned (λ identity before after.
       IsTrue (is_ahead now before.last None) × (after ≡ before))
 
-  -- an import at a moment; only a moment that is checked can be refused
+  -- an import at a moment; if the moment is checked, the whole import is refused where the moment is too far ahead
   abbrev pub ImportChecked : Bool → Bool → List ℕ → ℕ → Result (Unit {0}) Failure → Type 0
   ImportChecked is_checked is_strict path now result =
       (IsTrue is_checked × ImportRefusedAt path now result) ⊎ ImportAt is_strict path now result
@@ -315,13 +315,13 @@ module _ {M O D S R E W : Type 0} (machines : Machine M O D S R) (offices : Offi
       × (writer' ≡ writer))
       ⊎ ((now : ℕ) × machines.clock_reached now × ImportChecked (not accepts) is_strict path now result)
 
-  abbrev pub ImportByClock : ImportJob → Result (Unit {0}) Failure → Type 0
-  ImportByClock it = ImportAtMoment it.moment it.accepts_clock it.is_strict it.file
+  abbrev pub ImportJobEnds : ImportJob → Result (Unit {0}) Failure → Type 0
+  ImportJobEnds it = ImportAtMoment it.moment it.accepts_clock it.is_strict it.file
 
   -- HTTP requests over the register at a path (RFC 9112), which is opened before the port is bound, and lines if there is a control socket. If a
-  -- published CRL is given and can't be compared, or the register lacks any of it, nothing is served. Else the register has all of it, and answers
-  -- `inputs` in their order, with `outcomes`. An OCSP signature that was awaited came from the signer of OCSP responses. Without a published CRL,
-  -- no input is read.
+  -- published CRL is given and can't be compared, or the register lacks any of it, nothing is served. Else the register has all of a given CRL, and
+  -- answers `inputs` in their order, with `outcomes`. An OCSP signature that was awaited came from the signer of OCSP responses. Without a
+  -- published CRL, `reader` is not read.
   abbrev pub AtPort
       : List ℕ → Option SignerAddress → ResponderChoice → Option (List ℕ) → Endpoint → Option (List ℕ) → ℕ
       → Result (Unit {0}) Failure → Type 0
@@ -363,7 +363,7 @@ module _ {M O D S R E W : Type 0} (machines : Machine M O D S R) (offices : Offi
   Ends (job.Script None (Some address)) = λ result.
       (machine' ≡ machine) × (reader' ≡ reader) × (writer' ≡ writer) × (result ≡ Err failure.BadSigner)
   Ends (job.Lines it) = LinesAt it
-  Ends (job.Import it) = ImportByClock it
+  Ends (job.Import it) = ImportJobEnds it
   Ends (job.Crl file number) =
       Writes (CrlAt machines offices contents machine machine' writer writer' file number)
   Ends (job.Schedule file steps) =

@@ -1,11 +1,11 @@
 -- HTTP requests to a desk: which part of it answers each, and what the answer is.
 use Rattle.std.specs.Prelude.{◌≡◌, ◌⊎◌, ℕ, Bool, true, false, List}
 use Rattle.reg_core.specs.Records.{Records}
-use Rattle.reg_office_api.specs.Signatories.{Signatory}
+use Rattle.reg_office_api.specs.Signers.{OfficeSigners}
 use Rattle.reg_office_api.specs.CallSteps.{Signs, Runs, Asks, GivesCrl}
 use Rattle.reg_office_api.specs.Responses.{Replies}
 use Rattle.reg_http_head.specs.Collected.{HoldsRequest}
-use Rattle.reg_http_head.specs.Frame.{IsUnfinished, Part, asked, refused}
+use Rattle.reg_http_head.specs.Frame.{IsUnfinished, RequestMeaning, asked, refused}
 use Rattle.reg_http.specs.Added.{AddsARequestAtMost}
 use Rattle.reg_http.specs.Answers.{Answers}
 use Rattle.reg_http.specs.RoutedRequests.{RoutedRequest, path_of, requested_serial, asked as asks_for}
@@ -41,21 +41,21 @@ admission_by ToLimits now what admission = after_request_if now (requested_seria
 admission_by other now what admission = admission
 
 -- the same at a desk that is open or not; a refused request is not counted
-abbrev pub admission_after : Bool → ℕ → Part → Admission → Admission
+abbrev pub admission_after : Bool → ℕ → RequestMeaning → Admission → Admission
 admission_after is_open now (refused status) admission = admission
 admission_after is_open now (asked method target body) admission =
     admission_by (dispatch is_open (route_at (path_of target))) now (asks_for method target body) admission
 
 -- The answer to a request that was read. The register is asked at most once, and the records gain at most one request for revocation.
-module _ (signs : Signs) (now : ℕ) (admission : Admission) (signatory : Signatory) (before : Records)
+module _ (signs : Signs) (now : ℕ) (admission : Admission) (signers : OfficeSigners) (before : Records)
     (it : AnswerEffects) (after : Records) where
   -- by the part that answers
   abbrev pub AnswersAtRoute : Dispatch → List ℕ → List ℕ → List ℕ → Type 0
   AnswersAtRoute ToRegister method target body =
-      Answers (Runs signs signatory) Asks (Replies signs signatory) GivesCrl now before
+      Answers (Runs signs signers) Asks (Replies signs signers) GivesCrl now before
       (asks_for method target body) it after
   AnswersAtRoute ToLimits method target body =
-      AnswersAdmitted admission signs now signatory before (asks_for method target body) it after
+      AnswersAdmitted admission signs now signers before (asks_for method target body) it after
   AnswersAtRoute ToList method target body =
       RespondsList before now (list_request method target) it × (after ≡ before)
   AnswersAtRoute ToHealth method target body =
@@ -63,7 +63,7 @@ module _ (signs : Signs) (now : ℕ) (admission : Admission) (signatory : Signat
   AnswersAtRoute ToMetrics method target body = ByGet method (AnswersMetrics now before) it × (after ≡ before)
 
   -- by a desk that is open or not
-  abbrev pub Says : Bool → Part → Type 0
+  abbrev pub Says : Bool → RequestMeaning → Type 0
   Says is_open (refused status) = (it ≡ plain (http_refusal status)) × (after ≡ before)
   Says is_open (asked method target body) =
       AnswersAtRoute (dispatch is_open (route_at (path_of target))) method target body
@@ -79,34 +79,34 @@ IsRouteOf request route =
 abbrev pub MayCount : Bool → ℕ → List ℕ → Admission → Admission → Type 0
 MayCount is_open now request admission admission' =
     (admission' ≡ admission)
-    ⊎ ((part : Part) × ∥ HoldsRequest request part ∥₁
+    ⊎ ((part : RequestMeaning) × ∥ HoldsRequest request part ∥₁
     × (admission' ≡ admission_after is_open now part admission))
 
 -- One HTTP exchange (RFC 9112) of a desk at a moment, over the bytes that came on a connection. Either they begin with a whole request, which the
 -- desk answered, and the admission is the one after it; or they do not, and the text is empty; or the text is the answer if out of memory. In the
 -- last two cases no record changed, and a whole request was counted or not.
 abbrev pub IsExchange
-    : Bool → Signs → ℕ → Admission → Admission → Signatory → Records → List ℕ → HttpExchange → Records
+    : Bool → Signs → ℕ → Admission → Admission → OfficeSigners → Records → List ℕ → HttpExchange → Records
     → Type 0
-IsExchange is_open signs now admission admission' signatory before request exchange after =
-    ((part : Part) × (it : AnswerEffects) × ∥ HoldsRequest request part ∥₁
-    × Says signs now admission signatory before it after is_open part × HasEffects now it exchange
+IsExchange is_open signs now admission admission' signers before request exchange after =
+    ((part : RequestMeaning) × (it : AnswerEffects) × ∥ HoldsRequest request part ∥₁
+    × Says signs now admission signers before it after is_open part × HasEffects now it exchange
     × (admission' ≡ admission_after is_open now part admission))
     ⊎ (HasNoEffects exchange × ((∥ IsUnfinished request ∥₁ × IsEmpty exchange) ⊎ IsMemoryAnswer exchange)
     × (after ≡ before) × MayCount is_open now request admission admission')
 
 -- the same for the text alone; the records gain at most one request for revocation, and no count of certificates by status changes
 pub record AnswersAt (is_open : Bool) (signs : Signs) (now : ℕ) (admission admission' : Admission)
-    (signatory : Signatory) (before : Records) (request text : List ℕ) (after : Records) : Type 0 where
+    (signers : OfficeSigners) (before : Records) (request text : List ℕ) (after : Records) : Type 0 where
   pub exchange : HttpExchange
-  pub is_exchange : IsExchange is_open signs now admission admission' signatory before request exchange after
+  pub is_exchange : IsExchange is_open signs now admission admission' signers before request exchange after
   pub text_is : text ≡ exchange.text.items
   pub adds : AddsARequestAtMost now before after
 
 -- the same at a moment of a clock
 abbrev pub AnswersBy
-    : Bool → Signs → (ℕ → Type 0) → Admission → Admission → Signatory → Records → List ℕ → List ℕ → Records
+    : Bool → Signs → (ℕ → Type 0) → Admission → Admission → OfficeSigners → Records → List ℕ → List ℕ → Records
     → Type 0
-AnswersBy is_open signs clock_reached admission admission' signatory before request text after =
+AnswersBy is_open signs clock_reached admission admission' signers before request text after =
     (now : ℕ) × clock_reached now
-    × AnswersAt is_open signs now admission admission' signatory before request text after
+    × AnswersAt is_open signs now admission admission' signers before request text after

@@ -13,7 +13,7 @@ use Rattle.reg_desk_jobs.specs.declared.failure_cause.Location.TheVariants as lo
 use Rattle.reg_desk_jobs.specs.declared.reasons.Reason.{Reason}
 use Rattle.reg_io.specs.Put.{AppendsPrefix}
 
--- the text after a cause: a space and, in parentheses, the argument, option or stream that it is about; nothing if that is not known
+-- the text after a cause: a space and, in parentheses, the argument, option or stream that failed; nothing if that is not known
 unfoldable pub location_suffix : Option Location → List ℕ
 location_suffix None = []
 location_suffix (Some location.File) = codes " (FILE)"

@@ -19,7 +19,7 @@ IsSignatureOf signer_answered draft (Some signature) =
     × HasForm (record { algorithm = draft.algorithm; public_key = draft.key }) signature
 IsSignatureOf signer_answered draft None = Unit {0}
 
--- whether a signature was made: if there is one
+-- the outcome of a request for a signature: `Made` if there is one, else `Failed`
 abbrev pub outcome_of_signature : Option (List ℕ) → SignatureOutcome
 outcome_of_signature (Some signature) = Made
 outcome_of_signature None = Failed
@@ -47,7 +47,7 @@ abbrev pub FinishesUnsigned : (List ℕ → List ℕ → Type 0) → Unsigned �
 FinishesUnsigned signer_answered unsigned text =
     FinishesAt signer_answered unsigned.draft unsigned.moment text
 
--- the outcome of a request is a text that meets `wanted`, or a response to be signed, such that any text that finishes it does; it is not `later`
+-- the outcome of a request is a text that meets `wanted`, or a response to be signed, which only texts that meet `wanted` finish; never `later`
 abbrev pub Meets : {T : Type 0} → (T → List ℕ → Type 0) → (List ℕ → Type 0) → Outcome T → Type 0
 Meets finishes wanted (said text) = wanted text
 Meets finishes wanted (pending ticket) = (text : List ℕ) → finishes ticket text → wanted text

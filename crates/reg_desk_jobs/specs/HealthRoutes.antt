@@ -12,7 +12,7 @@ use Rattle.reg_core.specs.declared.command.Reply.TheVariants.{Counts as CountsAr
 use Rattle.reg_core.specs.declared.refusal.Fault.{Fault}
 use Rattle.reg_core.specs.declared.refusal.Fault.TheVariants.{Refused}
 use Rattle.reg_crl.specs.Signing.{sha1_algorithm}
-use Rattle.reg_crl_signer.specs.Signed.{IsCrlUnder}
+use Rattle.reg_crl_signer.specs.Signed.{IsCrlWithAlgorithm}
 use Rattle.reg_desk_cli.specs.declared.desk.TheConstants.{VERSION}
 use Rattle.reg_http_head.specs.Response.{Response}
 use Rattle.reg_http.specs.Bodies.{json, method_not_allowed}
@@ -36,7 +36,7 @@ use Rattle.reg_desk_metrics.specs.declared.tally.Tally.{Tally}
 
 -- ---- the numbers that are read from a register
 
--- a query is answered with a reply of this kind, or refused; or there was a fault, also for a reply of another kind, which no office gives
+-- the answer to a query is a reply of this kind, a refusal or a fault; a reply of another kind, which no office gives, counts as a fault
 abbrev pub Has : {A : Type 0} → Query → (A → Reply) → Records → ℕ → Result A Fault → Type 0
 Has query kind records now (Ok it) = answer records now query ≡ Ok (kind it)
 Has query kind records now (Err (Refused refusal)) = answer records now query ≡ Err refusal
@@ -62,7 +62,7 @@ signing_by signer.NoSigner = signing.NoSigner
 -- whether a CRL has a placeholder digest instead of a signature, by its signatureAlgorithm (RFC 5280 5.1.1.2)
 abbrev pub IsUnsigned : List ℕ → Bool → Type 0
 IsUnsigned crl is_unsigned =
-    (algorithm : List ℕ) → IsCrlUnder crl algorithm → (IsTrue is_unsigned ↔ (algorithm ≡ sha1_algorithm))
+    (algorithm : List ℕ) → IsCrlWithAlgorithm crl algorithm → (IsTrue is_unsigned ↔ (algorithm ≡ sha1_algorithm))
 
 -- the number of a CRL, and whether it is unsigned, as they are read in it
 abbrev pub IsReadIn : Crl → ReadCrl → Type 0
@@ -80,7 +80,7 @@ IsLatestRead tally records (Some read) = (has_crl_key tally ≡ true)
     × ((read_of crl.number tally ≡ Some read) ⊎ IsReadIn crl read))
 IsLatestRead tally records None = (has_crl_key tally ≡ false) ⊎ (latest records.crls ≡ None)
 
--- at once after a CRL without a signature, else as the query gives it
+-- when the next CRL is due: at once (`None`) after a CRL without a signature, else as the query `next-crl` states
 abbrev pub due_after : ReadCrl → Option ℕ → Option ℕ
 due_after read asked = cond read.is_unsigned None asked
 
@@ -88,7 +88,7 @@ abbrev pub due_after_latest : Option ReadCrl → Option ℕ → Option ℕ
 due_after_latest None asked = asked
 due_after_latest (Some read) asked = due_after read asked
 
--- when the next CRL is due at a moment: as the query gives it, or at once if a signer has the key and the latest CRL has no signature
+-- when the next CRL is due at a moment: as `next-crl` states, or at once if a signer has the key and the latest CRL has no signature
 abbrev pub HasDue : Tally → Records → ℕ → Result (Option ℕ) Fault → Type 0
 HasDue tally records now (Ok due) = (asked : Option ℕ) × (read : Option ReadCrl)
     × Has AskNextCrl NextCrlIs records now (Ok asked) × IsLatestRead tally records read

@@ -20,9 +20,9 @@ abbrev pub AnsweredBySigner
 AnsweredBySigner signer_answered signer responder wanted =
     AnsweredAtPath signer_answered (socket_for signer responder wanted)
 
--- the clock has reached the moment, and the answer, if there is one, is the signer's to the message
+-- the clock has reached the moment, and the answer, if there is one, was given by the signer for the message
 pub record IsLineSignature (signer_answered : List ℕ → List ℕ → Type 0) (clock_reached : ℕ → Type 0)
     (known : LineSignature) : Type 0 where
-  pub line_added : clock_reached known.moment
+  pub moment_reached : clock_reached known.moment
   pub line_outcome : IfSome known.preset_signature.answer (λ answer.
       signer_answered known.preset_signature.message.items answer.items)

@@ -102,7 +102,7 @@ enters word =
     || bytes_eq word (codes "crl")
     || bytes_eq word (codes "schedule")
 
--- a logged text has less than 256 bytes, so it was not cut off, and no backslash, so no byte was escaped
+-- a logged text has fewer than 256 bytes, so it was not cut off, and no backslash, so no byte was escaped
 abbrev pub is_whole : List ℕ → Bool
 is_whole text = nat_lt (length text) 256 && not (list_any (λ byte. byte == 92) text)
 
@@ -129,9 +129,9 @@ unnamed logged_exchange =
     else if is_whole logged_exchange.asked then Command Line
     else Unknown
 
--- the meaning of a logged exchange: `Unknown` if a quotation mark follows (of two lines, the first not whole); else by `named_in` or `unnamed`
-unfoldable pub logged_of : LoggedExchange → LogMeaning
-logged_of logged_exchange =
+-- the meaning of a logged exchange: `Unknown` if a quotation mark follows the answer (two lines ran together); else by `named_in` or `unnamed`
+unfoldable pub log_meaning_of : LoggedExchange → LogMeaning
+log_meaning_of logged_exchange =
     if has_quote logged_exchange.behind then Unknown
     else unwrap_or (named_in (fields_of logged_exchange.behind)) (unnamed logged_exchange)
 
@@ -139,15 +139,15 @@ logged_of logged_exchange =
 abbrev pub LogsNothing : List ℕ → Type 0
 LogsNothing line = ((exchange_in (line_of line) ≡ None) × IsFalse (has_quote (line_of line)))
     ⊎ ((logged_exchange : LoggedExchange) × (exchange_in (line_of line) ≡ Some logged_exchange)
-    × (logged_of logged_exchange ≡ Nothing))
+    × (log_meaning_of logged_exchange ≡ Nothing))
 
 -- a line of the log has a quotation mark but no exchange, or an exchange that means `Unknown`
 abbrev pub LogsPart : List ℕ → Type 0
 LogsPart line = ((exchange_in (line_of line) ≡ None) × IsTrue (has_quote (line_of line)))
     ⊎ ((logged_exchange : LoggedExchange) × (exchange_in (line_of line) ≡ Some logged_exchange)
-    × (logged_of logged_exchange ≡ Unknown))
+    × (log_meaning_of logged_exchange ≡ Unknown))
 
 -- a line of the log has this exchange, which means this command
 abbrev pub LogsEntry : List ℕ → LoggedExchange → Entry → Type 0
 LogsEntry line logged_exchange entry =
-    (exchange_in (line_of line) ≡ Some logged_exchange) × (logged_of logged_exchange ≡ Command entry)
+    (exchange_in (line_of line) ≡ Some logged_exchange) × (log_meaning_of logged_exchange ≡ Command entry)

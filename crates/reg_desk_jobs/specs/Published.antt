@@ -33,7 +33,7 @@ missing_revocation is_revoked serial =
 abbrev pub missing_at : Records → ℕ → ℕ → List ℕ
 missing_at records moment serial = missing_revocation (is_revoked (status records serial moment)) serial
 
--- a line for each item of a published CRL that the records lack at their last moment, the last accepted one
+-- a line for each item of a published CRL that the records lack at `records.last`, the moment of the last accepted command
 abbrev pub missing_text : Records → ℕ → List ℕ → List ℕ
 missing_text records number serials =
     missing_crl (option_map row_of (latest records.crls)) number
@@ -45,7 +45,7 @@ FindsNothing NoCrl failure.NotACrl = NoCrl
 FindsNothing NoCrl (failure.Fault why) = Unit {0}
 FindsNothing NoCrl other = ⊥
 
--- the lines for the missing serial numbers of entries were appended; or nothing was found, such as if the bytes are not entries
+-- the lines for the missing serial numbers of entries were appended; or nothing was found, for example because the bytes are no entries
 abbrev pub AppendsMissing : Records → ℕ → List ℕ → List ℕ → List ℕ → Result (Unit {0}) Failure → Type 0
 AppendsMissing records moment entries old new (Ok done) =
     (serials : List ℕ) × AreEntries entries serials []
@@ -53,7 +53,7 @@ AppendsMissing records moment entries old new (Ok done) =
 AppendsMissing records moment entries old new (Err why) =
     FindsNothing ((serials : List ℕ) → ¬ AreEntries entries serials []) why
 
--- the lines for the items of the CRL in these bytes that the records lack; or nothing was found, such as if the bytes are no CRL
+-- the lines for the items of the CRL in these bytes that the records lack; or nothing was found, for example because the bytes are no CRL
 abbrev pub FindsMissing : Records → List ℕ → Result (List ℕ) Failure → Type 0
 FindsMissing records bytes (Ok lines) =
     (number : ℕ) × (serials : List ℕ) × IsCrlWith bytes number serials
@@ -65,7 +65,7 @@ FindsMissing records bytes (Err why) =
 abbrev pub FindsIn : Records → Option (List ℕ) → Result (List ℕ) Failure → Type 0
 FindsIn records input found = (bytes : List ℕ) × IsInput input bytes × FindsMissing records bytes found
 
--- the records have all of the CRL in an input: a latest CRL with its number or a higher one; each serial number in it is revoked at `records.last`
+-- the records have all of the CRL in an input: its number is not above that of the latest CRL; each serial number in it is revoked at `records.last`
 abbrev pub HasAll : Records → Option (List ℕ) → Type 0
 HasAll records input =
     (bytes : List ℕ) × (number : ℕ) × (serials : List ℕ) × IsInput input bytes

@@ -19,13 +19,13 @@ last_second not_before days = not_before + (days * 86400 - 1)
 unfoldable pub latest_text : ℕ → List ℕ
 latest_text at = codes "notAfter at most " ++ moment_text at
 
--- the reason if the clock is too far ahead: the last accepted moment
+-- the reason if the clock is too far ahead: the moment of the last accepted command
 unfoldable pub ahead_text : ℕ → List ℕ
-ahead_text last = codes "the clock is more than 30 days past " ++ moment_text last
+ahead_text last = codes "the clock is more than 30 days past the last command, " ++ moment_text last
 
 -- a text with a number, such as that of an order or a CRL
-abbrev pub order_text : List ℕ → ℕ → List ℕ → List ℕ
-order_text prefix order end = prefix ++ decimal order ++ end
+abbrev pub text_with_number : List ℕ → ℕ → List ℕ → List ℕ
+text_with_number prefix order end = prefix ++ decimal order ++ end
 
 -- the reason if a request is for another serial number than the line's: that number
 abbrev pub other_text : ℕ → ℕ → List ℕ
@@ -33,14 +33,14 @@ other_text request serial = codes "request " ++ decimal request ++ codes " is fo
 
 -- the text of a reason
 abbrev pub reason_text : Reason → List ℕ
-reason_text (NoOrder order) = order_text (codes "no order ") order []
-reason_text (Filled order) = order_text (codes "order ") order (codes " already has a certificate")
+reason_text (NoOrder order) = text_with_number (codes "no order ") order []
+reason_text (Filled order) = text_with_number (codes "order ") order (codes " already has a certificate")
 reason_text (Latest at) = latest_text at
 reason_text (OtherSerial request serial) = other_text request serial
 reason_text (ClockAhead last) = ahead_text last
 reason_text (Wrong wrong) = wrong_text wrong
 reason_text (Unsigned number) =
-    order_text (codes "CRL ") number (codes " has a placeholder digest: the next one is due at once")
+    text_with_number (codes "CRL ") number (codes " has a placeholder digest: the next one is due at once")
 
 -- the line is a prefix, the text of a reason, and an LF; without a reason there is no line
 abbrev pub IsReasonLine : List ℕ → Option Reason → List ℕ → Type 0

@@ -9,7 +9,7 @@ IsCreateFailure (failure.Fault fault) = IsOfStore fault
 IsCreateFailure failure.NotEmpty = Unit {0}
 IsCreateFailure other = ⊥
 
--- to open one: such a fault, a file that holds no register of a version up to this program's, `bad-signer` or `bad-responder`
+-- to open one: out of memory, a failure of the store, a file without a register of a version up to this program's, `bad-signer` or `bad-responder`
 abbrev pub IsOpenFailure : Failure → Type 0
 IsOpenFailure (failure.Fault fault) = IsOfStore fault
 IsOpenFailure failure.NotARegister = Unit {0}
@@ -18,7 +18,7 @@ IsOpenFailure failure.BadSigner = Unit {0}
 IsOpenFailure failure.BadResponder = Unit {0}
 IsOpenFailure other = ⊥
 
--- to check or copy a file: such a fault, or a file that holds no register
+-- to check or copy a file: out of memory, a failure of the store, or a file without a register
 abbrev pub IsReadFailure : Failure → Type 0
 IsReadFailure (failure.Fault fault) = IsOfStore fault
 IsReadFailure failure.NotARegister = Unit {0}

@@ -2,7 +2,7 @@
 use Rattle.std.specs.Prelude.{◌≡◌, ℕ, List, Result, Ok, Err}
 use Rattle.reg_core.specs.Records.{Records}
 use Rattle.reg_core.specs.declared.refusal.Fault.{Fault}
-use Rattle.reg_office_api.specs.Signatories.{Signatory}
+use Rattle.reg_office_api.specs.Signers.{OfficeSigners}
 use Rattle.reg_office_api.specs.Leads.{Leads}
 use Rattle.reg_office_api.specs.declared.office.Office.{Ghosts as Office}
 use Rattle.reg_desk_cli.specs.declared.failure.Failure.{Failure}
@@ -31,7 +31,7 @@ module _ {M O D S R : Type 0} (machines : Machine M O D S R) (offices : Office O
   -- The register at a path was opened for these signatures, and then closed. `step` relates any records that stood in it to those that stand
   -- in it afterwards, if the disk returned all that was written.
   pub record UsesRegister (path : List ℕ) (signing : Signing)
-      (step : Signatory → Records → Records → Type 0) : Type 0 where
+      (step : OfficeSigners → Records → Records → Type 0) : Type 0 where
     pub first : O
     pub last : O
     pub between : M
@@ -42,7 +42,7 @@ module _ {M O D S R : Type 0} (machines : Machine M O D S R) (offices : Office O
   -- a register was created at a path with these records, and then closed
   pub record Creates (path : List ℕ) (records : Records) : Type 0 where
     pub register : O
-    pub identity : Signatory
+    pub identity : OfficeSigners
     pub between : M
     pub made : Created machines machine path register between
     pub stands : offices.stands identity register records

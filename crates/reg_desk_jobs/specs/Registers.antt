@@ -6,7 +6,7 @@ use Rattle.reg_desk_jobs.specs.Signers.{HasCertificate, Signing}
 use Rattle.reg_desk_jobs.specs.declared.machine.Machine.{Ghosts as Machine}
 
 module _ {M O D S R : Type 0} (machines : Machine M O D S R) (machine : M) (path : List ℕ) where
-  -- The file at a path was opened as a database: this one, and the machine after it.
+  -- The file at a path was opened as this database, over which no statement ran yet, and this is the machine after that.
   abbrev pub Connects : D → M → Type 0
   Connects database machine' = machines.connected machine path database machine' × machines.fresh database
 

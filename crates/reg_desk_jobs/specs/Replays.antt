@@ -34,8 +34,8 @@ text_to_send numbers logged_exchange (Decision id serial) =
 abbrev pub line_to_send : List Renumbered → LoggedExchange → Entry → List ℕ
 line_to_send numbers logged_exchange entry = text_to_send numbers logged_exchange entry ++ 10 ∷ []
 
--- whether a reply agrees with that of the log: in its first two words; for a decision, which may be late now, in the first one; for a request, which
--- may have come over HTTP, its first word is `request`
+-- whether a reply agrees with that of the log: in its first two words; for a decision, whose second word may be `late` now, in the first one; for a
+-- request, which may have come over HTTP, if its first word is `request`
 abbrev pub agrees : LoggedExchange → Entry → List ℕ → Bool
 agrees logged_exchange Line reply =
     bytes_eq (first_word reply) (first_word logged_exchange.answered)
@@ -132,7 +132,7 @@ ReplaysLog input s t (Err why) = IsConversationFault why
     ⊎ ((log : List (List ℕ)) × (m : ReplayState) × (left : List ℕ) × AreWhole log × Replayed s log m
     × IsInput input (concat log ++ left) × Stops m left t why)
 
--- the same, with no numbers at the start
+-- the same; at the start of a replay, no request has another number than in the log
 abbrev pub Replays
     : Option (List ℕ) → Option (List ℕ) → Option (List ℕ) → Option (List ℕ) → Option (List ℕ)
     → Option (List ℕ) → Option (List ℕ)

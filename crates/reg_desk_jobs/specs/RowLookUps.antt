@@ -39,7 +39,7 @@ refusal_of (Request id) = NoRequest
 refusal_of (Certificate serial) = UnknownSerial
 refusal_of (Subscriber name) = NoSubscriber
 
--- why a look-up fails: the moment is before the last accepted one, or at or past `clock_end`; or out of memory, or a failure of the store
+-- why a look-up fails: the moment is before that of the last command, or at or past `clock_end`; or out of memory, or a failure of the store
 abbrev pub FailsAt : Records → ℕ → Fault → Type 0
 FailsAt records now (Refused refusal) = first_refusal (clock_checks now records.last) ≡ Some refusal
 FailsAt records now Memory = Unit {0}

@@ -14,7 +14,7 @@ use Rattle.reg_desk_cli.specs.declared.job.RowTask.{RowTask}
 use Rattle.reg_desk_cli.specs.declared.job.RowTask.TheVariants.{Register, Revoke}
 use Rattle.reg_lines.specs.Accepted.{IsAccepted}
 use Rattle.reg_lines.specs.Script.{line_of}
-use Rattle.reg_desk_jobs.specs.Conversations.{AreWhole, IsInput, IsConversationFault, IsWhyBy}
+use Rattle.reg_desk_jobs.specs.Conversations.{AreWhole, IsInput, IsConversationFault, IsFailureBy}
 use Rattle.reg_desk_jobs.specs.LogEntries.{first_word, second_word}
 use Rattle.reg_desk_jobs.specs.declared.row_job.RegistrationRow.{RegistrationRow}
 use Rattle.reg_desk_jobs.specs.declared.row_job.RevocationRow.{RevocationRow}
@@ -169,7 +169,7 @@ module _ (task : RowTask) where
       × IsInput input (concat lines) × AllByRecursion IsRowDone replies
   SendsRows input s t out out' (Err why) = IsConversationFault why
       ⊎ ((lines replies : List (List ℕ)) × (left : List ℕ) × RepliesWritten s t out out' lines replies
-      × IsInput input (concat lines ++ left) × IsWhyBy IsRowDone replies left why)
+      × IsInput input (concat lines ++ left) × IsFailureBy IsRowDone replies left why)
 
   -- over a connection about which nothing else is known: the job failed with nothing written, or as `SendsRows` states
   abbrev pub SendsRowsOver

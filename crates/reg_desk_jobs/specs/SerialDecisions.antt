@@ -9,7 +9,7 @@ use Rattle.reg_core.specs.declared.rows.RequestRow.{RequestRow}
 use Rattle.reg_core_lists.specs.declared.rows.Row.{Row}
 use Rattle.reg_core_lists.specs.declared.rows.Row.TheVariants as kind
 use Rattle.reg_office_api.specs.CallSteps.{Signs}
-use Rattle.reg_office_api.specs.Signatories.{Signatory}
+use Rattle.reg_office_api.specs.Signers.{OfficeSigners}
 use Rattle.reg_lines.specs.Answer.{OfficeAnswers, reply_of}
 use Rattle.reg_lines.specs.ByCalls.{Lines}
 use Rattle.reg_lines.specs.Meaning.{means_command}
@@ -30,7 +30,7 @@ IsForOther records serial_decision =
     request.serial ≢ serial_decision.serial)
 
 -- a command ran, and this is its reply; or the reply is out of memory, or empty, and no record changes
-abbrev pub RunsAt : Signs → ℕ → Signatory → Records → Command → List ℕ → Records → Type 0
+abbrev pub RunsAt : Signs → ℕ → OfficeSigners → Records → Command → List ℕ → Records → Type 0
 RunsAt signs now identity before command text after =
     ((answered : Answered)
     × OfficeAnswers (Lines signs identity) now before (means_command command) answered after
@@ -38,7 +38,7 @@ RunsAt signs now identity before command text after =
     ⊎ (ReportsFault Memory text × (after ≡ before))
 
 -- a decision and its reply: the refusal `NoRequest` if the request is for another serial number, else that of the command; or why the look-up failed
-abbrev pub DecidesAt : Signs → ℕ → Signatory → Records → SerialDecision → List ℕ → Records → Type 0
+abbrev pub DecidesAt : Signs → ℕ → OfficeSigners → Records → SerialDecision → List ℕ → Records → Type 0
 DecidesAt signs now identity before serial_decision text after =
     (IsForOther before serial_decision × ReportsFault (Refused NoRequest) text × (after ≡ before))
     ⊎ (((¬ IsForOther before serial_decision)

@@ -3,7 +3,7 @@ use Rattle.std.specs.Prelude.{◌≡◌, ◌≢◌, ◌⊎◌, ℕ, Bool, IsTrue
 use Rattle.std.specs.Io.KnownBytes.{Appends}
 use Rattle.reg_core.specs.Records.{Records}
 use Rattle.reg_core.specs.declared.refusal.Fault.TheVariants as fault
-use Rattle.reg_office_api.specs.Signatories.{Signatory}
+use Rattle.reg_office_api.specs.Signers.{OfficeSigners}
 use Rattle.reg_office_api.specs.CallSteps.{Signs}
 use Rattle.reg_desk_server.specs.Exchange.{Input, Outcome, Handles, requests_in}
 use Rattle.reg_office_api.specs.declared.office.Office.{Ghosts as Office}
@@ -17,7 +17,7 @@ use Rattle.reg_desk_cli.specs.declared.failure.Failure.TheVariants as failure
 use Rattle.reg_desk_jobs.specs.Admission.{first_admission}
 use Rattle.reg_desk_jobs.specs.Exchanges.{AnswersBy}
 use Rattle.reg_desk_jobs.specs.FinishedResponses.{FinishesUnsigned, Meets}
-use Rattle.reg_desk_jobs.specs.ControlWords.{IsAdmissionAfter, Word}
+use Rattle.reg_desk_jobs.specs.ControlWords.{IsAdmissionAfter, AnswersLineByClock}
 use Rattle.reg_desk_jobs.specs.Signers.{AnsweredByOcspSigner}
 use Rattle.reg_desk_jobs.specs.declared.admission.Admission.{Admission}
 use Rattle.reg_desk_jobs.specs.declared.machine.Machine.{Ghosts as Machine}
@@ -31,10 +31,10 @@ DeskState = Records × Admission
 
 -- The outcome of a request at a desk that is open or not: the text of an exchange; or a response to be signed, such that any text that finishes it is
 -- that of an exchange. In both cases the exchange is over the records at its place among the other inputs. So each answer shows the state at a time
--- between its request and its sending, and includes each revocation that was answered before. A signature that finishes it was given by the signer
--- (`signer_answered`) for exactly the message that is signed.
+-- between its request and its sending, and includes each revocation that was answered before. The signature that finishes a response was given by
+-- the signer (`signer_answered`) for exactly the message that is signed.
 abbrev pub Exchanging
-    : Bool → Signs → (List ℕ → List ℕ → Type 0) → (ℕ → Type 0) → Signatory → DeskState → List ℕ
+    : Bool → Signs → (List ℕ → List ℕ → Type 0) → (ℕ → Type 0) → OfficeSigners → DeskState → List ℕ
     → Outcome Unsigned → DeskState → Type 0
 Exchanging is_open signs signer_answered clock_reached identity before request outcome after =
     Meets (FinishesUnsigned signer_answered)
@@ -42,32 +42,32 @@ Exchanging is_open signs signer_answered clock_reached identity before request o
     outcome
 
 -- a line at the control socket, which only an open desk has
-abbrev pub OpenWord
-    : Bool → Signs → (ℕ → Type 0) → Signatory → DeskState → List ℕ → List ℕ → DeskState → Type 0
-OpenWord is_open signs clock_reached identity before line text after =
+abbrev pub AnswersControlLine
+    : Bool → Signs → (ℕ → Type 0) → OfficeSigners → DeskState → List ℕ → List ℕ → DeskState → Type 0
+AnswersControlLine is_open signs clock_reached identity before line text after =
     IsTrue is_open × IsAdmissionAfter line before.1 after.1
-    × Word before.1.accepted signs clock_reached identity before.0 line text after.0
+    × AnswersLineByClock before.1.accepted signs clock_reached identity before.0 line text after.0
 
--- a line whose message is made, and that is answered later, changes nothing yet
-abbrev pub Unmoved : DeskState → List ℕ → DeskState → Type 0
-Unmoved before line after = (after.0 ≡ before.0) × (after.1 ≡ before.1)
+-- a line that waits for a signature, and is answered later, changes nothing yet
+abbrev pub StateStays : DeskState → List ℕ → DeskState → Type 0
+StateStays before line after = (after.0 ≡ before.0) × (after.1 ≡ before.1)
 
 -- What requests, and lines at an open desk, did to the records: one after the other, and nothing else changed them. The admission starts as
 -- `first_admission`, and only they change it.
 abbrev pub Serves
     : Bool → Signs → (List ℕ → List ℕ → Type 0) → (ℕ → Type 0) → List Input → List (Outcome Unsigned)
-    → Signatory → Records → Records → Type 0
+    → OfficeSigners → Records → Records → Type 0
 Serves is_open signs signer_answered clock_reached inputs outcomes identity before after =
     (admission : Admission)
     × Answered (Handles (Exchanging is_open signs signer_answered clock_reached identity)
-    (OpenWord is_open signs clock_reached identity) Unmoved)
+    (AnswersControlLine is_open signs clock_reached identity) StateStays)
     (before, first_admission) inputs outcomes (after, admission)
 
 -- the same at a desk with the options' signers, over the offices of a machine
 abbrev pub ServesOn
     : {M O D S R : Type 0} → Machine M O D S R → Office O → Option SignerAddress → ResponderChoice → Bool
     → List Input
-    → List (Outcome Unsigned) → Signatory → Records → Records → Type 0
+    → List (Outcome Unsigned) → OfficeSigners → Records → Records → Type 0
 ServesOn machines offices signer responder is_open =
     Serves is_open offices.signs (AnsweredByOcspSigner machines.signer_answered signer responder)
     machines.clock_reached
@@ -81,8 +81,8 @@ loopback V6 = 0 ∷ 0 ∷ 0 ∷ 0 ∷ 0 ∷ 0 ∷ 0 ∷ 0 ∷ 0 ∷ 0 ∷ 0 ∷ 
 abbrev pub listening : ℕ → List ℕ
 listening port = codes "listening " ++ (decimal port ++ 10 ∷ [])
 
--- nothing was answered, and the job failed with `Read` or `Memory`: the port could not be bound, the control socket could not be created, they could
--- not be polled, or out of memory
+-- nothing was answered, and the job failed with `Read` or `Memory`: the port could not be bound, the control socket could not be created, these
+-- sockets could not be polled, or out of memory
 abbrev pub Unbound : List Input → Result (Unit {0}) Failure → Type 0
 Unbound inputs result =
     (inputs ≡ []) × ((result ≡ Err (failure.Fault fault.Read)) ⊎ (result ≡ Err (failure.Fault fault.Memory)))

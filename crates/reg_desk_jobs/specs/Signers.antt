@@ -1,6 +1,6 @@
 -- The signers with which a register is opened.
 use Rattle.std.specs.Prelude.{◌≡◌, ◌⊎◌, ℕ, List, Option, Some, None, IfSome, MatchOption, option_map}
-use Rattle.reg_office_api.specs.Signatories.{Responder, Signatory, signs_both}
+use Rattle.reg_office_api.specs.Signers.{Responder, OfficeSigners, signs_both}
 use Rattle.reg_core.specs.Crls.{latest}
 use Rattle.reg_core.specs.Records.{Crl, Records}
 use Rattle.reg_crl.specs.Signing.{Identity}
@@ -8,7 +8,7 @@ use Rattle.reg_ocsp.specs.Certificate.{IsCertificateOf}
 use Rattle.reg_crl_signer.specs.Algorithms.{key_identifier_of}
 use Rattle.reg_crl_signer.specs.KeyOrDigestSignatures.{digest}
 use Rattle.reg_crl_signer.specs.Forms.{identity_of}
-use Rattle.reg_crl_signer.specs.Signed.{IsCrlUnder}
+use Rattle.reg_crl_signer.specs.Signed.{IsCrlWithAlgorithm}
 use Rattle.reg_desk_jobs.specs.SignerAnswers.{AnsweredAtPath}
 use Rattle.reg_desk_jobs.specs.declared.crl_signer.CrlSigner.{CrlSigner}
 use Rattle.reg_desk_jobs.specs.declared.crl_signer.CrlSigner.TheVariants.{NoSigner, Digest, KeyAt}
@@ -26,7 +26,7 @@ crl_signer_of None (Delegate certificate address) = NoSigner
 abbrev pub Signing : Type 0
 Signing = CrlSigner × ResponderChoice
 
--- the same, from the options
+-- the signers that the options name
 abbrev pub signing_with : Option SignerAddress → ResponderChoice → Signing
 signing_with signer responder = (crl_signer_of signer responder, responder)
 
@@ -83,16 +83,16 @@ pub record IsDelegate (address : SignerAddress) (responder : Responder) : Type 0
   }
 
 -- the given responder, besides the signer of CRLs: it is that signer, perhaps with a certificate; or a delegated responder
-abbrev pub IsAnswering : ResponderChoice → Signatory → Type 0
-IsAnswering (Issuer None) signatory = signatory ≡ signs_both signatory.crls
-IsAnswering (Issuer (Some path)) signatory =
+abbrev pub IsAnswering : ResponderChoice → OfficeSigners → Type 0
+IsAnswering (Issuer None) signers = signers ≡ signs_both signers.crls
+IsAnswering (Issuer (Some path)) signers =
     (certificate : List ℕ)
-    × (signatory.answers ≡ record {
-      identity = signatory.crls;
+    × (signers.answers ≡ record {
+      identity = signers.crls;
       own_key = None;
       certificate = Some certificate;
     })
-IsAnswering (Delegate path address) signatory = IsDelegate address signatory.answers
+IsAnswering (Delegate path address) signers = IsDelegate address signers.answers
 
 -- a certificate in OCSP responses that the signer of CRLs signs has this key, the issuer's
 abbrev pub EmbeddedKeyFits : List ℕ → Responder → Type 0
@@ -110,5 +110,5 @@ MayFollow algorithm earlier = (earlier ≡ algorithm) ⊎ (earlier ≡ digest.al
 -- if there is a latest CRL, a CRL with this algorithm may follow it
 abbrev pub Follows : Records → List ℕ → Type 0
 Follows records algorithm =
-    (crl : Crl) → latest records.crls ≡ Some crl → (other : List ℕ) → IsCrlUnder crl.bytes other
+    (crl : Crl) → latest records.crls ≡ Some crl → (other : List ℕ) → IsCrlWithAlgorithm crl.bytes other
     → MayFollow algorithm other

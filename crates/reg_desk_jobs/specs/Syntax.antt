@@ -9,7 +9,7 @@ use Rattle.reg_desk_jobs.specs.declared.syntax.Field.TheVariants.{Name, Subscrib
 use Rattle.reg_desk_jobs.specs.declared.syntax.WrongField.{WrongField}
 use Rattle.reg_desk_jobs.specs.declared.syntax.WrongField.TheVariants.{Malformed, Missing, TooMany}
 
--- the fields of a command or query, by its word; the optional serial number of `revoke` and `decline` is among them
+-- the fields of a command or query that takes some, by its word (not of `ocsp`); the optional serial number of `revoke` and `decline` is among them
 abbrev pub fields_wanted : List ℕ → Option (List Field)
 fields_wanted word =
     if bytes_eq word (codes "subscriber") then Some (Name ∷ [])
@@ -22,16 +22,16 @@ fields_wanted word =
     else None
 
 -- whether the text of a field is well-formed
-abbrev pub is_written : Field → List ℕ → Bool
-is_written Name text = is_some (label_of text)
-is_written Ground text = is_some (label_of text)
-is_written Subscriber text = is_some (number_of text)
-is_written Days text = is_some (number_of text)
-is_written Order text = is_some (number_of text)
-is_written Request text = is_some (number_of text)
-is_written Serial text = is_some (serial_of text)
-is_written NotBefore text = is_some (moment_of text)
-is_written NotAfter text = is_some (moment_of text)
+abbrev pub is_well_formed : Field → List ℕ → Bool
+is_well_formed Name text = is_some (label_of text)
+is_well_formed Ground text = is_some (label_of text)
+is_well_formed Subscriber text = is_some (number_of text)
+is_well_formed Days text = is_some (number_of text)
+is_well_formed Order text = is_some (number_of text)
+is_well_formed Request text = is_some (number_of text)
+is_well_formed Serial text = is_some (serial_of text)
+is_well_formed NotBefore text = is_some (moment_of text)
+is_well_formed NotAfter text = is_some (moment_of text)
 
 -- the first field that is missing or malformed, or that there is one too many; none if the fields are as wanted
 abbrev pub first_wrong : List Field → List (List ℕ) → Option WrongField
@@ -39,9 +39,9 @@ first_wrong [] [] = None
 first_wrong [] (text ∷ rest) = Some TooMany
 first_wrong (field ∷ wanted) [] = Some (Missing field)
 first_wrong (field ∷ wanted) (text ∷ rest) =
-    if is_written field text then first_wrong wanted rest else Some (Malformed field)
+    if is_well_formed field text then first_wrong wanted rest else Some (Malformed field)
 
--- the same for the fields of a line, of which the first is its word; none for a word that is not known
+-- the same for the fields of a line, of which the first is its word; none for a word to which `fields_wanted` gives none, such as `crl`
 abbrev pub wrong_in : List (List ℕ) → Option WrongField
 wrong_in [] = None
 wrong_in (word ∷ fields) = option_and_then (λ wanted. first_wrong wanted fields) (fields_wanted word)
@@ -72,4 +72,4 @@ form_text NotAfter = codes " is not a moment such as 2026-01-01T00:00:00Z"
 abbrev pub wrong_text : WrongField → List ℕ
 wrong_text (Malformed field) = name_text field ++ form_text field
 wrong_text (Missing field) = name_text field ++ codes " is missing"
-wrong_text TooMany = codes "more fields than the command takes"
+wrong_text TooMany = codes "more fields than this line takes"

@@ -4,7 +4,7 @@
 ghost use Rattle.std.specs.Prelude.{◌≡◌, IfOk, None, replicate};
 ghost use Rattle.reg_office_api.specs.Calls.{LeadsIn, LooksIn};
 ghost use Rattle.reg_http.specs.RoutedRequests.{asked, requested_serial};
-ghost use Rattle.reg_desk_jobs.specs.Admission.{BeginsAdmitted, CountsRequest, IsRefusedBy, MeetsLimits, after_request, after_request_if, first_admission, is_rate_reached as reached_at, limit_by, after_one_more};
+ghost use Rattle.reg_desk_jobs.specs.Admission.{BeginsAdmitted, CountsRequest, IsRefusedBy, ChecksLimits, after_request, after_request_if, first_admission, is_rate_reached as reached_at, limit_by, after_one_more};
 
 use crate::machine::Machine;
 use http::Method;
@@ -86,8 +86,8 @@ pub(crate) fn begin_admitted<M: Machine>(
     body: &[u8],
 ) -> Result<ReadyOrUnsigned<Answered, Draft>, Memory>
     ensures moves { LeadsIn M.Office.Office
-        (λ signatory before after.
-        BeginsAdmitted admission.old M.Office.signs now signatory before
+        (λ signers before after.
+        BeginsAdmitted admission.old M.Office.signs now signers before
         (asked method.now target.now body.now) result after)
         office.old office.new }
     ensures counted { CountsRequest result
@@ -112,7 +112,7 @@ fn refusal_of<M: Machine>(
     serial: Serial,
 ) -> Result<Option<Answered>, Memory>
     ensures looks { LooksIn M.Office.Office
-        (λ records. IfOk result (MeetsLimits admission.old records now serial)) office.old office.new }
+        (λ records. IfOk result (ChecksLimits admission.old records now serial)) office.old office.new }
     ensures counted { admission.new ≡ after_request now admission.old }
 {
     if admission.recent.is_rate_reached(now) {
@@ -137,6 +137,7 @@ fn refused(alloc: Global, status: u16) -> Result<Option<Answered>, Memory>
     Ok(Some(refuse(alloc, status)?))
 }
 
+/// The status of the refusal: 503 if the clock is too far ahead, or if less than a tenth of `cap` is left; else 429 for [`MOST_OPEN`] open requests.
 fn limit_of(request_load: RequestLoad, is_ahead: bool) -> Option<u16>
     ensures { result ≡ limit_by request_load is_ahead }
 {

@@ -30,9 +30,9 @@ pub(crate) enum Next {
 /// The result of the next line of a conversation with a control socket.
 #[derive(Clone, Copy)]
 enum Step {
-    /// It was sent; `true` if its reply was no refusal and no fault.
+    /// The line was sent; `true` if its reply was no refusal and no fault.
     Replied(bool),
-    /// It has no line end, and was not sent.
+    /// The last line has no line end, and was not sent.
     Cut,
     /// There is no line left.
     End,
@@ -56,7 +56,7 @@ pub fn at<M: Machine, R: Read, W: Write>(
     }
 }
 
-/// Sends each row of a CSV file in the same way, as a `register` line. `Read`, and nothing is sent, if the file can't be read or has over 16 MiB.
+/// Sends each row of a CSV file, except its header, as a `register` line. `Read`, and nothing is sent, if the file can't be read or has over 16 MiB.
 pub fn at_rows<M: Machine, R: Source, W: Write>(
     alloc: Global,
     machine: &M,

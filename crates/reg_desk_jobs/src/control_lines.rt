@@ -5,7 +5,7 @@ ghost use Rattle.reg_lines.specs.Answer.{reply_of};
 ghost use Rattle.reg_office_api.specs.Calls.{KeepsIn, LeadsIn, LooksIn};
 ghost use Rattle.reg_desk_jobs.specs.ControlReplies.{IsReplyText, ReportsLineOutcome, line_outcome_of};
 ghost use Rattle.reg_desk_jobs.specs.Counted.{CountsLine, SignatureFailed};
-ghost use Rattle.reg_desk_jobs.specs.ControlWords.{AtClock, CommandAt, HasCommand, IsAcceptedAfter, LineAt, MeetsClock, WordAt};
+ghost use Rattle.reg_desk_jobs.specs.ControlWords.{AtClock, CommandAt, HasCommand, IsAcceptedAfter, LineAt, ChecksClock, AnswersLineAt};
 ghost use Rattle.reg_desk_jobs.specs.Schedules.{SetAt, SetsSteps, RepliesSetting};
 ghost use Rattle.reg_desk_jobs.specs.SerialDecisions.{DecidesAt};
 
@@ -21,7 +21,7 @@ use crate::reasons::{
     reason_line, reason_reply,
 };
 use crate::show::{answer_help, answer_show};
-use crate::words::{AcceptedClock, ControlWord, SerialDecision, read_word};
+use crate::words::{AcceptedClock, ControlWord, SerialDecision, read_control_line};
 use reg_core::{Fault, Moment};
 use reg_desk_cli::{Failure, Steps, schedule_of};
 use reg_desk_metrics::{Tally, is_ahead};
@@ -30,7 +30,7 @@ use reg_office_api::{LineReply, Office};
 use std::alloc::Global;
 
 /// Answers a line at the control socket at a moment, counts it, and logs it if there is a log. `began` is when the desk began to answer it, in
-/// microseconds of the monotonic clock. `accepted` is the moment of the last `accept-clock` line, which this line may be.
+/// microseconds of the monotonic clock. `accepted` is the moment of the last `accept-clock` line, which this line may be. `last_reason` is for `why`.
 pub(crate) fn answer_counted<M: Machine>(
     alloc: Global,
     office: &mut M::Office,
@@ -45,7 +45,7 @@ pub(crate) fn answer_counted<M: Machine>(
 ) -> Vec<u8>
     ensures moves { LeadsIn M.Office.Office
         (λ identity before after.
-        WordAt accepted.old M.Office.signs now identity before line.now result.items after)
+        AnswersLineAt accepted.old M.Office.signs now identity before line.now result.items after)
         office.old office.new }
     ensures accepted { IsAcceptedAfter line.now accepted.old accepted.new }
     ensures counted { CountsLine (SignatureFailed M.Office.failures M.Office.answer_failures
@@ -54,7 +54,7 @@ pub(crate) fn answer_counted<M: Machine>(
 {
     let failures = office.failure_counts();
     let named = decided_request::<M>(alloc, office, machine, now, line);
-    let reply = answer_word::<M>(
+    let reply = answer_control_line::<M>(
         alloc,
         office,
         machine,
@@ -82,7 +82,7 @@ pub(crate) fn answer_counted<M: Machine>(
     reply.text
 }
 
-fn answer_word<M: Machine>(
+fn answer_control_line<M: Machine>(
     alloc: Global,
     office: &mut M::Office,
     machine: &M,
@@ -94,12 +94,12 @@ fn answer_word<M: Machine>(
 ) -> ControlReply
     ensures moves { LeadsIn M.Office.Office
         (λ identity before after.
-        WordAt accepted.old M.Office.signs now identity before line.now result.text.items after)
+        AnswersLineAt accepted.old M.Office.signs now identity before line.now result.text.items after)
         office.old office.new }
     ensures accepted { IsAcceptedAfter line.now accepted.old accepted.new }
     ensures line_outcome { ReportsLineOutcome result.line_outcome result.text.items }
 {
-    match read_word(alloc, line) {
+    match read_control_line(alloc, line) {
         Ok(ControlWord::Help) => answer_help(alloc),
         Ok(ControlWord::Why) => reason_reply(alloc, last_reason),
         Ok(ControlWord::Copy(path)) => answer_copy(alloc, machine, file, path, last_reason),
@@ -139,7 +139,7 @@ fn refusal_by_clock<M: Machine>(
     now: Moment,
     last_reason: &mut Vec<u8>,
 ) -> Option<ControlReply>
-    ensures looks { LooksIn M.Office.Office (λ records. MeetsClock accepted now records result)
+    ensures looks { LooksIn M.Office.Office (λ records. ChecksClock accepted now records result)
         office.old office.new }
     ensures line_outcome { IfSome result (λ reply. ReportsLineOutcome reply.line_outcome reply.text.items) }
 {

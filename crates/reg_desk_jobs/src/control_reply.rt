@@ -1,4 +1,4 @@
-//! A reply at the control socket, and what is counted for its line.
+//! A reply at the control socket, and the effects of its line on the counts.
 
 ghost use Rattle.std.specs.Prelude.{◌≡◌, ◌≤◌, ◌++◌, ◌∷◌, [], ℕ, List, IfOk, vec_capacity};
 ghost use Rattle.reg_core.specs.Lines.{fault_line};
@@ -22,7 +22,7 @@ pub(crate) enum LineOutcome {
     Done,
     /// Any other failure: of such a word, or before a command ran, such as `bad-clock`.
     Failed(Failure),
-    /// No copy was created, because of this fault. It says nothing about the register's own file.
+    /// No copy was created, because of this fault, which is not counted as a failure of the store.
     CopyFault(Fault),
     /// There was no memory for the reply.
     Silent,
@@ -34,11 +34,11 @@ impl LineOutcome {
     {
         match answered {
             Answered::Completed(asked, outcome) => LineOutcome::Completed(*asked, *outcome),
-            Answered::Response(reply) => LineOutcome::Response(reply.is_refusal),
+            Answered::Response(reply) => LineOutcome::Response(reply.has_only_status),
         }
     }
 
-    /// What is counted for the line. `signature_failed` is whether a signature failed during it.
+    /// The effects of the line on the counts. `signature_failed` is whether a signature failed while the desk answered the line.
     pub(crate) fn effects(&self, signature_failed: bool) -> LineEffects
         ensures { result ≡ effects_of signature_failed self.now }
     {

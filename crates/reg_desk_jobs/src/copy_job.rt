@@ -16,7 +16,7 @@ use reg_desk_cli::Failure;
 use std::alloc::{AllocError, Global};
 use std::io::Write;
 
-/// Why no copy was created.
+/// Why no copy was created; `fault` is `Memory` or `Store`.
 #[derive(Clone, Copy, PartialEq, Eq)]
 pub struct CopyFault {
     pub fault: Fault,

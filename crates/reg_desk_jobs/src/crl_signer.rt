@@ -8,7 +8,7 @@ use reg_desk_cli::{Argument, ResponderChoice, SignerAddress};
 /// The signer of CRLs with which a register is opened.
 #[derive(Drop)]
 pub enum CrlSigner<'a> {
-    /// No signer: each CRL fails with a fault of the signer.
+    /// No signer: each new CRL fails with a fault of the signer.
     NoSigner,
     /// CRLs get a placeholder digest instead of a signature.
     Digest,

@@ -18,12 +18,12 @@ use reg_core::{Command, Fault, Moment, Refusal, Reply, RequestRow};
 use reg_core_lists::Row;
 use reg_http::LoggedRequest;
 use reg_lines::{
-    Answered, LONGEST_REPLY, LineKind, ParsedLine, command_in, read_line, without_end,
+    Answered, LONGEST_REPLY, LineKind, ParsedLine, read_line, untimed_line, without_end,
 };
 use reg_office_api::Office;
 use std::alloc::Global;
 
-/// Revokes or declines a request. If it is for another serial number, the line is refused as [`Refusal::NoRequest`], and `why` gives that number.
+/// Revokes or declines a request. `NoRequest` if the request is for another serial number than the line's; `why` then replies with the request's.
 pub(crate) fn answer_serial_decision<M: Machine>(
     alloc: Global,
     office: &mut M::Office,
@@ -140,7 +140,7 @@ fn decided_by(line: &[u8]) -> Option<u64>
     if let Some(serial_decision) = serial_decision_in(without_end(line)) {
         return Some(serial_decision.request);
     }
-    match read_line(command_in(line)?) {
+    match read_line(untimed_line(line)?) {
         Some(ParsedLine::Command(Command::Revoke { request })) => Some(request),
         Some(ParsedLine::Command(Command::Decline { request })) => Some(request),
         _ => None,

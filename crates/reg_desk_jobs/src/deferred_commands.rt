@@ -4,7 +4,7 @@ ghost use Rattle.std.specs.Prelude.{◌≡◌, IfOk, IfSome, OnErr, option_copie
 ghost use Rattle.reg_office_api.specs.Calls.{KeepsIn, LeadsIn};
 ghost use Rattle.reg_desk_jobs.specs.LineSignatures.{AnsweredBySigner, IsLineSignature, socket_for};
 ghost use Rattle.reg_desk_jobs.specs.Signers.{crl_socket};
-ghost use Rattle.reg_desk_jobs.specs.ControlWords.{IsAdmissionAfter, Word};
+ghost use Rattle.reg_desk_jobs.specs.ControlWords.{IsAdmissionAfter, AnswersLineByClock};
 
 use crate::control_lines::answer_counted;
 use crate::desks::Desk;
@@ -68,7 +68,7 @@ fn deferred_of<M: Machine>(
     ensures { KeepsIn M.Office.Office office.old office.new }
 {
     match *command_line {
-        ParsedLine::Ocsp(digits) => look_at_request(alloc, office, ticket, digits),
+        ParsedLine::Ocsp(digits) => deferred_ocsp(alloc, office, ticket, digits),
         _ => Some(Deferred {
             message: office.crl_message(alloc, ticket.moment)?,
             ticket,
@@ -76,7 +76,7 @@ fn deferred_of<M: Machine>(
     }
 }
 
-fn look_at_request<O: Office>(
+fn deferred_ocsp<O: Office>(
     alloc: Global,
     office: &mut O,
     looked: LineTicket,
@@ -297,7 +297,7 @@ impl<'a, 'w, M: Machine> Desk<'a, 'w, M> {
         ensures open { self.new.is_open ≡ self.old.is_open }
         ensures admission { IsAdmissionAfter line.now self.old.admission self.new.admission }
         ensures moves { LeadsIn M.Office.Office
-            (λ identity before after. Word self.old.admission.accepted M.Office.signs M.clock_reached
+            (λ identity before after. AnswersLineByClock self.old.admission.accepted M.Office.signs M.clock_reached
             identity before line.now result.items after)
             self.old.office self.new.office }
     {

@@ -17,7 +17,7 @@ use reg_desk_metrics::{ConnectionTotals, Tally};
 use reg_desk_server::{ConnectionCounts, ConnectionFault, Deferred, EventLoopFault, Handler};
 use reg_http_head::Collected;
 use reg_io::ReadyOrUnsigned;
-use reg_lines::{command_in, read_line};
+use reg_lines::{read_line, untimed_line};
 use std::alloc::Global;
 use std::cell::Cell;
 use std::io;
@@ -41,7 +41,7 @@ pub(crate) struct Desk<'a, 'w, M: Machine> {
     pub(crate) responder: &'a ResponderChoice<'w>,
     /// The back-off of the OCSP signer, for `ocsp` lines at the control socket.
     pub(crate) backoff: Backoff,
-    /// The counts since the register was opened. No clause of `Desk` mentions them. They are in a `Cell`, because `finish` takes `&self` and counts
+    /// The counts since the register was opened. No contract of `Desk` mentions them. They are in a `Cell`, because `finish` takes `&self` and counts
     /// the response that it finishes.
     pub(crate) tally: &'a Cell<Tally>,
     pub(crate) connection_totals: &'a Cell<ConnectionTotals>,
@@ -51,7 +51,7 @@ pub(crate) struct Desk<'a, 'w, M: Machine> {
 impl<'a, 'w, M: Machine> Handler for Desk<'a, 'w, M> {
     ghost use Rattle.std.specs.Prelude.{[], IsTrue};
     ghost use Rattle.reg_office_api.specs.Calls.{KeepsIn, LeadsIn};
-    ghost use Rattle.reg_desk_jobs.specs.ControlWords.{IsAdmissionAfter, Word};
+    ghost use Rattle.reg_desk_jobs.specs.ControlWords.{IsAdmissionAfter, AnswersLineByClock};
     ghost use Rattle.reg_desk_jobs.specs.LineSignatures.{socket_for};
     ghost use Rattle.reg_desk_jobs.specs.Exchanges.{AnswersBy};
     ghost use Rattle.reg_desk_jobs.specs.SignerAnswers.{AtGivenPath, AnsweredAtSomePath};
@@ -72,7 +72,7 @@ impl<'a, 'w, M: Machine> Handler for Desk<'a, 'w, M> {
     // only an open desk has a control socket
     ghost answers_line = { λ s line text t. IsTrue s.is_open × IsTrue t.is_open
         × IsAdmissionAfter line s.admission t.admission × LeadsIn M.Office.Office
-        (λ identity before after. Word s.admission.accepted M.Office.signs M.clock_reached
+        (λ identity before after. AnswersLineByClock s.admission.accepted M.Office.signs M.clock_reached
         identity before line text after)
         s.office t.office };
 
@@ -198,7 +198,7 @@ impl<'a, 'w, M: Machine> Handler for Desk<'a, 'w, M> {
     }
 
     fn defer(&mut self, line: &[u8]) -> Option<Deferred<LineTicket>> {
-        match read_line(command_in(line)?) {
+        match read_line(untimed_line(line)?) {
             Some(command_line) => self.deferred_line(&command_line),
             None => None,
         }
@@ -228,7 +228,7 @@ impl<'a, 'w, M: Machine> Handler for Desk<'a, 'w, M> {
             × KeepsIn M.Office.Office self.old.office self.new.office)
             (λ text. IsTrue self.old.is_open × IsTrue self.new.is_open
             × IsAdmissionAfter line.now self.old.admission self.new.admission × LeadsIn M.Office.Office
-            (λ identity before after. Word self.old.admission.accepted M.Office.signs M.clock_reached
+            (λ identity before after. AnswersLineByClock self.old.admission.accepted M.Office.signs M.clock_reached
             identity before line.now text.items after)
             self.old.office self.new.office)) }
         ensures err { OnErr result ((self.new ≡ self.old) × (last_reason.new ≡ last_reason.old)) }

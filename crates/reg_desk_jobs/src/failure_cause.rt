@@ -6,7 +6,7 @@ ghost use Rattle.reg_desk_jobs.specs.FailureReports.{located_cause_line, locatio
 use reg_core::Cause;
 use std::alloc::{AllocError, Global};
 
-/// The subject of a failed call: an argument or option of `--help`, or standard output. `Log` is the argument LOG, and `LogFile` is `--log-file`.
+/// The argument or option that a failed call was for, named as in `--help`; or standard output. `Log` is the argument LOG; `LogFile` is `--log-file`.
 #[derive(Clone, Copy, PartialEq, Eq)]
 pub enum Location {
     File,

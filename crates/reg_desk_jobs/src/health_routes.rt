@@ -10,7 +10,7 @@ ghost use Rattle.reg_office_api.specs.Calls.{KeepsIn, LooksIn};
 ghost use Rattle.reg_office_api.specs.LookUps.{IsOfStore};
 ghost use Rattle.reg_http.specs.AnswerEffects.{plain, answer_effects};
 ghost use Rattle.reg_crl.specs.Signing.{sha1_algorithm};
-ghost use Rattle.reg_crl_signer.specs.Signed.{IsCrlUnder};
+ghost use Rattle.reg_crl_signer.specs.Signed.{IsCrlWithAlgorithm};
 ghost use Rattle.reg_desk_jobs.specs.HealthRoutes.{ByGet, Has, HasDue, HasFound, HasOverdue, HasRequests, IsCounted, IsLatestRead, IsCrlRead, IsReadAt, IsRecounted, IsUnsigned, KeepsRead, Recounts, AnswersHealth, AnswersMetrics, IsDueUnsigned};
 ghost use Rattle.reg_desk_jobs.specs.HealthRoutes.{due_after, health_response, health_status as status_spec, overdue_count, metrics_response, signing_by};
 ghost use Rattle.reg_desk_cli.specs.declared.desk.TheConstants.{VERSION};
@@ -404,7 +404,7 @@ fn metrics_answer(
 }
 
 /// notAfter of a delegated responder's certificate (RFC 5280 4.1.2.5). `None` if the issuer responds, and if the certificate can't be read.
-pub(crate) fn responder_end<M: Machine>(
+pub(crate) fn responder_not_after<M: Machine>(
     machine: &M,
     responder: &ResponderChoice<'_>,
 ) -> Option<Moment> {

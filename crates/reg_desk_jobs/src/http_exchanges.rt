@@ -86,9 +86,9 @@ pub(crate) fn answer_http<M: Machine>(
     ensures { (begun : BegunOf HttpExchange UnsignedResponses) × (asked : Tallies)
         × IsRecounted tally.old asked
         × LeadsIn M.Office.Office
-        (λ signatory before after.
+        (λ signers before after.
         AnswersBegun (AnsweredAtSomePath M.signer_answered) is_open M.Office.signs now
-        admission.old admission.new signatory before (collected_bytes request.now) begun after)
+        admission.old admission.new signers before (collected_bytes request.now) begun after)
         office.old office.new
         × CountsBegun now (collected_bytes request.now) begun (outcome_of result) asked tally.new }
 {
@@ -137,9 +137,9 @@ fn exchange_at<M: Machine>(
     request: &Collected,
 ) -> ReadyOrUnsigned<Exchange, UnsignedResponse>
     ensures moves { LeadsIn M.Office.Office
-        (λ signatory before after.
+        (λ signers before after.
         AnswersBegun (AnsweredAtSomePath M.signer_answered) is_open M.Office.signs now
-        admission.old admission.new signatory before (collected_bytes request.now) result after)
+        admission.old admission.new signers before (collected_bytes request.now) result after)
         office.old office.new }
     ensures route { IsBegunRoute (collected_bytes request.now) result }
     ensures recounted { IsRecounted tally.old tally.new }
@@ -217,8 +217,8 @@ fn begin_at<M: Machine>(
 ) -> Result<ReadyOrUnsigned<Answered, Draft>, Memory>
     requires { route ≡ route_at (path_of target.now) }
     ensures moves { LeadsIn M.Office.Office
-        (λ signatory before after.
-        BeginsAt is_open M.Office.signs now admission.old signatory before method.now target.now body.now
+        (λ signers before after.
+        BeginsAt is_open M.Office.signs now admission.old signers before method.now target.now body.now
         result after)
         office.old office.new }
     ensures counted { CountsRequest result

@@ -6,7 +6,7 @@ ghost use Rattle.reg_office_api.specs.Calls.{LeadsIn, LooksIn};
 ghost use Rattle.reg_desk_metrics.specs.Ahead.{is_ahead};
 ghost use Rattle.reg_lines.specs.ByCalls.{Lines};
 ghost use Rattle.reg_lines.specs.Strict.{StrictEnds};
-ghost use Rattle.reg_desk_jobs.specs.Ends.{AuditAt, CrlAt, ImportByClock, ImportChecked, InitAt, KeyIdAt, CreatesAt, ScheduleAt, ScriptAt};
+ghost use Rattle.reg_desk_jobs.specs.Ends.{AuditAt, CrlAt, ImportJobEnds, ImportChecked, InitAt, KeyIdAt, CreatesAt, ScheduleAt, ScriptAt};
 ghost use Rattle.reg_desk_jobs.specs.Ends.{PrintsResult, PrintsBroken, PrintsLine, PrintsSetResult, ReportsAuditResult};
 ghost use Rattle.reg_desk_jobs.specs.RegisterUses.{exit_of, exit_of_run};
 ghost use Rattle.reg_office_api.specs.LookUps.{IsOfStore};
@@ -22,7 +22,7 @@ use reg_core::{Fault, Moment, Policy};
 use reg_der::Issuer;
 use reg_desk_cli::{
     Argument, Failure, ImportJob, NewRegister, ResponderChoice, SignerAddress, Steps,
-    key_identifier_of, office_of, schedule_of,
+    issuer_and_policy_of, key_identifier_of, schedule_of,
 };
 use reg_io::{Sink, Source};
 use reg_lines::{Ended, import, import_strictly};
@@ -42,8 +42,8 @@ pub fn ended(ran: Result<(), Fault>) -> Result<(), Failure>
 }
 
 /// Creates a register at a path. The issuer and the policy are checked first. If the job fails and claimed a free path, it removes what it created
-/// there, except a register that another program created there meanwhile. Errors: `BadIssuer`; `BadPolicy`; `NotEmpty` if the file has tables;
-/// `Memory`; `Store`; `Write`.
+/// there, except a register that another program created there meanwhile. Errors: `BadIssuer`; `BadPolicy`; `NotEmpty` if the file has a
+/// table, an index or a view; `Memory`; `Store`; `Write`.
 pub fn init<M: Machine, W: Write>(
     alloc: Global,
     machine: &mut M,
@@ -54,7 +54,7 @@ pub fn init<M: Machine, W: Write>(
         new.now result }
 {
     let path = new.file.as_str();
-    let (issuer, policy) = office_of(
+    let (issuer, policy) = issuer_and_policy_of(
         alloc,
         &new.name,
         &new.key,
@@ -130,7 +130,7 @@ pub fn import_rows<M: Machine, R: Source, W: Sink>(
     reader: &mut R,
     writer: &mut W,
 ) -> Result<(), Failure>
-    ensures { ImportByClock M.Machine M.Office.Office R.remaining W.contents R.failed W.failed
+    ensures { ImportJobEnds M.Machine M.Office.Office R.remaining W.contents R.failed W.failed
         machine.old machine.new reader.old reader.new writer.old writer.new rows.now result }
 {
     match rows.moment {
@@ -277,7 +277,7 @@ pub fn schedule<M: Machine, W: Write>(
 }
 
 /// Sets the key identifier of the issuer of the register at a path, for CRLs from the next one on (RFC 5280 5.2.1). Invalid hexadecimal, or not 1 to
-/// 64 bytes of it, is refused before the path is opened (`BadIssuer`). Other errors: as of [`schedule`].
+/// 64 bytes of it, is refused before the path is opened (`BadIssuer`). Other errors: those of [`schedule`].
 pub fn key_identifier<M: Machine, W: Write>(
     alloc: Global,
     machine: &mut M,
@@ -310,8 +310,8 @@ fn print_set_result<W: Write>(
     }
 }
 
-/// Audits the register at a path, and writes the result. The audit only reads, so no file changes. Errors: `Broken` if a row is broken or the
-/// database has another schema; `OldVersion`; those of [`Machine::read`] and [`Machine::audit_in`]; `Write`.
+/// Audits the register at a path, and writes the result. The audit only reads, so no file changes. Errors: `Broken` if a row is broken, or if
+/// tables, columns or indexes are not those of a register; `OldVersion`; those of [`Machine::read`] and [`Machine::audit_in`]; `Write`.
 pub fn audit<M: Machine, W: Write>(
     alloc: Global,
     machine: &M,

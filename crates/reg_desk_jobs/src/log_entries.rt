@@ -3,7 +3,7 @@
 ghost use Rattle.std.specs.Prelude.{◌≡◌, ◌<◌, IfSome, length, option_map};
 ghost use Rattle.std.specs.List.{position};
 ghost use Rattle.reg_lines.specs.Fields.{fields_of};
-ghost use Rattle.reg_desk_jobs.specs.LogEntries.{accepted, decision_by, enters, exchange_in, exchange_of, first_word, has_quote, is_control, is_quote, is_of_request, is_whole, logged_of, named_in, split_at_quote, request_by, request_named, second_word, unnamed, was_accepted};
+ghost use Rattle.reg_desk_jobs.specs.LogEntries.{accepted, decision_by, enters, exchange_in, exchange_of, first_word, has_quote, is_control, is_quote, is_of_request, is_whole, log_meaning_of, named_in, split_at_quote, request_by, request_named, second_word, unnamed, was_accepted};
 
 use crate::exchange_log::CONTROL_SOCKET;
 use crate::log_lines::MOST_QUOTED;
@@ -89,9 +89,9 @@ pub(crate) fn has_quote(text: &[u8]) -> bool
 }
 
 /// The meaning of an exchange. `Unknown` if another quotation mark follows: then the line begins with an earlier line that was not written whole.
-#[tactic(auto, unfolding(crate::specs::LogEntries::logged_of))]
-pub(crate) fn logged_of(logged_exchange: &ExchangeText<'_>) -> LogMeaning
-    ensures { result ≡ logged_of (exchange_of logged_exchange.now) }
+#[tactic(auto, unfolding(crate::specs::LogEntries::log_meaning_of))]
+pub(crate) fn log_meaning_of(logged_exchange: &ExchangeText<'_>) -> LogMeaning
+    ensures { result ≡ log_meaning_of (exchange_of logged_exchange.now) }
 {
     if has_quote(logged_exchange.behind) {
         return LogMeaning::Unknown;

@@ -21,16 +21,16 @@ use std::os::unix::net::UnixStream;
 use std::time::Duration;
 
 /// The machine that a job runs on. A job reaches a register's files only by these methods, and by the office that they open. The methods that create,
-/// open for writing or remove such files take `&mut self`, except `copy_open`. So a clause that relates the machine before a job to that after it
-/// excludes such a call at another path. A method's relation, such as `claimed`, states what the method did; no proof covers what the system does.
-/// Most methods are one action of the system. Functions that combine several are written over any machine ([`registers`](crate::registers),
+/// open for writing or remove such files take `&mut self`, except `copy_open`. So a contract over the machine before and after a job excludes such
+/// a call at another path. A method's relation, such as `claimed`, states what the method did; no proof covers what the system does. Most methods are
+/// one action of the system. Functions that combine several actions are written over any machine ([`registers`](crate::registers),
 /// [`control_socket`](crate::control_socket)). Errors that a comment does not name: the system's; in a [`Failure`] or [`CopyFault`], `Memory` and
 /// `Store`.
 pub trait Machine {
     ghost use Rattle.std.specs.Prelude.{◌≡◌, ◌≤◌, ◌+◌, ◌⊎◌, ℕ, List, [], IsTrue, IsFalse, MatchBool, OnOk, OnErr, IfOk, IfErr, IfSome, length};
     ghost use Rattle.reg_office_api.specs.Calls.{KeepsIn};
     ghost use Rattle.reg_office_api.specs.LookUps.{IsOfStore};
-    ghost use Rattle.reg_office_api.specs.Signatories.{Signatory};
+    ghost use Rattle.reg_office_api.specs.Signers.{OfficeSigners};
     ghost use Rattle.reg_core.specs.Records.{no_records};
     ghost use Rattle.reg_crl.specs.Signing.{Identity};
     ghost use Rattle.reg_desk_cli.specs.declared.failure.Failure.{Failure as Failing};
@@ -107,7 +107,7 @@ pub trait Machine {
     ghost failed: { Type 0 };
     /// The program waited for its sockets this number of times.
     ghost waited: { ℕ → Type 0 };
-    /// At first it has waited 0 times.
+    /// At first the program has waited 0 times.
     ghost not_waited: { waited 0 };
     /// This port of this address was bound (four bytes, RFC 791 3.1, or sixteen, RFC 4291 2).
     ghost bound: { List ℕ → ℕ → Type 0 };
@@ -146,14 +146,14 @@ pub trait Machine {
     fn remove(&mut self, path: &str)
         ensures { removed self.old path.now self.new };
 
-    /// Checks that the files at a path, which are only read, have the beginning of a database; `NotARegister` if they are empty, `Store` if there
-    /// is no file or something else in it.
+    /// Checks that the files at a path, which are only read, have the beginning of a database. `NotARegister` if there is no database in them yet;
+    /// `Store` if there is no file, if the files can't be read, or if something else is in them.
     fn check_database(&self, path: &str) -> Result<(), Failure>
         ensures begun { OnOk result (begun self.now path.now) }
         ensures read_failed { IfErr result (read_failed self.now path.now) }
         ensures faults { IfErr result IsReadFailure };
 
-    /// Opens the file at a path as a database, and creates one if there is none; `Store` if that can't be done.
+    /// Opens the file at a path as a database, and creates the file and the database if they are missing; `Store` if that can't be done.
     fn connect(&mut self, path: &str) -> Result<Self::Database, Failure>
         ensures connected { IfOk result (λ database. connected self.old path.now database self.new) }
         ensures fresh { IfOk result fresh }
@@ -184,7 +184,7 @@ pub trait Machine {
         ensures opened { IfOk result (opened database crls.now responder) }
         ensures faults { IfErr result IsOpenFailure };
 
-    /// Makes a register with no records in a database, which is closed if that fails: `NotEmpty` if there are tables already.
+    /// Makes a register with no records in a database, which is closed if that fails: `NotEmpty` if it has a table, an index or a view.
     fn create_in(
         &self,
         database: Self::Database,
@@ -194,7 +194,7 @@ pub trait Machine {
         requires { fresh database }
         ensures made { IfOk result (made database) }
         ensures stands { IfOk result (λ office.
-            (signatory : Signatory) × Self.Office.stands signatory office (no_records issuer policy)) }
+            (signers : OfficeSigners) × Self.Office.stands signers office (no_records issuer policy)) }
         ensures faults { IfErr result IsCreateFailure };
 
     /// Closes the office whose file lies at a path.

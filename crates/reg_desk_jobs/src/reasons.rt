@@ -1,9 +1,9 @@
-//! The reasons that `why` replies at the control socket, and those that `--why` prints if a strict script or import ends at a refusal.
+//! The reasons that the reply to `why` gives at the control socket, and those that `--why` prints if a strict script or import ends at a refusal.
 
 ghost use Rattle.std.specs.Prelude.{◌≡◌, ◌++◌, ◌∷◌, [], IfOk, IfSome};
 ghost use Rattle.reg_office_api.specs.Calls.{KeepsIn};
 ghost use Rattle.reg_desk_jobs.specs.ControlReplies.{ReportsLineOutcome};
-ghost use Rattle.reg_desk_jobs.specs.Reasons.{IsReasonLine, ahead_text, last_second, latest_text, order_text, other_text, reason_text, kept_reason_text};
+ghost use Rattle.reg_desk_jobs.specs.Reasons.{IsReasonLine, ahead_text, last_second, latest_text, text_with_number, other_text, reason_text, kept_reason_text};
 
 use crate::control_reply::{ControlReply, LineOutcome};
 use crate::machine::Machine;
@@ -23,11 +23,11 @@ pub enum Reason {
     NoOrder(u64),
     /// The order with this number already has a certificate.
     Filled(u64),
-    /// The order and the schedule allow the line's notBefore no later notAfter than this (RFC 5280 4.1.2.5).
+    /// The latest notAfter that the order and the schedule allow with the line's notBefore (RFC 5280 4.1.2.5).
     Latest(Moment),
     /// The request with this number is for this serial number, and not for the one in the line.
     OtherSerial(u64, Serial),
-    /// The clock is more than 30 days past this last accepted moment, and past the moment that the operator accepted, if any.
+    /// The clock is more than 30 days past this last accepted moment, and more than 30 days past the moment that the operator accepted, if any.
     ClockAhead(Moment),
     /// The line can't be read, because of this field.
     Wrong(WrongField),
@@ -218,7 +218,10 @@ fn latest_text_of(alloc: Global, at: Moment) -> Result<Vec<u8>, AllocError>
 fn ahead_text_of(alloc: Global, last: Moment) -> Result<Vec<u8>, AllocError>
     ensures { IfOk result (λ text. text.items ≡ ahead_text last) }
 {
-    let mut text = Vec::from_slice(alloc, b"the clock is more than 30 days past ")?;
+    let mut text = Vec::from_slice(
+        alloc,
+        b"the clock is more than 30 days past the last command, ",
+    )?;
     text.extend_from_slice(&last.text())?;
     Ok(text)
 }
@@ -239,7 +242,7 @@ fn numbered_text(
     number: u64,
     end: &[u8],
 ) -> Result<Vec<u8>, AllocError>
-    ensures { IfOk result (λ text. text.items ≡ order_text prefix.now number end.now) }
+    ensures { IfOk result (λ text. text.items ≡ text_with_number prefix.now number end.now) }
 {
     let digits = Decimal::of(number);
     let mut text = Vec::from_slice(alloc, prefix)?;

@@ -1,7 +1,7 @@
 //! Opens, creates and audits a register on a machine.
 
 ghost use Rattle.std.specs.Prelude.{IfErr, IfOk};
-ghost use Rattle.reg_office_api.specs.Signatories.{Signatory};
+ghost use Rattle.reg_office_api.specs.Signers.{OfficeSigners};
 ghost use Rattle.reg_core.specs.Records.{no_records};
 ghost use Rattle.reg_desk_jobs.specs.RegisterFailures.{IsCreateFailure, IsOpenFailure};
 ghost use Rattle.reg_desk_jobs.specs.Registers.{Audits, Created, Opened, Unaudited, NotCreated, Unopened};
@@ -24,7 +24,7 @@ pub(crate) fn open_unsigned<M: Machine>(machine: &mut M, path: &str) -> Result<M
     open_by(machine, path, &CrlSigner::NoSigner, &issuer_signs)
 }
 
-/// Opens the register at a path with the given signer of its CRLs, and with its OCSP responder. Without a signer, each CRL gets a placeholder
+/// Opens the register at a path with the given signer of its CRLs, and with its OCSP responder. Without a signer, each new CRL gets a placeholder
 /// digest, or fails with a fault of the signer if the responder has a key of its own.
 pub(crate) fn open_signed<M: Machine>(
     machine: &mut M,
@@ -69,7 +69,7 @@ pub(crate) fn create_register<M: Machine>(
 ) -> Result<M::Office, Failure>
     ensures ok { IfOk result (λ office. Created M.Machine machine.old path.now office machine.new) }
     ensures stands { IfOk result (λ office.
-        (signatory : Signatory) × M.Office.stands signatory office (no_records issuer policy)) }
+        (signers : OfficeSigners) × M.Office.stands signers office (no_records issuer policy)) }
     ensures err { IfErr result (λ why. NotCreated M.Machine machine.old path.now why machine.new) }
     ensures faults { IfErr result IsCreateFailure }
 {

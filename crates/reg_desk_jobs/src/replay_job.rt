@@ -6,7 +6,8 @@ ghost use Rattle.reg_desk_jobs.specs.Replays.{EntryEnds, LineEnds, ReplaysAt, Re
 
 use crate::at_job::{Next, exchange, next_line};
 use crate::log_entries::{
-    Entry, ExchangeText, LogMeaning, exchange_in, first_word, has_quote, logged_of, second_word,
+    Entry, ExchangeText, LogMeaning, exchange_in, first_word, has_quote, log_meaning_of,
+    second_word,
 };
 use crate::log_lines::{put_number, put_word};
 use crate::machine::Machine;
@@ -27,8 +28,8 @@ struct Renumbered {
 
 /// Sends each accepted command of a log to the control socket at a path, in the log's order, and writes the replies. A request is revoked or
 /// declined by its serial number and by the number that it has now. Errors: `Refused` at the first reply that does not agree ([`agrees`]), or at
-/// a command of which the log has only a part, or not the request that it is about: then that line of the log is written last; `NoLineEnd` at a last
-/// line without its line end; `Read` if it can't connect, or the log or the connection fails; `Write` if a line can't be sent or written; `Memory`.
+/// a command that the log has only in part, or whose request the log does not name; then that line of the log is written last. `NoLineEnd` at a last
+/// line without its line end; `Read` if the socket, the log or the connection fails; `Write` if a line can't be sent or written; `Memory`.
 pub fn replay<M: Machine, R: Read, W: Write>(
     alloc: Global,
     machine: &M,
@@ -119,7 +120,7 @@ fn replay_line<W: Write, C: BufRead, S: Write>(
 {
     let text = without_end(line);
     match exchange_in(text) {
-        Some(logged_exchange) => match logged_of(&logged_exchange) {
+        Some(logged_exchange) => match log_meaning_of(&logged_exchange) {
             LogMeaning::Nothing => Ok(()),
             LogMeaning::Unknown => stop(writer, line),
             LogMeaning::Command(entry) => {

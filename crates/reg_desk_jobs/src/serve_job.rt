@@ -15,7 +15,7 @@ use crate::admission::Admission;
 use crate::control_socket::create_control_socket;
 use crate::crl_signer::CrlSigner;
 use crate::desks::Desk;
-use crate::health_routes::{responder_end, signing_of};
+use crate::health_routes::{responder_not_after, signing_of};
 use crate::machine::Machine;
 use crate::output_lines::print_text;
 use crate::published::check_published;
@@ -36,7 +36,7 @@ const LOOPBACK: [u8; 4] = [127, 0, 0, 1];
 const LOOPBACK_V6: [u8; 16] = [0, 0, 0, 0, 0, 0, 0, 0, 0, 0, 0, 0, 0, 0, 0, 1];
 
 /// Answers as many HTTP connections as the job says, each once, over a register, which is opened before the port is bound. If a published
-/// CRL is given, `reader` has its bytes, and a register that lacks any of it is not served. Errors: as of [`Machine::read_responder`],
+/// CRL is given, `reader` has its bytes, and a register that lacks any of it is not served. Errors: those of [`Machine::read_responder`],
 /// [`check_published`], [`Machine::check_database`] and [`Machine::open_in`]; `Read` if the port can't be bound, or serving ends early; `Memory`;
 /// `Write`.
 pub fn serve<M: Machine, R: Source, W: Sink>(
@@ -151,7 +151,7 @@ fn serve_desk<'a, 'w, M: Machine, W: Write>(
     };
     let alloc = rt.alloc();
     let signing = signing_of(&CrlSigner::of(signer, responder));
-    let tally = Cell::new(Tally::new(signing, responder_end(machine, responder)));
+    let tally = Cell::new(Tally::new(signing, responder_not_after(machine, responder)));
     let connection_totals = Cell::new(ConnectionTotals::nothing());
     let admission = Admission::new();
     let mut desk: Desk<'_, '_, M> = Desk {
@@ -236,7 +236,7 @@ fn run_event_loop<H: Handler, W: Write>(
         Err(why) => return Err(why),
     }
     let mut answered = 0;
-    // It stops early if the clock or the sockets fail.
+    // The event loop stops early if the clock or the sockets fail.
     let _ = event_loop.serve_all(handler, &mut answered, requests);
     if answered != requests {
         return Err(Failure::Fault(Fault::Read));

@@ -3,7 +3,7 @@
 ghost use Rattle.std.specs.Prelude.{◌≡◌, ◌++◌, [], IfOk, is_some, option_map};
 ghost use Rattle.reg_core.specs.Calendar.{moment_of};
 ghost use Rattle.reg_core.specs.Label.{label_of};
-ghost use Rattle.reg_desk_jobs.specs.Syntax.{fields_wanted, first_wrong, form_text, is_written, name_text, wrong_in, wrong_text};
+ghost use Rattle.reg_desk_jobs.specs.Syntax.{fields_wanted, first_wrong, form_text, is_well_formed, name_text, wrong_in, wrong_text};
 ghost use Rattle.reg_lines.specs.Fields.{fields_of};
 
 use reg_core::{Label, Moment, Serial, read_number};
@@ -88,7 +88,7 @@ fn first_wrong(wanted: &[Field], mut fields: Fields<'_>) -> Option<WrongField>
     for field in wanted {
         match fields.next() {
             Some(text) => {
-                if !is_written(*field, text) {
+                if !is_well_formed(*field, text) {
                     return Some(WrongField::Malformed(*field));
                 }
             }
@@ -102,8 +102,8 @@ fn first_wrong(wanted: &[Field], mut fields: Fields<'_>) -> Option<WrongField>
     }
 }
 
-fn is_written(field: Field, text: &[u8]) -> bool
-    ensures { result ≡ is_written field text.now }
+fn is_well_formed(field: Field, text: &[u8]) -> bool
+    ensures { result ≡ is_well_formed field text.now }
 {
     match field {
         Field::Name | Field::Ground => is_label(text),
@@ -134,7 +134,7 @@ pub(crate) fn wrong_field_text(alloc: Global, wrong: WrongField) -> Result<Vec<u
     match wrong {
         WrongField::Malformed(field) => field_words(alloc, field, form_of(field)),
         WrongField::Missing(field) => field_words(alloc, field, b" is missing"),
-        WrongField::TooMany => Vec::from_slice(alloc, b"more fields than the command takes"),
+        WrongField::TooMany => Vec::from_slice(alloc, b"more fields than this line takes"),
     }
 }
 

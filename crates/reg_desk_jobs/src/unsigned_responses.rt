@@ -20,7 +20,7 @@ use reg_office_api::SignatureOutcome;
 use std::alloc::Global;
 use std::net::SocketAddr;
 
-/// How many bytes of the request are kept for the log: as many as the log keeps of a text.
+/// The most bytes of a request that are kept for the log, which quotes at most as many of the first line.
 const MOST_KEPT: usize = 256;
 
 /// An OCSP response that is to be signed, with the data that the tally and the log need.
@@ -28,14 +28,14 @@ const MOST_KEPT: usize = 256;
 pub struct Unsigned {
     /// The message to sign, and the rest of the response.
     pub(crate) draft: Draft,
-    /// The moment of the answer.
+    /// The moment of the clock when the desk began to answer.
     pub(crate) moment: Moment,
     /// The route of the request, for the tally.
     pub(crate) route: Route,
     /// When the desk began to answer, in microseconds of the monotonic clock.
     pub(crate) began: u64,
     pub(crate) client: SocketAddr,
-    /// The first bytes of the request; empty if there is no log.
+    /// The first bytes of the request, for the log; empty if there is no log, or no memory.
     pub(crate) asked: Vec<u8>,
 }
 
@@ -63,7 +63,6 @@ pub(crate) fn unsigned_of<M: Machine>(
     }
 }
 
-/// The first bytes of the request; empty if there is no log or no memory.
 fn log_prefix_of<M: Machine>(alloc: Global, machine: &M, request: &[u8]) -> Vec<u8> {
     if !machine.has_log() {
         return Vec::new(alloc);
@@ -75,8 +74,8 @@ fn log_prefix_of<M: Machine>(alloc: Global, machine: &M, request: &[u8]) -> Vec<
     }
 }
 
-/// Finishes a response with the signer's answer on a connection, or without a signature, and returns its text. Counts the exchange at the moment
-/// and the route of the request, and logs it if there is a log.
+/// Finishes an OCSP response with the signer's answer on a connection, or as internalError without one (RFC 6960 2.3). Returns the text of the HTTP
+/// answer. Counts the exchange under the moment and the route of `unsigned`, and logs it if there is a log.
 pub(crate) fn finish_http<M: Machine>(
     alloc: Global,
     machine: &M,

@@ -8,7 +8,7 @@ ghost use Rattle.reg_lines.specs.Fields.{fields_of};
 use crate::copy_job::{is_copy_line, path_in};
 use reg_core::{Command, Label, Moment, Serial, read_number};
 use reg_desk_cli::{Steps, read_step};
-use reg_lines::{Fields, command_in, without_end};
+use reg_lines::{Fields, untimed_line, without_end};
 use std::alloc::{AllocError, Global};
 
 /// The meaning of a line at the control socket.
@@ -57,7 +57,7 @@ pub(crate) struct SerialDecision {
     pub(crate) serial: Serial,
 }
 
-pub(crate) fn read_word(alloc: Global, line: &[u8]) -> Result<ControlWord<'_>, AllocError>
+pub(crate) fn read_control_line(alloc: Global, line: &[u8]) -> Result<ControlWord<'_>, AllocError>
     ensures { IfOk result (IsWord line.now) }
 {
     let text = without_end(line);
@@ -81,7 +81,7 @@ pub(crate) fn read_word(alloc: Global, line: &[u8]) -> Result<ControlWord<'_>, A
     }
     match steps_in(alloc, text) {
         Ok(Some(steps)) => Ok(ControlWord::Schedule(steps)),
-        Ok(None) => Ok(ControlWord::Line(command_in(line))),
+        Ok(None) => Ok(ControlWord::Line(untimed_line(line))),
         Err(fault) => Err(fault),
     }
 }

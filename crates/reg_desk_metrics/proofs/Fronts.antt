@@ -2,7 +2,7 @@
 use Rattle.std.proofs.Common.{◌≡◌, ◌∙◌, ℕ, ◌+◌, ◌-◌, List, ◌++◌, min, refl, sym, ap, add-one, append-nil, append_assoc}
 use Rattle.std.specs.Prelude.{slice_index_or}
 use Rattle.reg_core.specs.declared.rows.CrlRow.{CrlRow}
-use Rattle.reg_desk_metrics.specs.Metrics.{answer_text, answers_prefix, bucket_name, bucket_text, buckets_text, issued_text, route_name, route_text, routes_front, sum_of}
+use Rattle.reg_desk_metrics.specs.Metrics.{answer_text, answers_prefix, bucket_name, bucket_text, buckets_text, issued_text, route_name, route_text, routes_prefix, sum_of}
 use Rattle.reg_desk_metrics.specs.Samples.{sample}
 use Rattle.reg_desk_metrics.specs.declared.series_names.TheConstants.{CRL_AGE, CRL_NUMBER, NEXT_UPDATE, THIS_UPDATE}
 use Rattle.reg_desk_metrics.specs.Tallies.{greatest}
@@ -66,23 +66,23 @@ answers_more before text more answers index is added =
 
 -- ---- routes
 
-pub routes_begin : (text : List ℕ) (tally : Tally) → text ≡ text ++ routes_front tally 0
-unfolding routes_front
+pub routes_begin : (text : List ℕ) (tally : Tally) → text ≡ text ++ routes_prefix tally 0
+unfolding routes_prefix
 routes_begin text tally = sym (append-nil text)
 
 -- the text of a route
 abbrev route_at : Tally → List ℕ → ℕ → List ℕ
 route_at tally name index = route_text name (slice_index_or tally.route_micros index 0) (slice_index_or tally.route_counts index 0)
 
-routes_next : (tally : Tally) (index : ℕ) → routes_front tally (index + 1) ≡ routes_front tally index ++ route_at tally (route_name index) index
-unfolding routes_front
+routes_next : (tally : Tally) (index : ℕ) → routes_prefix tally (index + 1) ≡ routes_prefix tally index ++ route_at tally (route_name index) index
+unfolding routes_prefix
 routes_next tally index = rw add-one
 
-pub routes_more : (before text more name : List ℕ) (tally : Tally) (index : ℕ) → text ≡ before ++ routes_front tally index
-    → more ≡ text ++ route_at tally name index → name ≡ route_name index → more ≡ before ++ routes_front tally (index + 1)
+pub routes_more : (before text more name : List ℕ) (tally : Tally) (index : ℕ) → text ≡ before ++ routes_prefix tally index
+    → more ≡ text ++ route_at tally name index → name ≡ route_name index → more ≡ before ++ routes_prefix tally (index + 1)
 routes_more before text more name tally index is added named =
-    one_more before (routes_front tally index) text (route_at tally name index) more is added
-    ∙ ap (λ (it : List ℕ). before ++ (routes_front tally index ++ route_at tally it index)) named
+    one_more before (routes_prefix tally index) text (route_at tally name index) more is added
+    ∙ ap (λ (it : List ℕ). before ++ (routes_prefix tally index ++ route_at tally it index)) named
     ∙ ap (λ (it : List ℕ). before ++ it) (sym (routes_next tally index))
 
 -- ---- buckets

@@ -11,6 +11,6 @@ abbrev pub is_far_from : ℕ → Option ℕ → Bool
 is_far_from now (Some moment) = is_far now moment
 is_far_from now None = true
 
--- there is a last accepted moment, the clock is more than 30 days past it, and `is_far_from` holds of the moment that the operator accepted
+-- a command was accepted, the clock is more than 30 days past its moment (`last`), and `is_far_from` holds of the moment that the operator accepted
 abbrev pub is_ahead : ℕ → ℕ → Option ℕ → Bool
 is_ahead now last accepted = if (last == 0) || not (is_far now last) then false else is_far_from now accepted

@@ -1,4 +1,4 @@
--- Whether all is well with an open register, and the text for it.
+-- Whether all is well with an open register, and the body of the answer to `GET /health`.
 use Rattle.std.specs.Prelude.{ℕ, Bool, true, false, cond, not, ◌&&◌, ◌-◌, ◌/◌, max, nat_lt, List, [], ◌∷◌, ◌++◌, codes, Some, None, Result, Ok, Err}
 use Rattle.std.specs.Option.{option_or}
 use Rattle.std.specs.declared.option.Option.{Option}
@@ -20,11 +20,11 @@ is_none None = true
 
 -- the moment of the last command, if the clock is behind it; now, if the clock is too far ahead, or if the register refuses for another reason
 -- (the clock is at or past `clock_end`)
-abbrev pub clock_of : ℕ → Result Numbers Fault → Option ℕ → Option ℕ
-clock_of now (Ok numbers) accepted = cond (is_ahead now numbers.summary.last accepted) (Some now) None
-clock_of now (Err (Refused (ClockBack last))) accepted = Some last
-clock_of now (Err (Refused other)) accepted = Some now
-clock_of now other accepted = None
+abbrev pub clock_failing_since : ℕ → Result Numbers Fault → Option ℕ → Option ℕ
+clock_failing_since now (Ok numbers) accepted = cond (is_ahead now numbers.summary.last accepted) (Some now) None
+clock_failing_since now (Err (Refused (ClockBack last))) accepted = Some last
+clock_failing_since now (Err (Refused other)) accepted = Some now
+clock_failing_since now other accepted = None
 
 -- whether the next CRL is due at once, by the register's numbers
 abbrev pub is_crl_due_at_once : Result Numbers Fault → Bool
@@ -54,7 +54,7 @@ abbrev pub rows_since : ℕ → Result Numbers Fault → Option ℕ
 rows_since now (Ok numbers) = cond (is_filling numbers.summary) (Some now) None
 rows_since now (Err fault) = None
 
--- since when the store fails: by the tally; if it does not say so, now if the register fails and does not refuse
+-- since when the store fails: by the tally, or else now if the numbers can't be read for another reason than a refusal
 abbrev pub store_since_at : ℕ → Result Numbers Fault → Option ℕ → Option ℕ
 store_since_at now (Ok numbers) since = since
 store_since_at now (Err (Refused why)) since = since
@@ -63,7 +63,7 @@ store_since_at now (Err other) since = option_or since (Some now)
 -- the health of a register at a moment, from its numbers, the tally, and the moment that the operator accepted
 abbrev pub health_of : ℕ → Result Numbers Fault → Tally → Option ℕ → Health
 health_of now found tally accepted = record {
-  clock = clock_of now found accepted;
+  clock = clock_failing_since now found accepted;
   is_crl_due_at_once = is_crl_due_at_once found;
   crl = crl_since now found;
   crl_signer = tally.crls.failing_since;
@@ -95,19 +95,18 @@ unfoldable pub crl_text : Bool → Option ℕ → List ℕ
 crl_text is_crl_due_at_once crl =
     codes ",\"crl\":" ++ cond is_crl_due_at_once (codes "\"at-once\"") (since_text crl)
 
--- the members of the two signers
 unfoldable pub signers_text : Option ℕ → Option ℕ → List ℕ
 signers_text crl ocsp = member (codes ",\"crl_signer\":") crl ++ member (codes ",\"ocsp_signer\":") ocsp
 
 -- the member `status`, and the name `store` of the last member
-unfoldable pub health_member : Bool → List ℕ
-health_member is_well =
+unfoldable pub status_member : Bool → List ℕ
+status_member is_well =
     cond is_well (codes ",\"status\":\"ok\",\"store\":") (codes ",\"status\":\"failing\",\"store\":")
 
--- the text; if all is well: `{"clock":null,"crl":null,"crl_signer":null,"ocsp_signer":null,"rows":null,"status":"ok","store":null}`
+-- the body; if all is well: `{"clock":null,"crl":null,"crl_signer":null,"ocsp_signer":null,"rows":null,"status":"ok","store":null}`
 unfoldable pub health_text : Health → List ℕ
 health_text health =
     codes "{\"clock\":" ++ since_text health.clock ++ crl_text health.is_crl_due_at_once health.crl
     ++ signers_text health.crl_signer health.ocsp_signer
-    ++ member (codes ",\"rows\":") health.rows ++ health_member (is_well health) ++ since_text health.store
+    ++ member (codes ",\"rows\":") health.rows ++ status_member (is_well health) ++ since_text health.store
     ++ 125 ∷ []

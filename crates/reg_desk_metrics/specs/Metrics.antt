@@ -8,7 +8,7 @@ use Rattle.reg_core.specs.declared.refusal.Fault.TheVariants.{Refused}
 use Rattle.reg_core.specs.declared.refusal.Refusal.TheVariants.{ClockBack}
 use Rattle.reg_core.specs.declared.rows.CrlRow.{CrlRow}
 use Rattle.reg_office_api.specs.declared.register_summary.Rows.{Rows}
-use Rattle.reg_desk_metrics.specs.Samples.{moment_or_none, sample, sample_of_seconds}
+use Rattle.reg_desk_metrics.specs.Samples.{moment_or_zero, sample, sample_of_seconds}
 use Rattle.reg_desk_metrics.specs.Tallies.{greatest}
 use Rattle.reg_desk_metrics.specs.declared.series_names.TheConstants.{ACCEPTED, ACCEPTED_LINES, ANSWER, ANSWER_CODE, ANSWERED, BEHIND, BROKEN, BUILD, CAP, CERTIFICATE_ROWS, CLOCK, COUNTED, OPEN_CONTROL, CRL_AGE, CRL_DUE, CRL_FAILING, CRL_LAST, CRL_LAST_FAILED, CRL_NUMBER, CRL_ROWS, CRL_SIGNED, CRL_FAILED, EVICTED, EXPIRED, FAULTS, GOOD, LABEL_END, LAST_COMMAND, LATE, NEXT_UPDATE, NO_MEMORY, OCSP_BY_SIGNER, OCSP_BY_STORE, OCSP_FAILING, OCSP_LAST, OCSP_LAST_FAILED, OCSP_SIGNED, OCSP_FAILED, OPEN, ORDER_ROWS, OVERDUE, OPEN_HTTP, READABLE, REFUSED_LINES, REQUEST_ROWS, RESPONDER_ENDS, REVOKED, ROUTE_COUNT, ROUTE_SECONDS, ROUTE_SUM, SECONDS, SECONDS_COUNT, SECONDS_SUM, SECONDS_TO, STORE_FAILING, SUBSCRIBER_ROWS, THIS_UPDATE}
 use Rattle.reg_desk_metrics.specs.declared.numbers.ConnectionTotals.{ConnectionTotals}
@@ -22,7 +22,6 @@ abbrev pub seconds_behind : ℕ → Result Numbers Fault → ℕ
 seconds_behind now (Err (Refused (ClockBack last))) = last - now
 seconds_behind now other = 0
 
--- the version of the program
 unfoldable pub build_text : List ℕ → List ℕ
 build_text version = BUILD.now ++ version ++ sample LABEL_END.now 1
 
@@ -61,9 +60,9 @@ numbers_text now numbers =
     ++ rows_text numbers.summary.rows numbers.summary.cap
     ++ sample LAST_COMMAND.now numbers.summary.last
     ++ crl_text now numbers.summary.latest numbers.summary.crl_life
-    ++ sample CRL_DUE.now (moment_or_none numbers.due)
+    ++ sample CRL_DUE.now (moment_or_zero numbers.due)
 
--- the numbers of a register; or only that it is not readable, if it refuses or fails
+-- the numbers of a register; or only that they can't be read, for a refusal or a fault
 unfoldable pub register_text : ℕ → Result Numbers Fault → List ℕ
 register_text now (Ok numbers) = numbers_text now numbers
 register_text now (Err fault) = sample READABLE.now 0
@@ -137,16 +136,16 @@ signed_text crls ocsp =
 -- when a signature was last received, and when one last failed
 unfoldable pub last_text : Signing → Signing → List ℕ
 last_text crls ocsp =
-    sample CRL_LAST.now (moment_or_none crls.last) ++ sample OCSP_LAST.now (moment_or_none ocsp.last)
-    ++ sample CRL_LAST_FAILED.now (moment_or_none crls.last_failed)
-    ++ sample OCSP_LAST_FAILED.now (moment_or_none ocsp.last_failed)
+    sample CRL_LAST.now (moment_or_zero crls.last) ++ sample OCSP_LAST.now (moment_or_zero ocsp.last)
+    ++ sample CRL_LAST_FAILED.now (moment_or_zero crls.last_failed)
+    ++ sample OCSP_LAST_FAILED.now (moment_or_zero ocsp.last_failed)
 
 -- since when signatures fail, and since when the store fails
 unfoldable pub signers_text : Tally → List ℕ
 signers_text tally =
-    sample CRL_FAILING.now (moment_or_none tally.crls.failing_since)
-    ++ sample OCSP_FAILING.now (moment_or_none tally.ocsp.failing_since)
-    ++ sample STORE_FAILING.now (moment_or_none tally.store_failing_since)
+    sample CRL_FAILING.now (moment_or_zero tally.crls.failing_since)
+    ++ sample OCSP_FAILING.now (moment_or_zero tally.ocsp.failing_since)
+    ++ sample STORE_FAILING.now (moment_or_zero tally.store_failing_since)
 
 -- the open connections, and the accepted ones
 unfoldable pub connections_text : ConnectionTotals → List ℕ
@@ -204,16 +203,15 @@ route_text name micros count =
     ++ sample LABEL_END.now count
 
 -- the first routes, in order
-unfoldable pub routes_front : Tally → ℕ → List ℕ
-routes_front tally zero = []
-routes_front tally (suc index) =
-    routes_front tally index
+unfoldable pub routes_prefix : Tally → ℕ → List ℕ
+routes_prefix tally zero = []
+routes_prefix tally (suc index) =
+    routes_prefix tally index
     ++ route_text (route_name index) (slice_index_or tally.route_micros index 0)
     (slice_index_or tally.route_counts index 0)
 
--- all routes
 abbrev pub routes_text : Tally → List ℕ
-routes_text tally = ROUTE_SECONDS.now ++ routes_front tally 11
+routes_text tally = ROUTE_SECONDS.now ++ routes_prefix tally 11
 
 -- the OCSP responses that were internalError, by cause
 unfoldable pub failures_text : Tally → List ℕ
@@ -225,7 +223,7 @@ abbrev pub responder_text : Option ℕ → List ℕ
 responder_text None = []
 responder_text (Some at) = sample RESPONDER_ENDS.now at
 
--- the whole text
+-- the body of the answer to `GET /metrics`
 abbrev pub metrics_text : List ℕ → ℕ → Result Numbers Fault → Tally → ConnectionTotals → List ℕ
 metrics_text version now found tally connection_totals =
     build_text version ++ clock_text now found ++ register_text now found ++ requests_text tally.requests

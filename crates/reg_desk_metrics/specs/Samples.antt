@@ -7,9 +7,9 @@ abbrev pub sample : List ℕ → ℕ → List ℕ
 sample series value = series ++ decimal value ++ 10 ∷ []
 
 -- a moment in seconds since 1970; 0 if there is none
-abbrev pub moment_or_none : Option ℕ → ℕ
-moment_or_none (Some at) = at
-moment_or_none None = 0
+abbrev pub moment_or_zero : Option ℕ → ℕ
+moment_or_zero (Some at) = at
+moment_or_zero None = 0
 
 -- the ASCII code of a number's decimal digit at the place of `unit`, a power of ten
 abbrev pub digit_at : ℕ → ℕ → ℕ

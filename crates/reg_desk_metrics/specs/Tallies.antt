@@ -83,8 +83,8 @@ bucket_of micros =
     else 11
 
 -- no signature was requested yet
-abbrev pub nothing_signed : Signing
-nothing_signed = record { received = 0; failed = 0; last = None; last_failed = None; failing_since = None }
+abbrev pub nothing_requested : Signing
+nothing_requested = record { received = 0; failed = 0; last = None; last_failed = None; failing_since = None }
 
 -- Signatures of one kind after an outcome at a moment. None was requested: nothing changes. One was received: they no longer fail. One failed: they
 -- fail since this moment, unless they failed already.
@@ -106,17 +106,17 @@ store_after store.Written now since = None
 store_after store.Failed now since = option_or since (Some now)
 
 -- nothing is counted yet, at a desk whose CRLs are signed in this way, with notAfter of its responder's certificate
-abbrev pub is_new : CrlSigning → Option ℕ → Tally → Type 0
-is_new signing ends tally =
+abbrev pub IsNewTally : CrlSigning → Option ℕ → Tally → Type 0
+IsNewTally signing ends tally =
     (tally.answers ≡ replicate 132 0) × (tally.accepted ≡ 0) × (tally.refused ≡ 0) × (tally.faults ≡ 0)
     × (tally.buckets ≡ replicate 12 0)
     × (tally.micros ≡ 0) × (tally.route_counts ≡ replicate 11 0) × (tally.route_micros ≡ replicate 11 0)
     × (tally.ocsp_signer_failures ≡ 0) × (tally.ocsp_store_failures ≡ 0)
-    × (tally.crls ≡ nothing_signed) × (tally.ocsp ≡ nothing_signed) × (tally.store_failing_since ≡ None)
+    × (tally.crls ≡ nothing_requested) × (tally.ocsp ≡ nothing_requested) × (tally.store_failing_since ≡ None)
     × (tally.requests ≡ None)
     × (tally.crl_signing ≡ signing) × (tally.responder_ends ≡ ends) × (tally.read ≡ None)
 
--- one more exchange or line, in the bucket of its time
+-- one more exchange or line in the bucket of its time, which is added to the sum
 abbrev pub with_seconds : ℕ → Tally → Tally
 with_seconds micros tally = record tally {
   buckets = bumped tally.buckets (bucket_of micros);
@@ -137,15 +137,15 @@ with_route number micros tally = record tally {
 }
 
 -- whether a route is for OCSP requests
-abbrev pub is_ocsp_line : Route → Bool
-is_ocsp_line routes.Ocsp = true
-is_ocsp_line routes.OcspRest = true
-is_ocsp_line _ = false
+abbrev pub is_ocsp_route : Route → Bool
+is_ocsp_route routes.Ocsp = true
+is_ocsp_route routes.OcspRest = true
+is_ocsp_route _ = false
 
 -- whether an exchange had an OCSP response, which has status 200 (RFC 6960 A.2)
 abbrev pub response_by : Route → Option ℕ → Bool
 response_by route None = false
-response_by route (Some code) = (code == 200) && is_ocsp_line route
+response_by route (Some code) = (code == 200) && is_ocsp_route route
 
 -- the same for the route and the status of an exchange
 abbrev pub has_response : Exchange → Bool
@@ -212,13 +212,13 @@ abbrev pub has_crl_key : Tally → Bool
 has_crl_key tally = is_key tally.crl_signing
 
 -- the CRL that was read last, if it has this number
-abbrev pub read_with : ℕ → Option ReadCrl → Option ReadCrl
-read_with number None = None
-read_with number (Some read) = if read.number == number then Some read else None
+abbrev pub kept_if_numbered : ℕ → Option ReadCrl → Option ReadCrl
+kept_if_numbered number None = None
+kept_if_numbered number (Some read) = if read.number == number then Some read else None
 
 -- the same for the CRL that the tally keeps
 abbrev pub read_of : ℕ → Tally → Option ReadCrl
-read_of number tally = read_with number tally.read
+read_of number tally = kept_if_numbered number tally.read
 
 -- the CRL that was read last is kept
 abbrev pub with_read : ReadCrl → Tally → Tally

@@ -1,7 +1,7 @@
 //! Whether all is well with an open register; if not, what fails, and since when.
 
 ghost use Rattle.std.specs.Prelude.{◌≡◌, ◌++◌, IfOk, OnOk};
-ghost use Rattle.reg_desk_metrics.specs.Healths.{clock_of as clock_spec, crl_since as crl_since_spec, crl_text as crl_spec, is_crl_due_at_once as due_at_once, health_of, health_text, is_none as is_without, is_filling as fills, is_well as all_well, if_past as past_spec, member, rows_since as rows_spec, signers_text, since_text, health_member, store_since_at as store_spec};
+ghost use Rattle.reg_desk_metrics.specs.Healths.{clock_failing_since as clock_spec, crl_since as crl_since_spec, crl_text as crl_spec, is_crl_due_at_once as due_at_once, health_of, health_text, is_none as is_without, is_filling as fills, is_well as all_well, if_past as past_spec, member, rows_since as rows_spec, signers_text, since_text, status_member, store_since_at as store_spec};
 
 use crate::ahead::is_ahead;
 use crate::numbers::NumbersResult;
@@ -30,12 +30,12 @@ pub struct Health {
 }
 
 impl Health {
-    /// The health of a register at the moment `now`, by the register's numbers, the desk's tally, and the moment of the last `accept-clock` line.
+    /// The health of a register at `now`, by the register's numbers, the desk's tally, and the moment that the operator accepted with `accept-clock`.
     pub fn of(now: Moment, found: &NumbersResult, tally: &Tally, accepted: Option<Moment>) -> Health
         ensures { result ≡ health_of now found.now tally.now accepted }
     {
         Health {
-            clock: clock_of(now, found, accepted),
+            clock: clock_failing_since(now, found, accepted),
             is_crl_due_at_once: is_crl_due_at_once(found),
             crl: crl_since(now, found),
             crl_signer: tally.crls.failing_since,
@@ -58,7 +58,7 @@ impl Health {
             && is_none(self.store)
     }
 
-    /// The answer to `GET /health`, as JSON (RFC 8259): each member but `status` is null, or the moment that its field has; `crl` can be `"at-once"`.
+    /// The body of the answer to `GET /health`, in JSON (RFC 8259): each member but `status` is null or its field's moment; `crl` can be `"at-once"`.
     ///
     /// # Errors
     ///
@@ -88,7 +88,11 @@ fn is_none(moment: Option<Moment>) -> bool
     }
 }
 
-fn clock_of(now: Moment, found: &NumbersResult, accepted: Option<Moment>) -> Option<Moment>
+fn clock_failing_since(
+    now: Moment,
+    found: &NumbersResult,
+    accepted: Option<Moment>,
+) -> Option<Moment>
     ensures { result ≡ clock_spec now found.now accepted }
 {
     match *found {
@@ -108,7 +112,6 @@ fn is_crl_due_at_once(found: &NumbersResult) -> bool
     }
 }
 
-/// Since when the next CRL is due, if that moment is past.
 fn crl_since(now: Moment, found: &NumbersResult) -> Option<Moment>
     ensures { result ≡ crl_since_spec now found.now }
 {
@@ -154,7 +157,7 @@ fn is_filling(summary: &RegisterSummary) -> bool
     summary.cap.saturating_sub(most) < summary.cap / 5
 }
 
-/// Since when the store fails: by the tally, or else now if the register can't be read.
+/// Since when the store fails: by the tally, or else now if the numbers can't be read for another reason than a refusal.
 fn store_failing_since(now: Moment, found: &NumbersResult, since: Option<Moment>) -> Option<Moment>
     ensures { result ≡ store_spec now found.now since }
 {
@@ -215,9 +218,9 @@ fn put_member(text: &mut Vec<u8>, name: &[u8], since: Option<Moment>) -> Result<
 }
 
 /// Appends the member `status`, and the name of the last member.
-#[tactic(auto, unfolding(crate::specs::Healths::health_member))]
+#[tactic(auto, unfolding(crate::specs::Healths::status_member))]
 fn put_status(text: &mut Vec<u8>, is_well: bool) -> Result<(), AllocError>
-    ensures { OnOk result (text.new.items ≡ text.old.items ++ health_member is_well) }
+    ensures { OnOk result (text.new.items ≡ text.old.items ++ status_member is_well) }
 {
     if is_well {
         return text.extend_from_slice(b",\"status\":\"ok\",\"store\":");

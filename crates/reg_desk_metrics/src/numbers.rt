@@ -6,16 +6,18 @@ use reg_office_api::RegisterSummary;
 /// A register's numbers at a moment.
 #[derive(Clone, Copy, PartialEq, Eq)]
 pub struct Numbers {
+    /// How many certificates have each status.
     pub counts: Counts,
     /// When the next CRL is due; `None` if it is due at once.
     pub due: Option<Moment>,
+    /// The counts of its rows, its cap, its latest CRL, the life of a CRL, and the moment of the last command.
     pub summary: RegisterSummary,
 }
 
 /// The register's numbers, or why they can't be read.
 pub type NumbersResult = Result<Numbers, Fault>;
 
-/// The register's requests for revocation at a moment. Counting reads all requests, so the desk counts them at most once a minute.
+/// The register's requests for revocation at a moment. Counting reads all of them, so the desk uses a count for a minute (`Tally::wants_requests`).
 #[derive(Clone, Copy, PartialEq, Eq)]
 pub struct Requests {
     /// When they were counted.
@@ -40,6 +42,7 @@ pub enum CrlSigning {
 /// A CRL that the desk read, to find out whether it is signed.
 #[derive(Clone, Copy, PartialEq, Eq)]
 pub struct ReadCrl {
+    /// The CRL number (RFC 5280 5.2.3).
     pub number: u64,
     /// Whether the CRL has a placeholder digest instead of a signature.
     pub is_unsigned: bool,
@@ -48,9 +51,11 @@ pub struct ReadCrl {
 /// How many connections are open, and how many were accepted or lost since the desk was opened.
 #[derive(Clone, Copy, PartialEq, Eq)]
 pub struct ConnectionTotals {
-    /// Open connections at the port, and at the control socket; then all connections that were accepted at the port.
+    /// Open connections at the port.
     pub open_http: u64,
+    /// Open connections at the control socket.
     pub open_control: u64,
+    /// All connections that were accepted at the port.
     pub accepted: u64,
     /// Lost connections, by `ConnectionFault` of `reg_desk_server`: broken; timed out; evicted, for another one or for the limit of unsent bytes; out
     /// of memory.

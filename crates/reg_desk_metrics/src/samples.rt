@@ -1,7 +1,7 @@
 //! Appends samples in the text format of Prometheus, version 0.0.4.
 
 ghost use Rattle.std.specs.Prelude.{◌≡◌, ◌<◌, ◌++◌, OnOk};
-ghost use Rattle.reg_desk_metrics.specs.Samples.{digit_at as digit_spec, moment_or_none, fraction as fraction_spec, sample, sample_of_seconds};
+ghost use Rattle.reg_desk_metrics.specs.Samples.{digit_at as digit_spec, moment_or_zero, fraction as fraction_spec, sample, sample_of_seconds};
 
 use reg_core::{Decimal, Moment};
 use std::alloc::AllocError;
@@ -23,7 +23,7 @@ pub(crate) fn put_moment(
     series: &str,
     moment: Option<Moment>,
 ) -> Result<(), AllocError>
-    ensures { OnOk result (text.new.items ≡ text.old.items ++ sample series.now (moment_or_none moment)) }
+    ensures { OnOk result (text.new.items ≡ text.old.items ++ sample series.now (moment_or_zero moment)) }
 {
     match moment {
         Some(at) => put_sample(text, series, at.secs()),

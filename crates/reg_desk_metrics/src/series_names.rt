@@ -35,7 +35,7 @@ pub(crate) const CAP: &str =
     "# HELP desk_rows_cap The greatest number of rows of a table (desk init --cap).\n# TYPE desk_rows_cap gauge\ndesk_rows_cap ";
 
 pub(crate) const LAST_COMMAND: &str =
-    "# HELP desk_last_command_timestamp_seconds The last accepted moment of the register.\n# TYPE desk_last_command_timestamp_seconds gauge\ndesk_last_command_timestamp_seconds ";
+    "# HELP desk_last_command_timestamp_seconds The moment of the last accepted command, 0 if there is none.\n# TYPE desk_last_command_timestamp_seconds gauge\ndesk_last_command_timestamp_seconds ";
 
 pub(crate) const CRL_NUMBER: &str =
     "# HELP desk_crl_number The number of the latest CRL, 0 if there is none yet.\n# TYPE desk_crl_number gauge\ndesk_crl_number ";
@@ -69,7 +69,7 @@ pub(crate) const REFUSED_LINES: &str = "desk_lines_total{reply=\"refused\"} ";
 pub(crate) const FAULTS: &str = "desk_lines_total{reply=\"fault\"} ";
 
 pub(crate) const CRL_SIGNED: &str =
-    "# HELP desk_signatures_total Signatures that were received.\n# TYPE desk_signatures_total counter\ndesk_signatures_total{of=\"crl\"} ";
+    "# HELP desk_signatures_total Signatures that were received. A placeholder digest counts as one.\n# TYPE desk_signatures_total counter\ndesk_signatures_total{of=\"crl\"} ";
 
 pub(crate) const OCSP_SIGNED: &str = "desk_signatures_total{of=\"ocsp\"} ";
 

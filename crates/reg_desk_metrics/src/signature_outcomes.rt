@@ -1,7 +1,7 @@
 //! Counts the outcomes of signature requests.
 
 ghost use Rattle.std.specs.Prelude.{◌≡◌};
-ghost use Rattle.reg_desk_metrics.specs.Tallies.{nothing_signed, signing_after, store_after as kept_after};
+ghost use Rattle.reg_desk_metrics.specs.Tallies.{nothing_requested, signing_after, store_after as kept_after};
 
 use reg_core::Moment;
 use reg_office_api::{SignatureOutcome, StoreEffect};
@@ -20,7 +20,7 @@ pub(crate) struct Signing {
 
 impl Signing {
     pub(crate) fn nothing() -> Signing
-        ensures { result ≡ nothing_signed }
+        ensures { result ≡ nothing_requested }
     {
         Signing {
             received: 0,

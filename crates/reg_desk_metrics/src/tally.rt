@@ -1,7 +1,7 @@
 //! The counters of an open desk, which count each HTTP exchange and each line of a control connection once. Counts and sums stop at `u64::MAX`.
 
 ghost use Rattle.std.specs.Prelude.{◌≡◌, ◌<◌};
-ghost use Rattle.reg_desk_metrics.specs.Tallies.{is_new, bumped, bucket_of as bucket_spec, route_number as number_of_route, code_number as number_of_code, with_seconds as timed, with_exchange, with_line, outcomes_counted, with_reply_to_line, with_counted, wants_requests as wants_counted, has_crl_key as has_key, read_of, with_read, with_amount, is_ocsp_line, has_response, with_route, with_failure, counted_crl_outcome};
+ghost use Rattle.reg_desk_metrics.specs.Tallies.{IsNewTally, bumped, bucket_of as bucket_spec, route_number as number_of_route, code_number as number_of_code, with_seconds as timed, with_exchange, with_line, outcomes_counted, with_reply_to_line, with_counted, wants_requests as wants_counted, has_crl_key as has_key, read_of, with_read, with_amount, is_ocsp_route, has_response, with_route, with_failure, counted_crl_outcome};
 
 use crate::numbers::{CrlSigning, ReadCrl, Requests};
 use crate::signature_outcomes::{Signing, store_after};
@@ -67,7 +67,7 @@ fn add<const N: usize>(sums: &mut [u64; N], index: usize, amount: u64)
 }
 
 fn is_ocsp(route: Route) -> bool
-    ensures { result ≡ is_ocsp_line route }
+    ensures { result ≡ is_ocsp_route route }
 {
     match route {
         Route::Ocsp => true,
@@ -164,7 +164,7 @@ fn crl_outcome_at(signing: CrlSigning, signature_outcome: SignatureOutcome) -> S
 impl Tally {
     /// A tally with nothing counted. `crl_signing` is the signer of the desk's CRLs; `responder_ends` is notAfter of the responder's certificate.
     pub fn new(crl_signing: CrlSigning, responder_ends: Option<Moment>) -> Tally
-        ensures { is_new crl_signing responder_ends result }
+        ensures { IsNewTally crl_signing responder_ends result }
     {
         Tally {
             answers: [0; ANSWERS],

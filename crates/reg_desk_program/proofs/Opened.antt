@@ -2,7 +2,7 @@
 use Rattle.std.proofs.Common.{◌≡◌, List, ℕ, sym, subst}
 use Rattle.sqlite.specs.Held.{Held}
 use Rattle.sqlite_trees.specs.declared.store.Store.{Ghosts}
-use Rattle.reg_office_api.specs.Signatories.{Responder}
+use Rattle.reg_office_api.specs.Signers.{Responder}
 use Rattle.reg_crl.specs.Signing.{Identity}
 use Rattle.reg_desk_jobs.specs.Signers.{EmbeddedKeyFits}
 use Rattle.reg_desk_jobs.specs.declared.crl_signer.CrlSigner.{CrlSigner}

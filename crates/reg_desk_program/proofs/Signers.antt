@@ -4,7 +4,7 @@ use Rattle.std.specs.Prelude.{option_map}
 use Rattle.sqlite.specs.Held.{Held, state}
 use Rattle.sqlite.specs.State.{HasCleanDisk}
 use Rattle.sqlite_trees.specs.declared.store.Store.{Ghosts}
-use Rattle.reg_office_api.specs.Signatories.{Responder}
+use Rattle.reg_office_api.specs.Signers.{Responder}
 use Rattle.reg_core.specs.Crls.{latest}
 use Rattle.reg_core.specs.Records.{Crl, Records}
 use Rattle.reg_core.specs.Sound.{SoundRows}
@@ -25,7 +25,7 @@ use Rattle.reg_desk_cli.specs.declared.job.SignerAddress.{SignerAddress}
 module _ {C : Type 0} (g : Ghosts C) (old between new : Held C) (answers : Identity → Responder) (identity : Identity) where
   -- a signer that fits the issuer and the latest CRL fits the register
   pub signs_for : (crls : CrlSigner) (told : Option SignerAddress) (last : Option (List ℕ))
-      → ((key : List ℕ) (signatory : Identity) → signatory ≡ identity_of_signer told key → IsSigning crls key signatory)
+      → ((key : List ℕ) (signers : Identity) → signers ≡ identity_of_signer told key → IsSigning crls key signers)
       → Looked g old between → Looked g between new
       → ((records : Records) → Shows g old records → SoundRows records → HasCleanDisk (state g between)
       → last ≡ option_map (λ crl. crl.bytes) (latest records.crls))

@@ -9,7 +9,7 @@ use Rattle.sqlite_store.specs.declared.store.FileStore.{FileStore}
 use Rattle.reg_core.specs.Crls.{next_number}
 use Rattle.reg_core.specs.Records.{Records}
 use Rattle.reg_core.specs.Sound.{CrlsSigned}
-use Rattle.reg_office_api.specs.Signatories.{Signatory}
+use Rattle.reg_office_api.specs.Signers.{OfficeSigners}
 use Rattle.reg_crl.specs.Signing.{Identity, signed_since}
 use Rattle.reg_office.specs.Stands.{Stands}
 use Rattle.reg_store_tables.specs.DerivedRows.{DerivedRows}
@@ -36,9 +36,9 @@ tables_of found = (file_state found.audited.connection).now
 
 -- a register that was opened over the same tables as were audited: the audit's file is read-only, the register's is written
 pub record OpensSame {A D : Type 0} {a : disk.Ghosts A} {g : disk.Ghosts D} (found : FoundSound a)
-    (register : Held (FileStore D g)) (signatory : Signatory) : Type 0 where
+    (register : Held (FileStore D g)) (signers : OfficeSigners) : Type 0 where
   pub signing : CrlSigner
-  pub opened : IsOpenedFrom signing register signatory
+  pub opened : IsOpenedFrom signing register signers
   pub same : (file_state opened.connection).now ≡ tables_of found
 
 -- The audited tables show records, which are sound and as many as the result says, and the derived tables agree with them. Any records that the
@@ -50,7 +50,7 @@ pub record StandsOnceAudited {A D : Type 0} {a : disk.Ghosts A} (g : disk.Ghosts
   pub counted : CountedBy found.audit_result shown.records
   pub stand : (records : Records) (columns : DerivedRows)
       → AreRecordsAndDerived (tables_of found) records columns
-      → (register : Held (FileStore D g)) (signatory : Signatory) → OpensSame found register signatory
+      → (register : Held (FileStore D g)) (signers : OfficeSigners) → OpensSame found register signers
       → (since : ℕ) → since ≤ next_number records.crls
-      → CrlsSigned (signed_since since signs signatory.crls) records
-      → Stands over_files signs register signatory.crls records
+      → CrlsSigned (signed_since since signs signers.crls) records
+      → Stands over_files signs register signers.crls records

@@ -1,4 +1,4 @@
--- What is stated about the machine's calls.
+-- Statements about the machine's calls.
 use Rattle.std.specs.Prelude.{◌≡◌, Bool, true, false, Result, Ok, Err}
 use Rattle.reg_core.specs.declared.memory.Memory.{Memory as NoMemory}
 use Rattle.reg_desk_files.specs.declared.file.ClaimFault.{ClaimFault}

@@ -1,4 +1,4 @@
--- What is known about a register in a file.
+-- Statements about a register in a file: how it was opened, created or audited.
 use Rattle.std.specs.Prelude.{◌≡◌, ◌≤◌, ◌⊎◌, Some, None}
 use Rattle.sqlite.specs.Files.{file_state, over_files, IsOpened}
 use Rattle.sqlite.specs.Held.{Held, IsNew, state}
@@ -26,13 +26,13 @@ use Rattle.reg_audit.specs.Presumed.{IsPresumed}
 use Rattle.reg_audit.specs.AuditResults.{CountedBy, DisprovedBy, IsSound, ReportsTables}
 use Rattle.reg_audit_rows.specs.declared.audit_result.AuditResult.{AuditResult}
 use Rattle.reg_office_api.specs.CallSteps.{Signs}
-use Rattle.reg_office_api.specs.Signatories.{Signatory}
+use Rattle.reg_office_api.specs.Signers.{OfficeSigners}
 use Rattle.reg_crl.specs.Signing.{Identity}
 use Rattle.reg_crl.specs.declared.signer.Signer.{Ghosts as Signer}
 use Rattle.reg_desk_cli.specs.declared.failure.Failure.{Failure}
 use Rattle.reg_desk_cli.specs.declared.failure.Failure.TheVariants as failure
-use Rattle.reg_desk_files.specs.declared.read_only.UnreadFile.{UnreadFile}
-use Rattle.reg_desk_files.specs.declared.read_only.UnreadFile.TheVariants as unread
+use Rattle.reg_desk_files.specs.declared.read_only.ReadFailure.{ReadFailure}
+use Rattle.reg_desk_files.specs.declared.read_only.ReadFailure.TheVariants as unread
 use Rattle.reg_office.specs.AfterStoppedCommand.{LeavesThese, LeavesReported}
 use Rattle.reg_office.specs.Calls.{seen}
 use Rattle.reg_office.specs.Stands.{Stands}
@@ -57,26 +57,26 @@ module _ {C : Type 0} (g : Ghosts C) (connection : Held C) where
   -- or one with the algorithm of the latest CRL if nothing is to be signed. It has the issuer's key, and the algorithm of the latest CRL unless
   -- that has a placeholder digest. A certificate that is embedded in OCSP responses signed with the issuer's key has that key. A stop leaves
   -- the records that the tables showed.
-  pub record OpensOver (signing : CrlSigner) (register : Held C) (signatory : Signatory) : Type 0 where
+  pub record OpensOver (signing : CrlSigner) (register : Held C) (signers : OfficeSigners) : Type 0 where
     pub kept : (records : Records) → ShowsKept g connection records → ShowsKept g register records
     pub migrated : (version : OlderVersion) (records : Records) → ShowsOlder version g connection records
         → SoundRows records → ShowsKept g register records
     pub clean : doubt (state g connection).is_clean ≤ doubt (state g register).is_clean
     pub told : (records : Records) → Showed g connection records → HasCleanDisk (state g register)
-        → IsSigning signing records.issuer.key signatory.crls
+        → IsSigning signing records.issuer.key signers.crls
     pub follows : (records : Records) → Showed g connection records → SoundRows records
         → HasCleanDisk (state g register)
-        → Follows records signatory.crls.algorithm
+        → Follows records signers.crls.algorithm
     pub embeds : (records : Records) → Showed g connection records → HasCleanDisk (state g register)
-        → EmbeddedKeyFits records.issuer.key signatory.answers
+        → EmbeddedKeyFits records.issuer.key signers.answers
     pub leaves : IsWhole → (records : Records) → ShowsKept g connection records
         → LeavesThese g register records
 
   -- In a register that was created over it these records stand, and a stop leaves them. The database had no table, index or view.
-  pub record MakesOver (signs : Signs) (register : Held C) (signatory : Identity)
+  pub record MakesOver (signs : Signs) (register : Held C) (signers : Identity)
       (records : Records) : Type 0 where
-    pub stands : Stands g signs register signatory records
-    pub leaves : IsWhole → LeavesReported g signs register signatory records None
+    pub stands : Stands g signs register signers records
+    pub leaves : IsWhole → LeavesReported g signs register signers records None
     pub empty : connection.schema ≡ no_schema
     pub clean : doubt (state g connection).is_clean ≤ doubt (state g register).is_clean
 
@@ -88,10 +88,10 @@ module _ {D : Type 0} {g : disk.Ghosts D} where
 
   -- a register was opened over a connection to a file
   pub record IsOpenedFrom (signing : CrlSigner) (register : Held (FileStore D g))
-      (signatory : Signatory) : Type 0 where
+      (signers : OfficeSigners) : Type 0 where
     pub connection : Held (FileStore D g)
     pub connects : IsConnection connection
-    pub opens : OpensOver over_files connection signing register signatory
+    pub opens : OpensOver over_files connection signing register signers
 
   -- a register was created over a connection to a database with no table, index or view
   pub record IsMadeFrom (connection register : Held (FileStore D g)) : Type 0 where
@@ -106,10 +106,10 @@ module _ {D : Type 0} {g : disk.Ghosts D} where
     pub answers : office.responder ≡ responder
 
 -- An audit of a database, with its state before and after: the tables did not change. If the result is `Sound`, they are a register's tables: any
--- records that they showed are reached and as many as the result says, the bytes of each CRL are those of its entries with any signature, the
--- derived tables agree with the records, and the office has days that a schedule can allow. There are such records, if the presumptions about the
--- connection hold. If the result is a broken row, the tables showed no reached records with a register's values; if that row is not the bytes of a
--- CRL, this is true whatever the bytes of CRLs are. An older version and other tables are reported only if the tables have them.
+-- records that they showed are sound (`Reached`) and as many as the result says, the bytes of each CRL are those of its entries with any signature,
+-- the derived tables agree with the records, and the column `days` of `office` is one that a schedule can have. There are such records if the
+-- connection has what `IsPresumed` states. If the result is a broken row, the tables showed no sound records with a register's values; if that row is
+-- not the bytes of a CRL, this is true whatever the bytes of CRLs are. An older version and other tables are reported only if the tables have them.
 pub record Says {D : Type 0} {g : disk.Ghosts D} (connection after : Held (FileStore D g))
     (audit_result : AuditResult) : Type 0 where
   pub sound : (records : Records) (columns : DerivedRows) → ShowsBoth over_files connection records columns
@@ -141,6 +141,6 @@ pub record IsAuditOf {D : Type 0} (g : disk.Ghosts D) (image : Image)
   pub found : HasCleanDisk (file_state audited.connection) → FindsIn image (file_state audited.connection)
 
 -- the failure of a job for files that can't be read
-abbrev pub failure_of : UnreadFile → Failure
+abbrev pub failure_of : ReadFailure → Failure
 failure_of unread.Nothing = failure.NotARegister
 failure_of (unread.Fault why) = failure.Fault why.fault

@@ -4,7 +4,7 @@ use Rattle.reg_core.specs.declared.cause.Cause.{Cause}
 use Rattle.reg_core.specs.declared.cause.Cause.TheVariants as cause
 use Rattle.reg_desk_jobs.specs.Signers.{MayFollow}
 use Rattle.reg_crl_signer.specs.Algorithms.{identifier_of}
-use Rattle.reg_crl_signer.specs.Signed.{IsCrlUnder}
+use Rattle.reg_crl_signer.specs.Signed.{IsCrlWithAlgorithm}
 use Rattle.reg_crl_signer.specs.declared.algorithm.Algorithm.{Algorithm}
 
 -- an algorithm of a key that is known here (RFC 5280 4.1.1.2)
@@ -20,7 +20,7 @@ Differs found algorithm why =
 
 -- why no CRL with an algorithm may follow this one, by the algorithm in it (RFC 5280 5.1.1.2)
 abbrev pub IsMismatch : List ℕ → List ℕ → Cause → Type 0
-IsMismatch crl algorithm cause = (other : List ℕ) → IsCrlUnder crl other → Differs other algorithm cause
+IsMismatch crl algorithm cause = (other : List ℕ) → IsCrlWithAlgorithm crl other → Differs other algorithm cause
 
 -- why no CRL with an algorithm may follow the latest one
 abbrev pub IsMismatchAfter : Option (List ℕ) → List ℕ → Cause → Type 0

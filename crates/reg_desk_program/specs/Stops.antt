@@ -1,11 +1,11 @@
--- What a stop at any moment of a job leaves of the register in a file.
+-- The records that a stop at any moment of a job leaves in the register in a file.
 use Rattle.std.specs.Prelude.{Option, None}
 use Rattle.sqlite.specs.Files.{over_files}
 use Rattle.sqlite.specs.Held.{Held}
 use Rattle.sqlite_disk.specs.declared.Disk as disk
 use Rattle.sqlite_store.specs.declared.store.FileStore.{FileStore}
 use Rattle.reg_core.specs.Records.{Records}
-use Rattle.reg_office_api.specs.Signatories.{Signatory}
+use Rattle.reg_office_api.specs.Signers.{OfficeSigners}
 use Rattle.reg_office_api.specs.CallSteps.{Signs}
 use Rattle.reg_desk_jobs.specs.declared.crl_signer.CrlSigner.{CrlSigner}
 use Rattle.reg_office.specs.AfterStoppedCommand.{ChangingCall}
@@ -16,18 +16,18 @@ use Rattle.reg_office.specs.Stands.{SoundFor}
 use Rattle.reg_store_tables.specs.Kept.{ShowsKept}
 use Rattle.reg_desk_program.specs.Files.{IsOpenedFrom}
 
--- An office is its store and its signatory. In an office that is opened, the sound records stand that the file's tables showed, and no call was
+-- An office is a store and its signers. In an office that is opened, the sound records stand that the file's tables showed, and no call was
 -- interrupted (`begins`). The machine may stop in any later call, or after it. A call that is executed over an open connection interrupts only itself
 -- (`call`), and of calls one after another only one is interrupted (`calls`). If a register is then opened again, it has the records that stood in
 -- the office, or those after the interrupted call (`leaves`).
 pub record LeavesWhatWasReported {D : Type 0} (g : disk.Ghosts D) (signs : Signs) : Type 0 where
-  pub begins : (signing : CrlSigner) (office : Held (FileStore D g) × Signatory)
+  pub begins : (signing : CrlSigner) (office : Held (FileStore D g) × OfficeSigners)
       (opened : IsOpenedFrom signing office.0 office.1) (records : Records)
       → ShowsKept over_files opened.connection records → SoundFor signs office.1.crls records
       → StandsWith over_files signs office office.1 records None
   pub call : InterruptsOnlyItself (over_files {D = D} {g = g}) signs
   pub calls : InterruptsOneOfThem (over_files {D = D} {g = g}) signs
-  pub leaves : (office : Held (FileStore D g) × Signatory) (signatory : Signatory) (records : Records)
+  pub leaves : (office : Held (FileStore D g) × OfficeSigners) (signers : OfficeSigners) (records : Records)
       (interrupted : Option ChangingCall)
-      → StandsWith over_files signs office signatory records interrupted
-      → OpensReported over_files signs office.0 signatory.crls records interrupted
+      → StandsWith over_files signs office signers records interrupted
+      → OpensReported over_files signs office.0 signers.crls records interrupted

@@ -3,14 +3,14 @@ use Rattle.std.specs.Prelude.{◌≡◌, ℕ, List, Option, Some, None}
 use Rattle.sqlite.specs.Held.{Held, state}
 use Rattle.sqlite.specs.State.{HasCleanDisk}
 use Rattle.sqlite_trees.specs.declared.store.Store.{Ghosts}
-use Rattle.reg_office_api.specs.Signatories.{Responder}
+use Rattle.reg_office_api.specs.Signers.{Responder}
 use Rattle.reg_core.specs.Records.{Records}
 use Rattle.reg_core.specs.Sound.{SoundRows}
 use Rattle.reg_crl.specs.Signing.{Identity}
 use Rattle.reg_desk_jobs.specs.Signers.{EmbeddedKeyFits, Follows, IsSigning, MayFollow, identity_of_signer}
 use Rattle.reg_desk_jobs.specs.declared.crl_signer.CrlSigner.{CrlSigner}
 use Rattle.reg_desk_jobs.specs.declared.crl_signer.CrlSigner.TheVariants.{NoSigner, Digest, KeyAt}
-use Rattle.reg_crl_signer.specs.Signed.{IsCrlUnder}
+use Rattle.reg_crl_signer.specs.Signed.{IsCrlWithAlgorithm}
 use Rattle.reg_store_tables.specs.Shows.{Shows}
 use Rattle.reg_desk_cli.specs.declared.job.SignerAddress.{SignerAddress}
 
@@ -28,7 +28,7 @@ module _ {C : Type 0} (g : Ghosts C) (old new : Held C) (answers : Identity → 
   pub record FitsLatest (address : Option SignerAddress) (latest : Option (List ℕ)) : Type 0 where
     pub told : (records : Records) → Shows g old records → HasCleanDisk (state g new)
         → identity ≡ identity_of_signer address records.issuer.key
-    pub follows : (crl : List ℕ) → latest ≡ Some crl → (other : List ℕ) → IsCrlUnder crl other
+    pub follows : (crl : List ℕ) → latest ≡ Some crl → (other : List ℕ) → IsCrlWithAlgorithm crl other
         → MayFollow identity.algorithm other
     pub embeds : (records : Records) → Shows g old records → HasCleanDisk (state g new)
         → (crls : Identity) → EmbeddedKeyFits records.issuer.key (answers crls)

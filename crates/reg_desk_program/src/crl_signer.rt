@@ -11,7 +11,7 @@ ghost use Rattle.reg_desk_jobs.specs.Signers.{MayFollow, identity_of_signer};
 ghost use Rattle.reg_office.specs.Answering.{answers_by};
 ghost use Rattle.reg_crl_signer.specs.Forms.{identity_of};
 ghost use Rattle.reg_crl_signer.specs.RegisterSigners.{register_signer_path};
-ghost use Rattle.reg_crl_signer.specs.Signed.{IsCrlUnder};
+ghost use Rattle.reg_crl_signer.specs.Signed.{IsCrlWithAlgorithm};
 ghost use Rattle.reg_desk_program.specs.Mismatches.{Differs, IsKnownAlgorithm, IsMismatch, IsMismatchAfter};
 ghost use Rattle.reg_desk_program.specs.StoreSigners.{SignerAtPath, FitsLatest, FitsRegister};
 ghost use Rattle.reg_store_tables.specs.Shows.{Shows};
@@ -48,7 +48,7 @@ pub(crate) fn signer_for<C: Alter>(
     responder: &Responder<FileSigner>,
 ) -> Result<FileSigner, Failure>
     ensures signs { IfOk result (λ signer. FitsRegister C.Store tables.old tables.new
-        (λ signatory. answers_by ⟦<FileSigner as Signer>⟧.identity signatory responder.now)
+        (λ signers. answers_by ⟦<FileSigner as Signer>⟧.identity signers responder.now)
         (⟦<FileSigner as Signer>⟧.identity signer) crls.now) }
     ensures asks { IfOk result (λ signer.
         SignerAtPath crls.now (register_signer_path ⟦<FileDevice as Device>⟧ signer)) }
@@ -72,7 +72,7 @@ fn signer_without_process<C: Alter>(
 ) -> Result<FileSigner, Failure>
     ensures signs { IfOk result (λ signer.
         (address : Option SignerAddress) × FitsLatest C.Store tables.old tables.new
-        (λ signatory. answers_by ⟦<FileSigner as Signer>⟧.identity signatory responder.now)
+        (λ signers. answers_by ⟦<FileSigner as Signer>⟧.identity signers responder.now)
         (⟦<FileSigner as Signer>⟧.identity signer)
         address (option_map (λ bytes. bytes.items) latest.now)) }
     ensures looked { Looked C.Store tables.old tables.new }
@@ -107,7 +107,7 @@ fn signer_after<C: Alter>(
     responder: &Responder<FileSigner>,
 ) -> Result<FileSigner, Failure>
     ensures signs { IfOk result (λ signer. FitsLatest C.Store tables.old tables.new
-        (λ signatory. answers_by ⟦<FileSigner as Signer>⟧.identity signatory responder.now)
+        (λ signers. answers_by ⟦<FileSigner as Signer>⟧.identity signers responder.now)
         (⟦<FileSigner as Signer>⟧.identity signer)
         (option_copied address.entry) (option_map (λ bytes. bytes.items) latest.now)) }
     ensures asks { IfOk result (λ signer.
@@ -206,7 +206,7 @@ fn latest_crl<C: Alter>(tables: &mut Tables<C>) -> Result<Option<Vec<u8>>, Datab
 fn mismatch(latest: &Option<Vec<u8>>, algorithm: &[u8]) -> Option<Cause>
     ensures { MatchOption result
         ((crl : List ℕ) → option_map (λ bytes. bytes.items) latest.now ≡ Some crl
-        → (other : List ℕ) → IsCrlUnder crl other → MayFollow algorithm.now other)
+        → (other : List ℕ) → IsCrlWithAlgorithm crl other → MayFollow algorithm.now other)
         (IsMismatchAfter (option_map (λ bytes. bytes.items) latest.now) algorithm.now) }
 {
     match latest {
@@ -216,7 +216,7 @@ fn mismatch(latest: &Option<Vec<u8>>, algorithm: &[u8]) -> Option<Cause>
 }
 
 fn mismatch_of(crl: &[u8], algorithm: &[u8]) -> Option<Cause>
-    ensures { MatchOption result ((other : List ℕ) → IsCrlUnder crl.now other → MayFollow algorithm.now other)
+    ensures { MatchOption result ((other : List ℕ) → IsCrlWithAlgorithm crl.now other → MayFollow algorithm.now other)
         (IsMismatch crl.now algorithm.now) }
 {
     match crl_algorithm(crl) {

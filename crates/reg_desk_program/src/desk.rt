@@ -1,9 +1,9 @@
 //! Runs an invocation of the program.
 
-use crate::dispatch::perform_unreported;
+use crate::dispatch::perform_without_contract;
 use crate::host::{Host, open_log};
 use crate::input::{Input, input_path};
-use crate::progress::{CountedOutput, file_of, report_opening};
+use crate::progress::{CountedOutput, register_path_of, report_opening};
 use reg_core::{Fault, create_cause_of, io_cause_of};
 use reg_desk_cli::{Failure, Invocation, status_of};
 use reg_desk_jobs::{FailureCause, Location, report_exit};
@@ -12,9 +12,9 @@ use std::io::{ErrorKind, IsTerminal};
 use std::os::unix::fs::MetadataExt;
 use std::{fs, io};
 
-/// Does the job of an invocation, and returns the exit status of [`perform`]. The job reads standard input, or the file that an option names in its
-/// place, and writes to standard output. If the log file or the input file can't be opened, the job does not start: `run_desk` reports the fault on
-/// standard error, and returns 1.
+/// Does the job of an invocation, and returns the exit status of [`perform`]. The job reads standard input, or the file that an option or argument
+/// names in its place, and writes to standard output. If the log file or the input file can't be opened, the job does not start: `run_desk` reports
+/// the fault on standard error, and returns 1.
 ///
 /// [`perform`]: crate::perform
 pub fn run_desk(rt: &HostRuntime, invocation: &Invocation<'_>) -> u8 {
@@ -42,7 +42,7 @@ pub fn run_desk(rt: &HostRuntime, invocation: &Invocation<'_>) -> u8 {
         shows_progress: errors.is_terminal(),
     };
     let mut output = CountedOutput::of(rt, &invocation.job, &last_cause);
-    perform_unreported(
+    perform_without_contract(
         rt,
         &mut host,
         &invocation.job,
@@ -64,7 +64,8 @@ fn log_path<'n>(invocation: &'n Invocation<'_>) -> Option<&'n str> {
 /// Checks that the log file can be opened for appending, and creates it if there is none. Errors: `AlreadyExists` if it is the register's file, or
 /// that file's `-wal` or `-journal`, which log lines would damage; else those of the system.
 fn check_log(rt: &HostRuntime, invocation: &Invocation<'_>) -> io::Result<()> {
-    let (Some(path), Some(register)) = (log_path(invocation), file_of(&invocation.job)) else {
+    let (Some(path), Some(register)) = (log_path(invocation), register_path_of(&invocation.job))
+    else {
         return Ok(());
     };
     let log = open_log(rt, path)?.metadata()?;

@@ -31,7 +31,7 @@ pub fn perform<M: Machine, R: Source, W: Sink, E: Write>(
 {
     let reason = Cell::new(None);
     let ending = run(rt, machine, job, &reason, reader, writer);
-    keep_terms_cause(machine, job, &ending);
+    keep_policy_cause(machine, job, &ending);
     let alloc = rt.alloc();
     report_exit(
         alloc,
@@ -46,7 +46,7 @@ pub fn perform<M: Machine, R: Source, W: Sink, E: Write>(
 
 /// Calls [`perform`], and reports as it does, but has no contract. If `run_desk` called `perform` itself, the prover would write out the contract
 /// over the program's files and sockets, which takes minutes.
-pub(crate) fn perform_unreported<M: Machine, R: Source, W: Sink, E: Write>(
+pub(crate) fn perform_without_contract<M: Machine, R: Source, W: Sink, E: Write>(
     rt: &HostRuntime,
     machine: &mut M,
     job: &Job<'_>,
@@ -142,13 +142,13 @@ fn run<M: Machine, R: Source, W: Sink>(
 }
 
 /// Keeps the cause of `BadPolicy` in the machine.
-fn keep_terms_cause<M: Machine>(machine: &M, job: &Job<'_>, ending: &Result<(), Failure>) {
+fn keep_policy_cause<M: Machine>(machine: &M, job: &Job<'_>, ending: &Result<(), Failure>) {
     if let Err(Failure::BadPolicy) = ending {
         machine.keep_cause(None, wrong_terms(job));
     }
 }
 
-/// Why the options of the job make no policy.
+/// The option that is out of its range; or, for `schedule`, that the steps are no schedule.
 fn wrong_terms(job: &Job<'_>) -> Option<Cause> {
     match job {
         Job::Init(new) => policy_cause_of(new.days, new.crl_life, new.ocsp_life, new.cap),

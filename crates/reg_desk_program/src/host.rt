@@ -4,7 +4,7 @@ ghost use Rattle.std.specs.Prelude.{◌≡◌, ◌≤◌, ◌/◌, ℕ, List, []
 ghost use Rattle.std.specs.Duration.{as_nanos};
 ghost use Rattle.reg_office_api.specs.LookUps.{IsOfStore};
 ghost use Rattle.reg_office_api.specs.Calls.{KeepsIn};
-ghost use Rattle.reg_desk_files.specs.Reading.{IsUnread};
+ghost use Rattle.reg_desk_files.specs.Reading.{IsReadFailureOfFiles};
 ghost use Rattle.reg_desk_jobs.specs.RegisterFailures.{IsOpenFailure, IsReadFailure};
 ghost use Rattle.reg_desk_program.specs.Calls.{Unspecified, is_claimed};
 ghost use Rattle.reg_desk_program.specs.Files.{failure_of};
@@ -14,7 +14,7 @@ use crate::file_audit::audit_over;
 use crate::file_office::{FileOffice, FileSigner};
 use crate::ocsp_responder::{delegate_responder, issuer_responder};
 use crate::offices::{FileConnection, close, connection_of, create_over, open_over, preset_next};
-use mio::net::{TcpListener, TcpStream, UnixListener, UnixStream as UnwaitingStream};
+use mio::net::{TcpListener, TcpStream, UnixListener, UnixStream as NonblockingStream};
 use mio::{Events, Poll};
 use reg_audit_rows::AuditResult;
 use reg_core::{Cause, Fault, Memory, Policy, io_cause_of, port_cause_of};
@@ -25,7 +25,7 @@ use reg_crl_signer::{
 use reg_der::Issuer;
 use reg_desk_cli::{Failure, ResponderChoice};
 use reg_desk_files::{
-    ClaimFault, FileFault, Overlay, ReadFile, Source, Sources, UnreadFile, check_database,
+    ClaimFault, FileFault, Overlay, ReadFailure, ReadFile, Source, Sources, check_database,
     claim_file, copy_closed, copy_open, open_file, open_sources, read_at, remove_file,
 };
 use reg_desk_jobs::{CopyFault, CrlSigner, FailureCause, Location, Machine, SignatureKind};
@@ -71,15 +71,15 @@ pub struct Host<'a> {
 
 impl<'a> Host<'a> {
     /// The failure for files that could not be read: `NotARegister` if there is no database yet, else the fault, whose cause is kept.
-    pub(crate) fn failure_of(&self, location: Option<Location>, why: UnreadFile) -> Failure
-        requires { IsUnread why }
+    pub(crate) fn failure_of(&self, location: Option<Location>, why: ReadFailure) -> Failure
+        requires { IsReadFailureOfFiles why }
         ensures told { result ≡ failure_of why }
         ensures opening { IsOpenFailure result }
         ensures reading { IsReadFailure result }
     {
         match why {
-            UnreadFile::Nothing => Failure::NotARegister,
-            UnreadFile::Fault(why) => Failure::Fault(self.fault_of(location, why)),
+            ReadFailure::Nothing => Failure::NotARegister,
+            ReadFailure::Fault(why) => Failure::Fault(self.fault_of(location, why)),
         }
     }
 
@@ -126,7 +126,7 @@ impl<'a> Machine for Host<'a> {
     ghost use Rattle.reg_crl.specs.Signing.{Identity};
     ghost use Rattle.reg_desk_files.specs.Overlaid.{image};
     ghost use Rattle.reg_desk_jobs.specs.Signers.{IsAnswering};
-    ghost use Rattle.reg_office.specs.Answering.{signatory_of};
+    ghost use Rattle.reg_office.specs.Answering.{signers_of};
     ghost use Rattle.reg_desk_program.specs.Files.{IsAuditOf, IsConnection, IsMadeFrom, OpensFor};
 
     type Office = FileOffice;
@@ -155,7 +155,7 @@ impl<'a> Machine for Host<'a> {
 
     ghost fresh = { λ database. (database.in_transaction ≡ false) × IsConnection database };
 
-    ghost certified = { λ responder loaded. (crls : Identity) → IsAnswering responder (signatory_of ⟦<FileSigner as Signer>⟧.identity crls loaded) };
+    ghost certified = { λ responder loaded. (crls : Identity) → IsAnswering responder (signers_of ⟦<FileSigner as Signer>⟧.identity crls loaded) };
 
     ghost opened = { λ database crls responder office. OpensFor ⟦<FileSigner as Signer>⟧ database crls responder office.office };
 
@@ -363,7 +363,7 @@ impl<'a> Machine for Host<'a> {
     }
 
     fn is_stale(&self, lock: &File, path: &str) -> bool {
-        match UnwaitingStream::connect(&self.rt, path) {
+        match NonblockingStream::connect(&self.rt, path) {
             Ok(_) => false,
             Err(error) => error.kind() == ErrorKind::ConnectionRefused,
         }
@@ -448,16 +448,16 @@ impl<'a> Machine for Host<'a> {
 }
 
 /// Why an open register's files were not copied. If the files have no database now, they are damaged, because the desk has one open there.
-fn copy_fault_by(why: UnreadFile) -> CopyFault
-    requires { IsUnread why }
+fn copy_fault_by(why: ReadFailure) -> CopyFault
+    requires { IsReadFailureOfFiles why }
     ensures { IsOfStore result.fault }
 {
     match why {
-        UnreadFile::Nothing => CopyFault {
+        ReadFailure::Nothing => CopyFault {
             fault: Fault::Store,
             cause: Some(Cause::Damaged),
         },
-        UnreadFile::Fault(why) => CopyFault {
+        ReadFailure::Fault(why) => CopyFault {
             fault: why.fault,
             cause: why.cause,
         },

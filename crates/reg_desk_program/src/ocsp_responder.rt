@@ -4,7 +4,7 @@ ghost use Rattle.std.specs.Prelude.{◌≡◌, ◌⊎◌, IsTrue, IfOk, IfErr, O
 ghost use Rattle.reg_crl.specs.Signing.{Identity};
 ghost use Rattle.reg_desk_jobs.specs.RegisterFailures.{IsOpenFailure};
 ghost use Rattle.reg_desk_jobs.specs.Signers.{EmbeddedKeyFits, HasCertificate, IsAnswering, IsDelegate};
-ghost use Rattle.reg_office.specs.Answering.{answers_by, signatory_of};
+ghost use Rattle.reg_office.specs.Answering.{answers_by, signers_of};
 ghost use Rattle.reg_desk_cli.specs.declared.job.ResponderChoice.TheVariants.{Issuer};
 
 use crate::crl_signer::key_signer;
@@ -28,7 +28,7 @@ pub(crate) fn issuer_responder(
 ) -> Result<Responder<FileSigner>, Failure>
     ensures ok { IfOk result (λ responder.
         (crls : Identity) → IsAnswering (Issuer path.now)
-        (signatory_of ⟦<FileSigner as Signer>⟧.identity crls responder)) }
+        (signers_of ⟦<FileSigner as Signer>⟧.identity crls responder)) }
     ensures certified { OnErr result (HasCertificate (Issuer path.now)) }
     ensures faults { IfErr result IsOpenFailure }
 {

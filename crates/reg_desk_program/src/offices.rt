@@ -3,7 +3,7 @@
 ghost use Rattle.std.specs.Prelude.{◌≡◌, None, false, IfOk, IfErr};
 ghost use Rattle.reg_core.specs.Records.{no_records};
 ghost use Rattle.reg_desk_jobs.specs.RegisterFailures.{IsCreateFailure, IsOpenFailure};
-ghost use Rattle.reg_office.specs.Answering.{signatory_of};
+ghost use Rattle.reg_office.specs.Answering.{signers_of};
 ghost use Rattle.reg_office.specs.Calls.{seen};
 ghost use Rattle.reg_office.specs.declared.responder.Responder.TheVariants.{Issuer as ByIssuer};
 ghost use Rattle.reg_desk_program.specs.Files.{MakesOver, OpensOver};
@@ -82,8 +82,8 @@ pub(crate) fn close<D: Disk + Drop>(connection: Connection<FileStore<D>>) {
     drop(connection.close());
 }
 
-/// Presets the next signature: for an answer that of a delegate, otherwise that of the signer of CRLs. `None` removes the preset. This contract does
-/// not limit what is preset.
+/// Presets the next signature of the delegate if `kind` is `Answer` and a delegate responds, else of the signer of CRLs. `None` removes the preset.
+/// This contract does not limit the preset signature.
 #[tactic(auto, using(crate::proofs::Priming::given_anyhow))]
 pub(crate) fn preset_next(
     signer: &mut FileSigner,
@@ -91,9 +91,9 @@ pub(crate) fn preset_next(
     kind: SignatureKind,
     preset_signature: Option<PresetSignature>,
 )
-    ensures { signatory_of ⟦<FileSigner as Signer>⟧.identity (⟦<FileSigner as Signer>⟧.identity signer.new)
+    ensures { signers_of ⟦<FileSigner as Signer>⟧.identity (⟦<FileSigner as Signer>⟧.identity signer.new)
         responder.new
-        ≡ signatory_of ⟦<FileSigner as Signer>⟧.identity (⟦<FileSigner as Signer>⟧.identity signer.old)
+        ≡ signers_of ⟦<FileSigner as Signer>⟧.identity (⟦<FileSigner as Signer>⟧.identity signer.old)
         responder.old }
 {
     match (kind, responder) {

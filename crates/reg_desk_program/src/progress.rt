@@ -13,8 +13,8 @@ const LARGE: u64 = 67_108_864;
 
 const MEGABYTE: u64 = 1_000_000;
 
-/// Standard output, to which a long job writes a reply line for each line or row that is done. The number of these replies is shown on standard
-/// error, at most once a second.
+/// Standard output. For a long job, which replies to each line or row that is done, the number of replies is shown on standard error, at most once a
+/// second. The cause of a failed write is kept in `last_cause`.
 #[derive(Drop)]
 pub(crate) struct CountedOutput<'a> {
     rt: &'a HostRuntime,
@@ -89,7 +89,7 @@ impl<'a> Write for CountedOutput<'a> {
 
 /// Shows that the job opens a large register, if standard error is a terminal.
 pub(crate) fn report_opening(rt: &HostRuntime, job: &Job<'_>) {
-    let Some(path) = file_of(job) else {
+    let Some(path) = register_path_of(job) else {
         return;
     };
     let bytes = fs::metadata(rt, path).map_or(0, |it| it.len());
@@ -120,7 +120,7 @@ fn is_long(job: &Job<'_>) -> bool {
 }
 
 /// The path of the register that a job opens. `None` for a register in memory, and for a job that opens none.
-pub(crate) fn file_of<'a>(job: &Job<'a>) -> Option<&'a str> {
+pub(crate) fn register_path_of<'a>(job: &Job<'a>) -> Option<&'a str> {
     match job {
         Job::Script { file, .. } => Some(file.as_ref()?.as_str()),
         Job::Lines(script) => Some(script.file.as_str()),

@@ -10,7 +10,7 @@ use Rattle.reg_io.specs.Delimiter.{FirstDelimiter}
 use Rattle.reg_io.proofs.PublicLaws.{first_delimiter_of_byte}
 use Rattle.reg_http_head.specs.Bytes.{collected_bytes}
 use Rattle.reg_http_head.specs.declared.collected.Collected.{Collected}
-use Rattle.reg_desk_server.specs.Connections.{FinishesOnce, HasServed, HasAnsweredLines, IsAnsweredOnce, IsAnsweredBy, KeepsServed, ServesOn, SinceAccepted, AnswersNoMoreLines, AnswersOneMoreLine, WasAnswered, WasLeftUnsigned, more_received, more_sent, nothing_yet}
+use Rattle.reg_desk_server.specs.Connections.{FinishesInSomeState, IsServedOnce, HasAnsweredLines, IsAnsweredAtMostOnce, IsAnsweredBy, KeepsServed, ServesOn, SinceAccepted, AnswersNoMoreLines, AnswersOneMoreLine, WasAnswered, WasLeftUnsigned, more_received, more_sent, nothing_yet}
 use Rattle.reg_desk_server.specs.ControlLines.{DefersFirstLine, Gathers, IsFresh, SameLines, SameLinkAndEnd, AnswersFirstLine, AnswersDeferred}
 use Rattle.reg_desk_server.specs.Exchange.{Outcome, said, pending, later}
 use Rattle.reg_desk_server.specs.Stages.{Answering, Finishing, HasReceived, HasUnsentText, HasUnsentRest, IsDraining, IsDropped, KeepsOutcome, AwaitsSignature, KeepsSigning}
@@ -140,7 +140,7 @@ module _ {S H : Type 0} (contents remaining : S → Option (List ℕ)) (answers_
 
 -- an answer that the handler finishes in this state is finished in some state
 pub finishes_once : {H T : Type 0} (finishes : H → T → List ℕ → Type 0) (s : H) (before after : Stage T)
-    → Finishing (finishes s) before after → Finishing (FinishesOnce finishes) before after
+    → Finishing (finishes s) before after → Finishing (FinishesInSomeState finishes) before after
 finishes_once finishes s (stage.Signing ticket link exact) after (text, finished, holds) = (text, (s, finished), holds)
 finishes_once finishes s other after same = same
 
@@ -160,9 +160,9 @@ module _ {H T : Type 0} (answers : H → List ℕ → Outcome T → H → Type 0
 
   -- more of a request was received
   asking_on : (collected : Collected) (after : Stage T) (arrived gone bytes kept lost : List ℕ) (ended ended' : Bool)
-      → IsAnsweredOnce answers finishes arrived gone (stage.Receiving collected) ended → HasReceived after bytes → bytes ≡ collected_bytes collected ++ kept
+      → IsAnsweredAtMostOnce answers finishes arrived gone (stage.Receiving collected) ended → HasReceived after bytes → bytes ≡ collected_bytes collected ++ kept
       → (lost ≡ []) ⊎ (ended' ≡ true) → (ended ≡ true → (bytes ≡ collected_bytes collected) × (ended' ≡ true))
-      → IsAnsweredOnce answers finishes (arrived ++ (kept ++ lost)) gone after ended'
+      → IsAnsweredAtMostOnce answers finishes (arrived ++ (kept ++ lost)) gone after ended'
   asking_on collected (stage.Receiving more) arrived gone bytes kept lost ended ended' was asks grows whole over =
       let (all, joined, still) = lost_on [] (collected_bytes collected) bytes was.1 kept lost ended ended' was.3 grows whole over in
       (was.0, all, ap (λ (l : List ℕ). l ++ (kept ++ lost)) was.2 ∙ joined ∙ ap (λ (l : List ℕ). l ++ all) asks, still)
@@ -170,14 +170,14 @@ module _ {H T : Type 0} (answers : H → List ℕ → Outcome T → H → Type 0
 
   -- an answer is still left to be signed
   waiting_on : (after : Stage T) (arrived gone : List ℕ) (ticket : T) (ended : Bool) → gone ≡ [] → WasLeftUnsigned answers arrived ticket → AwaitsSignature after ticket
-      → IsAnsweredOnce answers finishes arrived gone after ended
+      → IsAnsweredAtMostOnce answers finishes arrived gone after ended
   waiting_on (stage.Signing kept link exact) arrived gone ticket ended none was waits =
       (none, subst (λ (kept : T). WasLeftUnsigned answers arrived kept) (sym waits) was)
   waiting_on _ arrived gone ticket ended none was waits = absurd waits
 
   -- more of an answer was sent
   sending_on : (after : Stage T) (arrived gone went rest text : List ℕ) (ended : Bool) → WasAnswered answers finishes arrived (gone ++ text)
-      → text ≡ went ++ rest → HasUnsentRest after rest → IsAnsweredOnce answers finishes arrived (gone ++ went) after ended
+      → text ≡ went ++ rest → HasUnsentRest after rest → IsAnsweredAtMostOnce answers finishes arrived (gone ++ went) after ended
   sending_on (stage.Sending unsent exact) arrived gone went rest text ended was parted left =
       answered_as arrived (gone ++ text) (gone ++ went ++ unsent_of unsent)
       (part_on gone went rest text parted ∙ ap (λ (l : List ℕ). gone ++ went ++ l) left)
@@ -190,34 +190,34 @@ module _ {H T : Type 0} (answers : H → List ℕ → Outcome T → H → Type 0
 
   -- the whole answer was sent
   leaving_on : (after : Stage T) (arrived gone : List ℕ) (ended : Bool) → WasAnswered answers finishes arrived gone → IsDraining after
-      → IsAnsweredOnce answers finishes arrived gone after ended
+      → IsAnsweredAtMostOnce answers finishes arrived gone after ended
   leaving_on stage.Draining arrived gone ended was left = was
   leaving_on _ arrived gone ended was left = absurd left
 
   -- an answer is kept to be sent, and none of it was sent yet
   answered_by : (after : Stage T) (arrived gone text : List ℕ) (ended : Bool) → gone ≡ [] → WasAnswered answers finishes arrived text → HasUnsentText after text
-      → IsAnsweredOnce answers finishes arrived gone after ended
+      → IsAnsweredAtMostOnce answers finishes arrived gone after ended
   answered_by (stage.Sending unsent exact) arrived gone text ended none was holds =
       answered_as arrived text (gone ++ unsent_of unsent) (holds ∙ ap (λ (l : List ℕ). l ++ unsent_of unsent) (sym none)) was
   answered_by _ arrived gone text ended none was holds = absurd holds
 
   -- the stage stays the same, and the connection may have ended
   same_on : (before after : Stage T) (arrived gone : List ℕ) (ended ended' : Bool) → after ≡ before → (ended ≡ true → ended' ≡ true)
-      → IsAnsweredOnce answers finishes arrived gone before ended → IsAnsweredOnce answers finishes arrived gone after ended'
+      → IsAnsweredAtMostOnce answers finishes arrived gone before ended → IsAnsweredAtMostOnce answers finishes arrived gone after ended'
   same_on before after arrived gone ended ended' same ends was =
-      subst (λ (at : Stage T). IsAnsweredOnce answers finishes arrived gone at ended') (sym same) (go before was)
+      subst (λ (at : Stage T). IsAnsweredAtMostOnce answers finishes arrived gone at ended') (sym same) (go before was)
     where
       over : (lost : List ℕ) → (lost ≡ []) ⊎ (ended ≡ true) → (lost ≡ []) ⊎ (ended' ≡ true)
       over lost (inl none) = inl none
       over lost (inr is) = inr (ends is)
 
-      go : (at : Stage T) → IsAnsweredOnce answers finishes arrived gone at ended → IsAnsweredOnce answers finishes arrived gone at ended'
+      go : (at : Stage T) → IsAnsweredAtMostOnce answers finishes arrived gone at ended → IsAnsweredAtMostOnce answers finishes arrived gone at ended'
       go (stage.Receiving collected) it = (it.0, it.1, it.2, over it.1 it.3)
       go other it = it
 
   -- a request was answered, or waits for a signature
   outcome_on : (after : Stage T) (asked dropped arrived gone : List ℕ) (ended : Bool) (s t : H) (outcome : Outcome T) → gone ≡ [] → arrived ≡ asked ++ dropped
-      → answers s asked outcome t → KeepsOutcome outcome after → IsAnsweredOnce answers finishes arrived gone after ended
+      → answers s asked outcome t → KeepsOutcome outcome after → IsAnsweredAtMostOnce answers finishes arrived gone after ended
   outcome_on after asked dropped arrived gone ended s t (said text) none came_so by held =
       answered_by after arrived gone text ended none (asked, dropped, came_so, inl (s, t, by)) held
   outcome_on after asked dropped arrived gone ended s t (pending ticket) none came_so by held =
@@ -225,31 +225,31 @@ module _ {H T : Type 0} (answers : H → List ℕ → Outcome T → H → Type 0
   outcome_on after asked dropped arrived gone ended s t later none came_so by held = absurd held
 
   -- the handler answered the request, or nothing changed
-  pub answering_on : (s t : H) (before after : Stage T) (arrived gone : List ℕ) (ended ended' : Bool) → IsAnsweredOnce answers finishes arrived gone before ended
-      → Answering answers s t before after → (ended ≡ true → ended' ≡ true) → IsAnsweredOnce answers finishes arrived gone after ended'
+  pub answering_on : (s t : H) (before after : Stage T) (arrived gone : List ℕ) (ended ended' : Bool) → IsAnsweredAtMostOnce answers finishes arrived gone before ended
+      → Answering answers s t before after → (ended ≡ true → ended' ≡ true) → IsAnsweredAtMostOnce answers finishes arrived gone after ended'
   answering_on s t (stage.Receiving collected) after arrived gone ended ended' was (outcome, by, held) ends =
       outcome_on after (collected_bytes collected) was.1 arrived gone ended' s t outcome was.0 was.2 by held
   answering_on s t other after arrived gone ended ended' was same ends = same_on other after arrived gone ended ended' same ends was
 
   -- an answer that was left to be signed was finished, or nothing changed
-  pub finishing_on : (before after : Stage T) (arrived gone : List ℕ) (ended ended' : Bool) → IsAnsweredOnce answers finishes arrived gone before ended
-      → Finishing finishes before after → (ended ≡ true → ended' ≡ true) → IsAnsweredOnce answers finishes arrived gone after ended'
+  pub finishing_on : (before after : Stage T) (arrived gone : List ℕ) (ended ended' : Bool) → IsAnsweredAtMostOnce answers finishes arrived gone before ended
+      → Finishing finishes before after → (ended ≡ true → ended' ≡ true) → IsAnsweredAtMostOnce answers finishes arrived gone after ended'
   finishing_on (stage.Signing ticket link exact) after arrived gone ended ended' (none, (asked, dropped, came_so, by)) (text, finished, holds) ends =
       answered_by after arrived gone text ended' none (asked, dropped, came_so, inr (ticket, finished, by)) holds
   finishing_on other after arrived gone ended ended' was same ends = same_on other after arrived gone ended ended' same ends was
 
   -- a signature was requested, or nothing changed
-  pub resting_on : (before after : Stage T) (arrived gone : List ℕ) (ended ended' : Bool) → IsAnsweredOnce answers finishes arrived gone before ended
-      → KeepsSigning before after → (ended ≡ true → ended' ≡ true) → IsAnsweredOnce answers finishes arrived gone after ended'
+  pub resting_on : (before after : Stage T) (arrived gone : List ℕ) (ended ended' : Bool) → IsAnsweredAtMostOnce answers finishes arrived gone before ended
+      → KeepsSigning before after → (ended ≡ true → ended' ≡ true) → IsAnsweredAtMostOnce answers finishes arrived gone after ended'
   resting_on (stage.Signing ticket link exact) after arrived gone ended ended' was waits ends = waiting_on after arrived gone ticket ended' was.0 was.1 waits
   resting_on other after arrived gone ended ended' was same ends = same_on other after arrived gone ended ended' same ends was
 
 module _ {S H T L : Type 0} (contents remaining : S → Option (List ℕ)) (g : Ghosts H T L) where
   -- a connection that was just accepted
-  pub served_none : (connection : HttpConnection S H T L) → HasReceived connection.stage [] → HasServed contents remaining g connection.link connection
+  pub served_none : (connection : HttpConnection S H T L) → HasReceived connection.stage [] → IsServedOnce contents remaining g connection.link connection
   served_none connection asks = record { arrived = []; gone = []; since = nothing_yet; once = go connection.stage asks }
     where
-      go : (at : Stage T) → HasReceived at [] → IsAnsweredOnce g.answers (FinishesOnce g.finishes) [] [] at (is_some connection.fault)
+      go : (at : Stage T) → HasReceived at [] → IsAnsweredAtMostOnce g.answers (FinishesInSomeState g.finishes) [] [] at (is_some connection.fault)
       go (stage.Receiving collected) asks = (refl, [], asks ∙ sym (append-nil (collected_bytes collected)), inl refl)
       go _ asks = absurd asks
 
@@ -257,7 +257,7 @@ module _ {S H T L : Type 0} (contents remaining : S → Option (List ℕ)) (g : 
   pub served_on : ServesOn contents remaining g
   served_on first old new was receives sends drops = go old.stage was.once receives sends drops
     where
-      go : (at : Stage T) → IsAnsweredOnce g.answers (FinishesOnce g.finishes) was.arrived was.gone at (is_some old.fault)
+      go : (at : Stage T) → IsAnsweredAtMostOnce g.answers (FinishesInSomeState g.finishes) was.arrived was.gone at (is_some old.fault)
           → ((bytes : List ℕ) → HasReceived at bytes
           → (bytes' : List ℕ) × HasReceived new.stage bytes' × Gathers (remaining old.link) (remaining new.link) bytes bytes' (is_some new.fault)
           × (is_some old.fault ≡ true → (bytes' ≡ bytes) × (is_some new.fault ≡ true)))
@@ -266,7 +266,7 @@ module _ {S H T L : Type 0} (contents remaining : S → Option (List ℕ)) (g : 
           × HasUnsentRest new.stage rest)
           → (((ticket : T) → AwaitsSignature at ticket → AwaitsSignature new.stage ticket × IsDropped (remaining old.link) (remaining new.link))
           × (IsDraining at → IsDraining new.stage × IsDropped (remaining old.link) (remaining new.link)))
-          → HasServed contents remaining g first new
+          → IsServedOnce contents remaining g first new
       go (stage.Receiving collected) once receives sends drops =
           let (bytes, asks, it, over) = receives (collected_bytes collected) refl in
           record {
@@ -274,7 +274,7 @@ module _ {S H T L : Type 0} (contents remaining : S → Option (List ℕ)) (g : 
             gone = was.gone;
             since = more_received was.arrived was.gone (it.kept ++ it.lost) old.link new.link was.since it.consumed;
             once =
-                asking_on g.answers (FinishesOnce g.finishes) collected new.stage was.arrived was.gone bytes it.kept it.lost (is_some old.fault)
+                asking_on g.answers (FinishesInSomeState g.finishes) collected new.stage was.arrived was.gone bytes it.kept it.lost (is_some old.fault)
                 (is_some new.fault) once asks it.held it.whole over;
           }
       go (stage.Signing ticket link exact) once receives sends drops =
@@ -284,8 +284,8 @@ module _ {S H T L : Type 0} (contents remaining : S → Option (List ℕ)) (g : 
             gone = was.gone;
             since = more_received was.arrived was.gone dropped.0 old.link new.link was.since dropped.1;
             once =
-                waiting_on g.answers (FinishesOnce g.finishes) new.stage (was.arrived ++ dropped.0) was.gone ticket (is_some new.fault) once.0
-                (left_behind g.answers (FinishesOnce g.finishes) was.arrived dropped.0 ticket once.1)
+                waiting_on g.answers (FinishesInSomeState g.finishes) new.stage (was.arrived ++ dropped.0) was.gone ticket (is_some new.fault) once.0
+                (left_behind g.answers (FinishesInSomeState g.finishes) was.arrived dropped.0 ticket once.1)
                 waits;
           }
       go (stage.Sending unsent exact) once receives sends drops =
@@ -295,7 +295,7 @@ module _ {S H T L : Type 0} (contents remaining : S → Option (List ℕ)) (g : 
             gone = was.gone ++ went;
             since = more_sent was.arrived was.gone went old.link new.link was.since appended;
             once =
-                sending_on g.answers (FinishesOnce g.finishes) new.stage was.arrived was.gone went rest (unsent_of unsent) (is_some new.fault) once
+                sending_on g.answers (FinishesInSomeState g.finishes) new.stage was.arrived was.gone went rest (unsent_of unsent) (is_some new.fault) once
                 parted left;
           }
       go stage.Draining once receives sends drops =
@@ -305,15 +305,15 @@ module _ {S H T L : Type 0} (contents remaining : S → Option (List ℕ)) (g : 
             gone = was.gone;
             since = more_received was.arrived was.gone dropped.0 old.link new.link was.since dropped.1;
             once =
-                leaving_on g.answers (FinishesOnce g.finishes) new.stage (was.arrived ++ dropped.0) was.gone (is_some new.fault)
-                (answered_behind g.answers (FinishesOnce g.finishes) was.arrived dropped.0 was.gone once)
+                leaving_on g.answers (FinishesInSomeState g.finishes) new.stage (was.arrived ++ dropped.0) was.gone (is_some new.fault)
+                (answered_behind g.answers (FinishesInSomeState g.finishes) was.arrived dropped.0 was.gone once)
                 left;
           }
 
   -- only the stage changed, and perhaps the fault
   pub served_by : (step : Stage T → Stage T → Type 0) → ((before after : Stage T) (arrived gone : List ℕ) (ended ended' : Bool)
-      → IsAnsweredOnce g.answers (FinishesOnce g.finishes) arrived gone before ended → step before after → (ended ≡ true → ended' ≡ true)
-      → IsAnsweredOnce g.answers (FinishesOnce g.finishes) arrived gone after ended') → KeepsServed contents remaining g step
+      → IsAnsweredAtMostOnce g.answers (FinishesInSomeState g.finishes) arrived gone before ended → step before after → (ended ≡ true → ended' ≡ true)
+      → IsAnsweredAtMostOnce g.answers (FinishesInSomeState g.finishes) arrived gone after ended') → KeepsServed contents remaining g step
   served_by step changes first old new was same stepped ends = record {
     arrived = was.arrived;
     gone = was.gone;

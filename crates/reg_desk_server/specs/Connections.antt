@@ -67,8 +67,8 @@ module _ {S H : Type 0} (contents remaining : S → Option (List ℕ))
       ⊎ (rests s t old × HasAnsweredLines first new lines replies)
 
 -- this text finishes the answer with this ticket, in some state of the handler
-abbrev pub FinishesOnce : {H T : Type 0} → (H → T → List ℕ → Type 0) → T → List ℕ → Type 0
-FinishesOnce {H = H} finishes ticket text = (s : H) × finishes s ticket text
+abbrev pub FinishesInSomeState : {H T : Type 0} → (H → T → List ℕ → Type 0) → T → List ℕ → Type 0
+FinishesInSomeState {H = H} finishes ticket text = (s : H) × finishes s ticket text
 
 module _ {H T : Type 0} (answers : H → List ℕ → Outcome T → H → Type 0) where
   -- a prefix of the received bytes got an answer that is to be signed, with this ticket, and the bytes after the prefix are dropped
@@ -88,36 +88,36 @@ module _ {H T : Type 0} (answers : H → List ℕ → Outcome T → H → Type 0
   -- The bytes that came and that were sent on an HTTP connection. While it receives, the bytes that came are kept, except last ones for which there
   -- was no memory, and then it has ended. Until the answer is finished, nothing is sent; from then on the sent bytes and then the unsent ones are the
   -- answer.
-  abbrev pub IsAnsweredOnce : (T → List ℕ → Type 0) → List ℕ → List ℕ → Stage T → Bool → Type 0
-  IsAnsweredOnce finishes arrived gone (stage.Receiving collected) ended =
+  abbrev pub IsAnsweredAtMostOnce : (T → List ℕ → Type 0) → List ℕ → List ℕ → Stage T → Bool → Type 0
+  IsAnsweredAtMostOnce finishes arrived gone (stage.Receiving collected) ended =
       (gone ≡ []) × (lost : List ℕ) × (arrived ≡ collected_bytes collected ++ lost)
       × ((lost ≡ []) ⊎ (ended ≡ true))
-  IsAnsweredOnce finishes arrived gone (stage.Signing ticket link exact) ended =
+  IsAnsweredAtMostOnce finishes arrived gone (stage.Signing ticket link exact) ended =
       (gone ≡ []) × WasLeftUnsigned arrived ticket
-  IsAnsweredOnce finishes arrived gone (stage.Sending unsent exact) ended =
+  IsAnsweredAtMostOnce finishes arrived gone (stage.Sending unsent exact) ended =
       WasAnswered finishes arrived (gone ++ unsent_of unsent)
-  IsAnsweredOnce finishes arrived gone stage.Draining ended = WasAnswered finishes arrived gone
+  IsAnsweredAtMostOnce finishes arrived gone stage.Draining ended = WasAnswered finishes arrived gone
 
 module _ {S H T L : Type 0} (contents remaining : S → Option (List ℕ)) (g : Ghosts H T L) where
   -- the request of an HTTP connection was answered at most once, by the bytes that came and were sent since it was accepted; the connection has ended
   -- if it has a fault
-  pub record HasServed (first : S) (connection : HttpConnection S H T L) : Type 0 where
+  pub record IsServedOnce (first : S) (connection : HttpConnection S H T L) : Type 0 where
     pub arrived : List ℕ
     pub gone : List ℕ
     pub since : SinceAccepted contents remaining first arrived gone connection.link
-    pub once : IsAnsweredOnce g.answers (FinishesOnce g.finishes) arrived gone connection.stage
+    pub once : IsAnsweredAtMostOnce g.answers (FinishesInSomeState g.finishes) arrived gone connection.stage
         (is_some connection.fault)
 
-  -- when an HTTP connection is advanced, `HasServed` stays true
+  -- when an HTTP connection is advanced, `IsServedOnce` stays true
   abbrev pub ServesOn : Type 0
   ServesOn =
-      (first : S) (old new : HttpConnection S H T L) → HasServed first old
+      (first : S) (old new : HttpConnection S H T L) → IsServedOnce first old
       → ReceivesMore remaining old new → Sends contents old new → Drops remaining old new
-      → HasServed first new
+      → IsServedOnce first new
 
-  -- a step that changes the stage and not the link, and clears no fault, preserves `HasServed`
+  -- a step that changes the stage and not the link, and clears no fault, preserves `IsServedOnce`
   abbrev pub KeepsServed : (Stage T → Stage T → Type 0) → Type 0
   KeepsServed step =
-      (first : S) (old new : HttpConnection S H T L) → HasServed first old → new.link ≡ old.link
+      (first : S) (old new : HttpConnection S H T L) → IsServedOnce first old → new.link ≡ old.link
       → step old.stage new.stage
-      → (is_some old.fault ≡ true → is_some new.fault ≡ true) → HasServed first new
+      → (is_some old.fault ≡ true → is_some new.fault ≡ true) → IsServedOnce first new

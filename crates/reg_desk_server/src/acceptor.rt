@@ -24,7 +24,7 @@ pub(crate) struct Acceptor {
     next: Option<(TcpStream, SocketAddr)>,
     /// Whether another connection may be waiting at the listener.
     may_have_more: bool,
-    /// Whether another connection is assumed to wait: the listener was ready, and no connection was accepted since.
+    /// Whether another connection is assumed to wait: the listener was ready or can't be polled, and no connection was accepted since.
     has_more: bool,
     /// Whether there was no descriptor for a waiting connection, and no HTTP connection whose descriptor could be freed for it.
     pub(crate) lacks_descriptors: bool,
@@ -58,9 +58,9 @@ impl Acceptor {
         self.next.is_some() || (self.may_have_more && self.accepted < limit)
     }
 
-    /// Accepts waiting connections: at most [`MOST_AT_ONCE`] in a call, and `limit` in all. If a waiting connection can't be accepted, or there is no
-    /// slot for it, evicts an HTTP connection. If there is none to evict, the next call tries again if descriptors ran out; any other error is an
-    /// [`EventLoopFault`].
+    /// Accepts waiting connections: at most [`MOST_AT_ONCE`] in a call, and `limit` in all. Evicts an HTTP connection if there is no slot for the
+    /// next one, or if accept(2) fails though one waits (not if a signal came, or if the client is gone). If there is none to evict, the next call
+    /// tries again if descriptors ran out; any other error is an [`EventLoopFault`].
     pub(crate) fn accept_all<H: Handler>(
         &mut self,
         limit: u64,
@@ -146,11 +146,11 @@ impl Acceptor {
                 self.next = Some((link, client));
                 Ok(())
             }
-            Err(error) => self.after_fault(&error, connections, shared),
+            Err(error) => self.after_accept_error(&error, connections, shared),
         }
     }
 
-    fn after_fault<H: Handler>(
+    fn after_accept_error<H: Handler>(
         &mut self,
         error: &io::Error,
         connections: &mut HttpConnections<H>,
@@ -176,7 +176,7 @@ impl Acceptor {
                 connections.evict(shared);
                 Ok(())
             }
-            // All descriptors are in use by control connections and signature requests.
+            // No descriptor is left, and no HTTP connection can be evicted to free one.
             _ if is_out_of_descriptors(error) => {
                 self.may_have_more = false;
                 self.lacks_descriptors = true;

@@ -15,7 +15,7 @@ use reg_io::first_delimiter;
 use std::alloc::Global;
 use std::io::{ErrorKind, Read};
 
-/// A connection that sends this many bytes without an LF is closed.
+/// A connection is closed once it keeps at least this many bytes, and none of them is an LF.
 const LONGEST_LINE: usize = 8_194;
 
 const MOST_READS: usize = 4;
@@ -61,7 +61,7 @@ impl<S: Link> ControlConnection<S> {
         }
     }
 
-    /// Sends more of the reply without blocking; once the reply is sent, reads until a line is whole, at most `MOST_READS` times.
+    /// Sends more of the reply without blocking; once all is sent, reads until a line is whole, at most `MOST_READS` times. Returns the next step.
     pub fn advance(&mut self, read_buffer: &mut [u8]) -> Next
         ensures advances { Advances S.Write.contents S.Read.remaining self.old self.new }
 

@@ -174,7 +174,7 @@ impl<H: Handler> ControlConnections<H> {
         ensures fails { OnErr result H.failed }
     {
         if let Some(waiting) = self.waiting.take() {
-            return self.go_on(waiting, shared, handler, now);
+            return self.advance_waiting_line(waiting, shared, handler, now);
         }
         if !self.has_lines {
             return Ok(());
@@ -188,7 +188,7 @@ impl<H: Handler> ControlConnections<H> {
 
     /// Advances a line that waits for a signature, and answers it once it waits no more.
     #[tactic(auto, using(crate::proofs::Exchanges::exchanged_none))]
-    fn go_on(
+    fn advance_waiting_line(
         &mut self,
         mut waiting: WaitingLine<H>,
         shared: &mut Shared,

@@ -58,10 +58,10 @@ impl<H: Handler> EventLoop<H> {
         })
     }
 
-    /// Answers HTTP requests until `answered` is `limit`, and control lines meanwhile. Each accepted HTTP connection counts as one request, and
-    /// is answered once: when its request is whole, when nothing more of it comes, when its time is over, or when it is evicted. If an
-    /// answer needs a signature, the loop requests it, and only that client waits. [`EventLoop::finish`] finishes the answers that still
-    /// wait at the end. [`EventLoopFault`] if the system failed, or after 2^64 - 1 iterations.
+    /// Answers HTTP requests until `answered` is `limit`, and control lines meanwhile. Each accepted HTTP connection counts as one request, which is
+    /// passed to the handler once: when it is whole, when nothing more of it comes, when the connection's time is over, or when the connection is
+    /// evicted. If an answer needs a signature, the loop requests it, and only that client waits. [`EventLoop::finish`] finishes the answers that
+    /// still wait at the end. [`EventLoopFault`] if the system failed, or after 2^64 - 1 iterations.
     ///
     /// An iteration reads from and writes to each ready connection without blocking, finishes each answer whose signature came, answers at most one
     /// line of each control connection, and answers each request that is whole or of which no more is awaited.
@@ -95,10 +95,10 @@ impl<H: Handler> EventLoop<H> {
     }
 
     /// Closes the HTTP connections that still receive, without an answer. Sends the other answers, of which some still wait for a signature, until no
-    /// HTTP connection is left. Reports lost connections to the handler. [`EventLoopFault`] if the system failed.
+    /// HTTP connection is left. Answers no more control lines. Reports lost connections to the handler. [`EventLoopFault`] if the system failed.
     pub fn finish(&mut self, handler: &H) -> Result<(), EventLoopFault> {
         let limit = self.acceptor.accepted;
-        self.http.close_all(&mut self.shared);
+        self.http.close_all_receiving(&mut self.shared);
         for _ in 0..u64::MAX {
             self.shared.lost.report(handler);
             if self.http.slots.reserved() == 0 {

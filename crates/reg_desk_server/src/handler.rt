@@ -16,7 +16,7 @@ pub struct EventLoopFault;
 /// Why a connection was lost.
 #[derive(Clone, Copy, Debug, PartialEq, Eq)]
 pub enum ConnectionFault {
-    /// A read or write failed before the whole answer was sent, the client closed its side while its signature was queued, or polling failed.
+    /// A read, write or poller registration failed before the whole answer was sent, or the client closed its side while its signature was queued.
     Broken,
     /// The time of the connection was up before its request was answered or its whole answer was sent.
     TimedOut,
@@ -137,7 +137,7 @@ pub trait Handler {
         ensures err { OnErr result ((self.new ≡ self.old) × (last_reason.new ≡ last_reason.old)) }
         ensures fails { OnErr result failed };
 
-    /// Makes the message that is to be signed before a line is answered. `None` if there is none, or no signer to wait for.
+    /// The message to be signed before a line is answered; empty for an OCSP line in its signer's back-off. `None` if there is none, or no signer.
     fn defer(&mut self, line: &[u8]) -> Option<Deferred<Self::ControlTicket>>
         ensures { defers self.old line.now self.new };
 

@@ -18,7 +18,7 @@ use std::io::{ErrorKind, Read};
 use std::net::SocketAddr;
 use std::{io, mem};
 
-/// How many milliseconds a client has to send its request, and then again, once its answer is finished, to receive it.
+/// How many milliseconds a connection may stay in each of the stages `Receiving`, `Signing` and `Sending`.
 const TIMEOUT_MILLIS: u64 = 30_000;
 
 /// For how many milliseconds after its answer the bytes that a client still sends are dropped.
@@ -133,8 +133,8 @@ impl<S: Link, H: Handler> HttpConnection<S, H> {
         self.deadline <= now
     }
 
-    /// Keeps and returns the fault because of which a connection is answered before its request is whole: its time is up, or nothing more is
-    /// received. `None` if there is none, or the connection no longer receives.
+    /// Keeps and returns the fault because of which a connection is answered before its request is whole: its time is up, a read failed, there was no
+    /// memory, or it is evicted. `None` if there is none (the client may have closed its side), or if the connection no longer receives.
     pub fn record_fault(&mut self, now: u64) -> Option<ConnectionFault>
         ensures same_link { self.new.link ≡ self.old.link }
         ensures same_stage { self.new.stage ≡ self.old.stage }
@@ -157,7 +157,7 @@ impl<S: Link, H: Handler> HttpConnection<S, H> {
         }
     }
 
-    /// Advances the connection without blocking, by a limited number of reads or writes.
+    /// Advances the connection without blocking, by a limited number of reads or writes, and returns its next step.
     pub fn advance(&mut self, read_buffer: &mut [u8], now: u64) -> Next
         ensures receives { ReceivesMore S.Read.remaining self.old self.new }
         ensures sends { Sends S.Write.contents self.old self.new }
@@ -243,7 +243,7 @@ impl<S: Link, H: Handler> HttpConnection<S, H> {
     }
 
     /// Shuts down the sending side of the connection. If a connection is closed with unread bytes, the client may lose an answer that it has not
-    /// read yet. So the bytes that it still sends are received for a short time.
+    /// read yet. So the bytes that it still sends are read and dropped for `LINGER_MILLIS`.
     fn finish(&mut self, now: u64) -> Next
         ensures link { self.new.link ≡ self.old.link }
         ensures drains { self.new.stage ≡ Stage.Draining }
@@ -266,7 +266,7 @@ impl<S: Link, H: Handler> HttpConnection<S, H> {
     }
 
     /// Answers the bytes that came of the request, even if it is incomplete, and adds 1 to `answered`. Returns whether the answer is to be signed. A
-    /// connection that has an answer, or waits for one, is not answered again. [`EventLoopFault`] as of [`Handler::answer`], and if `answered` is
+    /// connection that has an answer, or waits for one, is not answered again. [`EventLoopFault`] as for [`Handler::answer`], and if `answered` is
     /// 2^64 - 1.
     #[tactic(auto, using(crate::proofs::Exchanges::exchanged_none))]
     pub fn answer(

@@ -232,9 +232,9 @@ impl<H: Handler> HttpConnections<H> {
         }
     }
 
-    pub(crate) fn close_all(&mut self, shared: &mut Shared) {
+    pub(crate) fn close_all_receiving(&mut self, shared: &mut Shared) {
         for slot in 0..self.slots.entries.len() {
-            self.close_unanswered(slot, shared);
+            self.close_if_receiving(slot, shared);
         }
     }
 
@@ -243,13 +243,13 @@ impl<H: Handler> HttpConnections<H> {
     {
         for index in 0..self.due.len() {
             if let Some(slot) = self.due.get(index).copied() {
-                self.close_unanswered(slot, shared);
+                self.close_if_receiving(slot, shared);
             }
         }
         self.due.clear();
     }
 
-    fn close_unanswered(&mut self, slot: usize, shared: &mut Shared) {
+    fn close_if_receiving(&mut self, slot: usize, shared: &mut Shared) {
         if let Some(connection) = self.slots.take(slot) {
             if connection.is_receiving() {
                 self.close(slot, connection, shared, ConnectionFault::TimedOut);

@@ -1,7 +1,7 @@
 //! Laws of whole connections. The functions do nothing: their contracts are the laws.
 
 ghost use Rattle.std.specs.Prelude.{◌≡◌, []};
-ghost use Rattle.reg_desk_server.specs.Connections.{HasServed, HasAnsweredLines, KeepsServed, ServesOn, AnswersNoMoreLines, AnswersOneMoreLine};
+ghost use Rattle.reg_desk_server.specs.Connections.{IsServedOnce, HasAnsweredLines, KeepsServed, ServesOn, AnswersNoMoreLines, AnswersOneMoreLine};
 ghost use Rattle.reg_desk_server.specs.ControlLines.{DefersFirstLine, IsFresh, AnswersFirstLine, AnswersDeferred};
 ghost use Rattle.reg_desk_server.specs.Stages.{Answering, Finishing, HasReceived, KeepsSigning};
 ghost use Rattle.reg_desk_server.specs.declared.control_connection.ControlConnection.{ControlConnection};
@@ -28,13 +28,13 @@ pub fn each_line_is_answered_once_in_order<S: Link, H: Handler>()
 
 /// A request is answered at most once.
 ///
-/// Over any steps since an HTTP connection was accepted, the bytes that came are kept until it is answered, except last bytes for which there was no
-/// memory, and nothing is sent. From then on the bytes that were sent, followed by the unsent ones, are the answer to a prefix of what came, which is
-/// passed to the handler once; the bytes after that are dropped (`HasServed`). `HttpConnection::advance`, `answer` and `complete` preserve this, also
-/// while a signature is requested, and if no more of the request is received.
-pub fn each_request_is_answered_once<S: Link, H: Handler>()
+/// Over any steps since an HTTP connection was accepted: while it receives, the bytes that came are kept, except last ones for which there was no
+/// memory. Nothing is sent before its answer is finished. From then on the sent bytes, followed by the unsent ones, are the answer to a prefix of the
+/// bytes that came, which is passed to the handler once; the bytes after it are dropped (`IsServedOnce`). `HttpConnection::advance`, `answer` and
+/// `complete` preserve this, also while a signature is requested, and if no more of the request is received.
+pub fn each_request_is_answered_at_most_once<S: Link, H: Handler>()
     ensures begins { (client : HttpConnection S H H.Ticket H.ControlTicket) → HasReceived client.stage []
-        → HasServed S.Write.contents S.Read.remaining H.Handler client.link client }
+        → IsServedOnce S.Write.contents S.Read.remaining H.Handler client.link client }
     ensures advances { ServesOn S.Write.contents S.Read.remaining H.Handler }
     ensures answers { (s t : H)
         → KeepsServed S.Write.contents S.Read.remaining H.Handler (Answering H.answers s t) }

@@ -1,5 +1,5 @@
 //! An event loop for many connections on one thread. It collects the bytes of each HTTP client until they are a whole request, answers the request
-//! once, and sends the answer as fast as the client receives it. On each control connection it answers one line after the other.
+//! at most once, and sends the answer as fast as the client receives it. On each control connection it answers one line after the other.
 #![tactic(auto)]
 
 mod acceptor;

@@ -22,7 +22,7 @@ pub(crate) enum Received {
     OutOfMemory,
 }
 
-/// Receives bytes until they are a whole request, or for at most `MOST_READS` reads.
+/// Receives bytes until they are a whole request or a read adds none, in at most `MOST_READS` reads.
 pub(crate) fn receive<R: Read>(
     reader: &mut R,
     collected: &mut Collected,

@@ -70,7 +70,7 @@ impl SignatureRequests {
             .is_ok()
     }
 
-    /// The longest time that the loop may block: zero while `polls` are left, of which this call uses one; `PAUSE_MILLIS` during a pause; else any.
+    /// The longest time that the loop may block: zero while `polls` are left, of which this call uses one; `PAUSE_MILLIS` during a pause; else no limit.
     pub(crate) fn longest_wait(&mut self) -> Duration {
         if self.polls > 0 {
             self.polls = self.polls.saturating_sub(1);

@@ -2,7 +2,7 @@
 
 use std::alloc::{AllocError, Global};
 
-/// A fixed number of slots. A slot is free, or reserved for a connection, which is taken out of it while it is used.
+/// A fixed number of slots. A slot is free, or reserved for a connection. A connection that is being used is taken out of its slot.
 #[derive(Drop)]
 pub(crate) struct Slots<T> {
     pub(crate) entries: Vec<Option<T>>,

@@ -72,7 +72,7 @@ impl<H: Handler> WaitingLine<H> {
         };
     }
 
-    /// Connects to the signer, if it is not connected yet, and sends the message. If connecting would block, a later call tries again.
+    /// If there is no connection to the signer yet, connects, and begins to send the message. If connecting would block, a later call tries again.
     pub(crate) fn connect_and_send(&mut self, handler: &H, poller: &Poller) {
         if self.link.is_some() {
             return;

@@ -18,7 +18,7 @@ use Rattle.reg_http.specs.Answers.{of_any_kind}
 use Rattle.reg_core_laws.specs.Run.{Happens}
 use Rattle.reg_office_api.specs.CallSteps.{Signs, AnswersOcsp}
 use Rattle.reg_office_api.specs.Responses.{Replies}
-use Rattle.reg_office_api.specs.Signatories.{Signatory}
+use Rattle.reg_office_api.specs.Signers.{OfficeSigners}
 use Rattle.reg_office_api.specs.declared.response.ResponseKind.{ResponseKind}
 
 -- records that stay
@@ -56,12 +56,12 @@ request_adds signed now serial word before after (Err Read) fault = absurd fault
 request_adds signed now serial word before after (Err Write) fault = absurd fault
 
 -- an OCSP response changes nothing
-pub replies_stay : (signs : Signs) (signatory : Signatory) (before : Records) (now : ℕ) (request : List ℕ) (given : Result (ResponseKind × List ℕ) NoMemory)
-    (after : Records) → Replies signs signatory before now request given after → after ≡ before
-replies_stay signs signatory before now request (Ok response) after came = came.1
-replies_stay signs signatory before now request (Err memory) after came = came
+pub replies_stay : (signs : Signs) (signers : OfficeSigners) (before : Records) (now : ℕ) (request : List ℕ) (given : Result (ResponseKind × List ℕ) NoMemory)
+    (after : Records) → Replies signs signers before now request given after → after ≡ before
+replies_stay signs signers before now request (Ok response) after came = came.1
+replies_stay signs signers before now request (Err memory) after came = came
 
-pub ocsps_stay : (signs : Signs) (signatory : Signatory) (before : Records) (now : ℕ) (request : List ℕ) (given : Result (ResponseKind × List ℕ) NoMemory)
-    (after : Records) → of_any_kind (AnswersOcsp signs signatory) before now request given after → after ≡ before
-ocsps_stay signs signatory before now request (Ok response) after came = came.1
-ocsps_stay signs signatory before now request (Err memory) after came = came
+pub ocsps_stay : (signs : Signs) (signers : OfficeSigners) (before : Records) (now : ℕ) (request : List ℕ) (given : Result (ResponseKind × List ℕ) NoMemory)
+    (after : Records) → of_any_kind (AnswersOcsp signs signers) before now request given after → after ≡ before
+ocsps_stay signs signers before now request (Ok response) after came = came.1
+ocsps_stay signs signers before now request (Err memory) after came = came

@@ -8,7 +8,7 @@ use Rattle.reg_core.specs.declared.command.Reply.{Reply}
 use Rattle.reg_core.specs.declared.memory.Memory.{Memory as NoMemory}
 use Rattle.reg_core.specs.declared.refusal.Fault.{Fault}
 use Rattle.reg_core.specs.declared.refusal.Fault.TheVariants.{Memory, Write}
-use Rattle.reg_http_head.specs.Frame.{Framed, Part, TakesAtMost, asked}
+use Rattle.reg_http_head.specs.Frame.{Framed, RequestMeaning, TakesAtMost, asked}
 use Rattle.reg_http_head.specs.Head.{longest_head, longest_body}
 use Rattle.reg_http_head.specs.Response.{IsText, Response}
 use Rattle.reg_office_api.specs.declared.response.ResponseKind.{ResponseKind}
@@ -39,7 +39,7 @@ module _ {S : Type 0} (runs : S → ℕ → Command → Result Reply Fault → S
   reply_ends now s t method target body response out written (Err other) made sent failed = absurd (cc (failed.0))
 
   -- the serving of a request that was read, by how the reply to it ends
-  pub serving_ends : (now : ℕ) (s t : S) (part : Part) (input left out written : Option (List ℕ)) (result : Result (Unit {0}) Fault)
+  pub serving_ends : (now : ℕ) (s t : S) (part : RequestMeaning) (input left out written : Option (List ℕ)) (result : Result (Unit {0}) Fault)
       → TakesAtMost input left (longest_head + longest_body) (λ took. Framed took part)
       → ReplyEnds runs asks answers_ocsp gives_crl now s t part out written result → ServingEnds runs asks answers_ocsp gives_crl now s t input left out written result
   serving_ends now s t part input left out written (Ok done) (took, consumed, few, framed) ends = record {

@@ -23,7 +23,7 @@ pub record AnswerEffects : Type 0 where
   pub store : StoreEffect
   pub named : Option LoggedRequest
 
--- the same for an answer that the program makes
+-- the response and the effects of an `Answered`
 abbrev pub answer_effects : Answered → AnswerEffects
 answer_effects answered = record {
   response = shown answered.answer;
@@ -32,7 +32,7 @@ answer_effects answered = record {
   named = answered.named;
 }
 
--- a response without a signature, with this effect on the store, which entered no request
+-- a response that needed no signature and entered no request, with this effect on the store
 abbrev pub unsigned_answer : Response → StoreEffect → AnswerEffects
 unsigned_answer response effect =
     record { response = response; signature = NotRequested; store = effect; named = None }

@@ -34,9 +34,9 @@ before (Some end) text = take end text
 before None text = text
 
 -- the text after the byte at this index; nothing for `None`
-abbrev pub behind : Option ℕ → List ℕ → List ℕ
-behind (Some at) text = drop (at + 1) text
-behind None text = []
+abbrev pub text_after : Option ℕ → List ℕ → List ℕ
+text_after (Some at) text = drop (at + 1) text
+text_after None text = []
 
 -- the text up to the first byte that ends a path
 abbrev pub prefix_to : List ℕ → List ℕ
@@ -44,7 +44,7 @@ prefix_to text = before (position ends_path text) text
 
 -- the path after the first space, up to a `?`, the next space, or a CR or LF; in a valid head, the path of the request line (RFC 9112 3)
 abbrev pub named_path : List ℕ → List ℕ
-named_path request = prefix_to (behind (position is_space request) request)
+named_path request = prefix_to (text_after (position is_space request) request)
 
 -- the route of that path
 abbrev pub named_route : List ℕ → Route

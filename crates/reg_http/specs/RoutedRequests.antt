@@ -18,7 +18,7 @@ use Rattle.reg_http.specs.declared.route.Route.{Route}
 use Rattle.reg_http.specs.declared.route.Route.TheVariants.{Ocsp, OcspRest, Crl, CrlNumber, Status, Counts, Requests}
 
 -- the meaning of a request: a refusal with a status code, another method than the one that the route has, a part that can't be read, an OCSP
--- request that can't be decoded, or one of the five calls of the office
+-- request that can't be decoded; or a call of the office, for OCSP, a CRL, a status, the counts, or a request for revocation
 pub data RoutedRequest : Type 0 where
   refused : ℕ → RoutedRequest
   method_not_allowed : List ℕ → RoutedRequest

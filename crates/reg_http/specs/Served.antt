@@ -10,7 +10,7 @@ use Rattle.reg_core.specs.declared.memory.Memory.{Memory as NoMemory}
 use Rattle.reg_core.specs.declared.refusal.Fault.{Fault}
 use Rattle.reg_core.specs.declared.refusal.Fault.TheVariants.{Memory, Read, Write}
 use Rattle.reg_io.specs.Put.{AppendsPrefix}
-use Rattle.reg_http_head.specs.Frame.{Part, refused, asked, Framed, IsUnfinished}
+use Rattle.reg_http_head.specs.Frame.{RequestMeaning, refused, asked, Framed, IsUnfinished}
 use Rattle.reg_http_head.specs.Head.{longest_head, longest_body}
 use Rattle.reg_http_head.specs.Response.{Response, IsText, memory_text}
 use Rattle.reg_http.specs.Answers.{RespondsTo}
@@ -28,7 +28,7 @@ module _ {S : Type 0} (runs : S → ℕ → Command → Result Reply Fault → S
     (answers_ocsp : S → ℕ → List ℕ → Result (List ℕ) NoMemory → S → Type 0)
     (gives_crl : S → Option ℕ → Result (List ℕ) Fault → S → Type 0) where
   -- the text of the refusal, or of the answer; the constant text if there was no memory for an answer
-  abbrev pub Responds : ℕ → S → Part → List ℕ → S → Type 0
+  abbrev pub Responds : ℕ → S → RequestMeaning → List ℕ → S → Type 0
   Responds now s (refused status) text t = (t ≡ s) × IsText (http_refusal status) now text
   Responds now s (asked method target body) text t =
       ((response : Response)
@@ -38,7 +38,7 @@ module _ {S : Type 0} (runs : S → ℕ → Command → Result Reply Fault → S
 
   -- the whole response to a request was written; or a proper prefix of it, if the writer failed; or there was no memory for it
   abbrev pub ReplyEnds
-      : ℕ → S → S → Part → Option (List ℕ) → Option (List ℕ) → Result (Unit {0}) Fault → Type 0
+      : ℕ → S → S → RequestMeaning → Option (List ℕ) → Option (List ℕ) → Result (Unit {0}) Fault → Type 0
   ReplyEnds now s t part out written (Ok done) =
       (text : List ℕ) × Responds now s part text t × Appends out written text
   ReplyEnds now s t part out written (Err Write) =
@@ -46,11 +46,11 @@ module _ {S : Type 0} (runs : S → ℕ → Command → Result Reply Fault → S
   ReplyEnds now s t part out written (Err Memory) = Unit {0}
   ReplyEnds now s t part out written (Err other) = ⊥
 
-  -- one request was read, and this was written of its response
+  -- one request was read, and `Wrote` holds of the text of its response
   pub record Served (Wrote : List ℕ → Type 0) (now : ℕ) (s t : S)
       (input left : Option (List ℕ)) : Type 0 where
     pub took : List ℕ
-    pub part : Part
+    pub part : RequestMeaning
     pub text : List ℕ
     pub takes : TakesRequest input left took
     pub framed : Framed took part
@@ -73,7 +73,7 @@ module _ {S : Type 0} (runs : S → ℕ → Command → Result Reply Fault → S
 -- how a reply and the serving of a request end by the calls of an office
 module _ {O : Type 0} (office : Office O) where
   abbrev pub ReplyEndsIn
-      : ℕ → O → O → Part → Option (List ℕ) → Option (List ℕ) → Result (Unit {0}) Fault → Type 0
+      : ℕ → O → O → RequestMeaning → Option (List ℕ) → Option (List ℕ) → Result (Unit {0}) Fault → Type 0
   ReplyEndsIn = ReplyEnds (RunsIn office) (AsksIn office) (AnswersOcspIn office) (GivesCrlIn office)
 
   abbrev pub ServingEndsIn

@@ -55,7 +55,7 @@ impl Answered {
     }
 }
 
-/// The answer whose body is the line of a refusal or a fault.
+/// The answer to a refusal or a fault, with its line in the JSON body.
 pub(crate) fn answer_of_fault(buffer: Vec<u8>, fault: Fault) -> Answered
     requires empty { buffer.items ≡ [] }
     requires buffer { 256 ≤ vec_capacity buffer }

@@ -15,7 +15,7 @@ pub(crate) const OCSP_RESPONSE: &str = "application/ocsp-response";
 
 pub(crate) const PKIX_CRL: &str = "application/pkix-crl";
 
-/// Reserves memory for the longest of these JSON bodies. [`Memory`] if out of memory.
+/// Reserves 256 bytes, enough for the longest of these JSON bodies. [`Memory`] if out of memory.
 pub(crate) fn json_buffer(alloc: Global) -> Result<Vec<u8>, Memory>
     ensures empty { IfOk result (λ buffer. buffer.items ≡ []) }
     ensures buffer { IfOk result (λ buffer. 256 ≤ vec_capacity buffer) }

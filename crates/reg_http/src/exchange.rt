@@ -21,7 +21,7 @@ use std::alloc::Global;
 /// request for revocation fits, so its text needs no memory after the call. Most OCSP responses fit too.
 const TEXT_ROOM: usize = 4_096;
 
-/// Reserves memory for the text of a response. [`Memory`] if out of memory.
+/// Reserves 4,096 bytes for the text of a response. [`Memory`] if out of memory.
 pub fn text_buffer(alloc: Global) -> Result<Vec<u8>, Memory>
     ensures empty { IfOk result (λ buffer. buffer.items ≡ []) }
     ensures buffer { IfOk result (λ buffer. 512 ≤ vec_capacity buffer) }

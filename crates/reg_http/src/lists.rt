@@ -1,5 +1,5 @@
-//! Requests for lists, `GET /list/WORD` with a query: `after=KEY`, `limit=N`, `before=MOMENT` and a filter. Only an open desk answers them;
-//! [`serve_one`](crate::serve_one) answers 404.
+//! Requests for lists, `GET /list/WORD` with a query: `after=KEY`, `limit=N`, `before=MOMENT`, and a filter by `subscriber`, `serial`, `from` and
+//! `to`. Only an open desk answers them; [`serve_one`](crate::serve_one) answers 404.
 
 ghost use Rattle.std.specs.Prelude.{◌≡◌, IfOk, OnErr};
 ghost use Rattle.reg_office_api.specs.Calls.{LooksIn};
@@ -20,7 +20,7 @@ use std::alloc::{AllocError, Global};
 /// The meaning of a request for a list.
 #[derive(Clone, Copy)]
 pub(crate) enum ListRequest {
-    /// Another method than GET, the only one of the route.
+    /// The method is not GET, the only one of the route.
     OnlyGet,
     /// The word of the list, or its query, can't be read.
     Unreadable,

@@ -36,7 +36,7 @@ pub(crate) enum Meaning {
 pub(crate) enum Call {
     /// The request is refused with this status code.
     Refused(u16),
-    /// Another method than GET, the only one of the route. For `OnlyPost`, it is POST.
+    /// The method is not GET, the only one of the route. For `OnlyPost`, the only one is POST.
     OnlyGet,
     OnlyPost,
     /// A number, a serial number or a body can't be read.

@@ -41,8 +41,8 @@ pub fn answer<O: Office>(
     office: &mut O,
 ) -> Result<Answer, Memory>
     ensures ok { IfOk result (λ answer. LeadsIn O.Office
-        (λ signatory before after.
-        RespondsTo (Runs O.signs signatory) Asks (AnswersOcsp O.signs signatory) GivesCrl now before
+        (λ signers before after.
+        RespondsTo (Runs O.signs signers) Asks (AnswersOcsp O.signs signers) GivesCrl now before
         (asked method.now target.now body.now) (shown answer) after
         × AddsARequestAtMost now before after)
         office.old office.new) }
@@ -58,8 +58,7 @@ pub fn answer<O: Office>(
     }
 }
 
-/// Answers one request as [`answer`] does, with the effects of the answer; or returns an OCSP response that still needs its signature. Errors are
-/// those of [`answer`].
+/// As [`answer`], with the same errors, but with the effects of the answer; or returns an OCSP response that still needs its signature.
 pub fn begin<O: Office>(
     alloc: Global,
     method: &Method,
@@ -69,8 +68,8 @@ pub fn begin<O: Office>(
     office: &mut O,
 ) -> Result<ReadyOrUnsigned<Answered, Draft>, Memory>
     ensures ok { IfOk result (λ begun. LeadsIn O.Office
-        (λ signatory before after.
-        BeginsTo (Runs O.signs signatory) Asks (Replies O.signs signatory) GivesCrl (Drafts signatory) now
+        (λ signers before after.
+        BeginsTo (Runs O.signs signers) Asks (Replies O.signs signers) GivesCrl (Drafts signers) now
         before
         (asked method.now target.now body.now) begun after
         × AddsARequestAtMost now before after)

@@ -5,7 +5,7 @@ ghost use Rattle.std.specs.Io.KnownBytes.{Appends};
 ghost use Rattle.reg_io.specs.Put.{AppendsPrefix};
 ghost use Rattle.reg_office_api.specs.CallSteps.{Runs, Asks, AnswersOcsp, GivesCrl};
 ghost use Rattle.reg_office_api.specs.Calls.{LeadsIn};
-ghost use Rattle.reg_http_head.specs.Frame.{part_of};
+ghost use Rattle.reg_http_head.specs.Frame.{request_meaning};
 ghost use Rattle.reg_http_head.specs.Response.{IsText, memory_text, shown};
 ghost use Rattle.reg_http.specs.Added.{AddsARequestAtMost};
 ghost use Rattle.reg_http.specs.Bodies.{http_refusal as refusal_of};
@@ -82,14 +82,14 @@ fn reply<W: Write, O: Office>(
     requires empty { buffer.items ≡ [] }
     requires buffer { 512 ≤ vec_capacity buffer }
     ensures ends { LeadsIn O.Office
-        (λ signatory before after.
-        ReplyEnds (Runs O.signs signatory) Asks (AnswersOcsp O.signs signatory) GivesCrl now before after
-        (part_of request) (W.contents writer.old) (W.contents writer.new) result
+        (λ signers before after.
+        ReplyEnds (Runs O.signs signers) Asks (AnswersOcsp O.signs signers) GivesCrl now before after
+        (request_meaning request) (W.contents writer.old) (W.contents writer.new) result
         × AddsARequestAtMost now before after)
         office.old office.new }
     ensures silent { IfErr result (λ fault. fault ≢ Fault.Write
         → (writer.new ≡ writer.old) × (office.new ≡ office.old)) }
-    ensures calls { ReplyEndsIn O.Office now office.old office.new (part_of request)
+    ensures calls { ReplyEndsIn O.Office now office.old office.new (request_meaning request)
         (W.contents writer.old) (W.contents writer.new) result }
 {
     match request {
@@ -128,8 +128,8 @@ pub fn serve_one<R: Read, W: Write, O: Office>(
     office: &mut O,
 ) -> Result<(), Fault>
     ensures ends { LeadsIn O.Office
-        (λ signatory before after.
-        ServingEnds (Runs O.signs signatory) Asks (AnswersOcsp O.signs signatory) GivesCrl now before after
+        (λ signers before after.
+        ServingEnds (Runs O.signs signers) Asks (AnswersOcsp O.signs signers) GivesCrl now before after
         (R.remaining reader.old) (R.remaining reader.new) (W.contents writer.old) (W.contents writer.new)
         result
         × AddsARequestAtMost now before after)

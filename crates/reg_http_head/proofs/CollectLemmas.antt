@@ -7,7 +7,7 @@ use Rattle.reg_io.specs.Delimiter.{HasNoDelimiter}
 use Rattle.reg_io.proofs.PublicLaws.{first_delimiter_in_prefix, no_delimiter_in_prefix}
 use Rattle.httparse.specs.Spans.{span_bytes}
 use Rattle.reg_http_head.specs.Head.{blank_line, longest_head, RefusesHead, IsHeadAt}
-use Rattle.reg_http_head.specs.Frame.{Part, refused, asked, AsksFor, Framed, HasHead, IsUnfinished}
+use Rattle.reg_http_head.specs.Frame.{RequestMeaning, refused, asked, AsksFor, Framed, HasHead, IsUnfinished}
 use Rattle.reg_http_head.specs.Bytes.{IsExact}
 use Rattle.reg_http_head.specs.Collected.{HoldsRequest, IsWholeRequest, HasNoHeadEnd, IsRefusedRequest, NeedsBytes, Knows, IsAllKnown}
 use Rattle.reg_http_head.specs.declared.scan_state.HeadIn.{HeadIn}
@@ -92,7 +92,7 @@ pub holds_slices : (bytes method target : List ℕ) (it : HeadIn) → method ≡
     → target ≡ span_bytes (take it.end bytes) it.spans.target → it.needed ≤ length bytes → NeedsBytes bytes it
     → HoldsRequest bytes (asked method target (take (it.needed - it.end) (drop it.end bytes)))
 holds_slices bytes method target it method_is target_is there needs =
-    let P : Part → Type 0 = λ part. HoldsRequest bytes part in
+    let P : RequestMeaning → Type 0 = λ part. HoldsRequest bytes part in
     let size_is : it.spans.size ≡ it.needed - it.end = omega (arith, needs.needed_is) in
     let same : asked needs.head.method needs.head.target (take it.spans.size (drop it.end bytes)) ≡ asked method target (take (it.needed - it.end) (drop it.end bytes)) =
     λ i. asked (sym (method_is ∙ needs.stands.method_is) i) (sym (target_is ∙ needs.stands.target_is) i) (take (size_is i) (drop it.end bytes)) in

@@ -3,13 +3,13 @@ use Rattle.std.specs.Prelude.{◌≡◌, ℕ, ◌+◌, ◌<◌, ◌≤◌, List,
 use Rattle.httparse.specs.Grammar.{RequestHead}
 use Rattle.reg_io.specs.Delimiter.{EndsWith}
 use Rattle.reg_http_head.specs.Head.{blank_line, longest_head, IsHeadAt}
-use Rattle.reg_http_head.specs.Frame.{Part, refused, Framed, HasHead}
+use Rattle.reg_http_head.specs.Frame.{RequestMeaning, refused, Framed, HasHead}
 use Rattle.reg_http_head.specs.declared.scan_state.HeadIn.{HeadIn}
 use Rattle.reg_http_head.specs.declared.scan_state.ScanState.{ScanState}
 use Rattle.reg_http_head.specs.declared.scan_state.ScanState.TheVariants.{NoHeadEnd, Refused, Valid}
 
 -- the bytes begin with a whole request, which has this meaning
-pub record HoldsRequest (bytes : List ℕ) (part : Part) : Type 0 where
+pub record HoldsRequest (bytes : List ℕ) (part : RequestMeaning) : Type 0 where
   pub took : List ℕ
   pub left : List ℕ
   pub parted : bytes ≡ took ++ left
@@ -17,7 +17,7 @@ pub record HoldsRequest (bytes : List ℕ) (part : Part) : Type 0 where
 
 -- the bytes begin with a whole request
 pub record IsWholeRequest (bytes : List ℕ) : Type 0 where
-  pub part : Part
+  pub part : RequestMeaning
   pub holds : HoldsRequest bytes part
 
 -- no head ends in the first `count` bytes

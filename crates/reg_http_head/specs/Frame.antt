@@ -12,9 +12,9 @@ use Rattle.reg_http_head.specs.declared.request.RequestRef.{RequestRef}
 use Rattle.reg_http_head.specs.declared.request.RequestRef.TheVariants as collected
 
 -- the meaning of the bytes of a request: a refusal with its status code, or a request with method, target and body
-pub data Part : Type 0 where
-  refused : ℕ → Part
-  asked : List ℕ → List ℕ → List ℕ → Part
+pub data RequestMeaning : Type 0 where
+  refused : ℕ → RequestMeaning
+  asked : List ℕ → List ℕ → List ℕ → RequestMeaning
 
 -- the bytes begin with a head and the whole of its body, with this meaning
 pub record AsksFor (took method target body : List ℕ) : Type 0 where
@@ -38,7 +38,7 @@ pub record HasHead (took : List ℕ) (end : ℕ) : Type 0 where
   pub ends : FirstDelimiter blank_line took end
 
 -- the meaning of the bytes that were taken
-abbrev pub Framed : List ℕ → Part → Type 0
+abbrev pub Framed : List ℕ → RequestMeaning → Type 0
 Framed took (refused status) =
     ((status ≡ 431) × IsTooLong took) ⊎ ((end : ℕ) × HasHead took end × RefusesHead (take end took) status)
 Framed took (asked method target body) = AsksFor took method target body
@@ -60,11 +60,11 @@ TakesAtMost input left most IsSo =
     (took : List ℕ) × Consumes input left took × (length took ≤ most) × IsSo took
 
 -- the meaning of a request that was read
-abbrev pub part_of : Request → Part
-part_of (Refused status) = refused status
-part_of (Valid method target body) = asked method (string_bytes target) body.items
+abbrev pub request_meaning : Request → RequestMeaning
+request_meaning (Refused status) = refused status
+request_meaning (Valid method target body) = asked method (string_bytes target) body.items
 
 -- the meaning of a request that was collected
-abbrev pub part_of_ref : RequestRef → Part
-part_of_ref (collected.Refused status) = refused status
-part_of_ref (collected.Valid method target body) = asked method target.now body.now
+abbrev pub request_ref_meaning : RequestRef → RequestMeaning
+request_ref_meaning (collected.Refused status) = refused status
+request_ref_meaning (collected.Valid method target body) = asked method target.now body.now

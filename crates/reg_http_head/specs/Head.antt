@@ -41,8 +41,8 @@ abbrev pub size_in_bounds : Option ℕ → Result ℕ ℕ
 size_in_bounds None = Err 400
 size_in_bounds (Some size) = if nat_lt longest_body size then Err 413 else Ok size
 
--- the length of a body by the values of Transfer-Encoding and of Content-Length (RFC 9112 6): 411 with any Transfer-Encoding
--- and with no Content-Length, 400 with more than one
+-- the length of a body by the values of Transfer-Encoding and of Content-Length (RFC 9112 6): 411 if there is a
+-- Transfer-Encoding, or no Content-Length; 400 if there is more than one Content-Length
 abbrev pub size_by : List (List ℕ) → List (List ℕ) → Result ℕ ℕ
 size_by (coding ∷ codings) lengths = Err 411
 size_by [] [] = Err 411

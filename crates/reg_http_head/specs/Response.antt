@@ -4,7 +4,7 @@ use Rattle.httpdate.specs.Date.{unix_secs, date_text}
 use Rattle.httpdate.specs.declared.date.HttpDate.{HttpDate}
 use Rattle.reg_http_head.specs.declared.answer.Answer.{Answer}
 
--- the parts of a response: status code, content type, the method that a 405 allows, and body
+-- the parts of a response: status code, media type, the method that a 405 allows, and body
 pub record Response : Type 0 where
   pub status : ℕ
   pub kind : List ℕ

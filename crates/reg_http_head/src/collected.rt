@@ -2,7 +2,7 @@
 
 ghost use Rattle.std.specs.Prelude.{◌≡◌, ◌≤◌, length, IfErr, IfOk};
 ghost use Rattle.reg_http_head.specs.Collected.{HoldsRequest, Knows, NeedsBytes};
-ghost use Rattle.reg_http_head.specs.Frame.{part_of_ref};
+ghost use Rattle.reg_http_head.specs.Frame.{request_ref_meaning};
 
 use crate::request::RequestRef;
 use crate::scan_state::{HeadIn, ScanState, scan_all};
@@ -22,7 +22,7 @@ impl Collected {
     ghost use Rattle.std.specs.Prelude.{◌≡◌, ◌⊎◌, ◌+◌, ◌<◌, ◌≤◌, ◌++◌, [], length, true, false, vec_capacity, IfErr, IfOk, OnOk, OnErr};
     ghost use Rattle.reg_http_head.specs.Bytes.{collected_bytes, IsExact};
     ghost use Rattle.reg_http_head.specs.Collected.{HoldsRequest, IsWholeRequest};
-    ghost use Rattle.reg_http_head.specs.Frame.{IsUnfinished, part_of_ref};
+    ghost use Rattle.reg_http_head.specs.Frame.{IsUnfinished, request_ref_meaning};
 
     /// No bytes.
     pub fn new(alloc: Global) -> Collected
@@ -76,11 +76,11 @@ impl Collected {
         }
     }
 
-    /// The request with which the bytes begin, in slices of the bytes. [`Fault::Read`] if they don't begin with a whole request, [`Fault::Memory`] if
-    /// out of memory.
+    /// The request with which the bytes begin, its target and body as slices of them. [`Fault::Read`] if they don't begin with a whole request,
+    /// [`Fault::Memory`] if out of memory.
     pub fn request(&self, alloc: Global) -> Result<RequestRef<'_>, Fault>
         ensures ok { IfOk result (λ request.
-            ∥ HoldsRequest (collected_bytes self.now) (part_of_ref request) ∥₁) }
+            ∥ HoldsRequest (collected_bytes self.now) (request_ref_meaning request) ∥₁) }
         ensures err { IfErr result (λ fault.
             ((fault ≡ Fault.Read) × ∥ IsUnfinished (collected_bytes self.now) ∥₁) ⊎ (fault ≡ Fault.Memory)) }
     {
@@ -98,7 +98,7 @@ fn request_at(alloc: Global, bytes: &[u8], head: HeadIn) -> Result<RequestRef<'_
     requires head { ∥ NeedsBytes bytes.now head ∥₁ }
     requires ordered { head.end ≤ head.needed }
     requires whole { head.needed ≤ length bytes.now }
-    ensures ok { IfOk result (λ request. ∥ HoldsRequest bytes.now (part_of_ref request) ∥₁) }
+    ensures ok { IfOk result (λ request. ∥ HoldsRequest bytes.now (request_ref_meaning request) ∥₁) }
     ensures err { IfErr result (λ fault. fault ≡ Fault.Memory) }
 {
     let head_bytes = &bytes[..head.end];

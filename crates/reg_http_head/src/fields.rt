@@ -8,6 +8,7 @@ use crate::status;
 use httparse::spans::{HeaderSpan, Span};
 use reg_core::read_number;
 
+/// The most bytes of a body.
 const LONGEST_BODY: u64 = 65_536;
 
 /// The values of the fields of one name: none, one, or more.

@@ -44,8 +44,8 @@ impl HeadSpans {
     }
 }
 
-/// Reads a whole head, with its empty line. The error is the status code that refuses the head: 431 for more than 64 fields; 400 for any other
-/// bytes that are no head; 411, 400 or 413 for a POST whose length [`post_size`] refuses.
+/// Reads a whole head, with its empty line. The error is the status code that refuses the head: 431 for more than 64 fields; 400 for bytes that are
+/// no head (400 or 431, if these have more than 64 fields); 411, 400 or 413 for a POST whose length [`post_size`] refuses.
 pub(crate) fn read_head(head: &[u8]) -> Result<HeadSpans, u16>
     ensures ok { IfOk result (HoldsHead head.now) }
     ensures small { IfOk result (λ spans. spans.size ≤ longest_body) }

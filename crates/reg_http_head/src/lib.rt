@@ -1,4 +1,4 @@
-//! Parses the head of an HTTP/1.1 request by the grammar of the crate `httparse`, and writes the text of a response (RFC 9112).
+//! Reads an HTTP/1.0 or HTTP/1.1 request, its head by the grammar of the crate `httparse`, and writes the text of a response (RFC 9112).
 #![tactic(auto)]
 
 mod answer;

@@ -3,7 +3,7 @@
 ghost use Rattle.std.specs.Prelude.{◌≡◌, ◌+◌, ◌<◌, ◌≤◌, ◌++◌, ◌⊎◌, ℕ, List, length, take, IfOk, IfErr, OnOk, OnErr};
 ghost use Rattle.std.specs.Io.KnownBytes.{Consumes};
 ghost use Rattle.reg_http_head.specs.Head.{longest_head, longest_body, HoldsHead};
-ghost use Rattle.reg_http_head.specs.Frame.{Framed, HasHead, IsCutBy, TakesAtMost, part_of, asked};
+ghost use Rattle.reg_http_head.specs.Frame.{Framed, HasHead, IsCutBy, TakesAtMost, request_meaning, asked};
 ghost use Rattle.httparse.specs.Spans.{span_bytes};
 
 use crate::head::{HeadSpans, read_head};
@@ -33,7 +33,7 @@ pub enum Request {
     },
 }
 
-/// A request that was collected: the same as [`Request`], in slices of the collected bytes.
+/// A request that was collected: the same as [`Request`], with its target and body as slices of the collected bytes.
 #[derive(Drop)]
 pub enum RequestRef<'b> {
     Refused(u16),
@@ -48,7 +48,7 @@ pub enum RequestRef<'b> {
 /// a body of 65,536. [`Fault::Read`] if the reader fails, or ends within the request; [`Fault::Memory`] if out of memory.
 pub fn read_request<R: Read>(alloc: Global, reader: &mut R) -> Result<Request, Fault>
     ensures ok { IfOk result (λ request. TakesAtMost (R.remaining reader.old) (R.remaining reader.new)
-        (longest_head + longest_body) (λ took. Framed took (part_of request))) }
+        (longest_head + longest_body) (λ took. Framed took (request_meaning request))) }
     ensures err { IfErr result (λ fault. TakesAtMost (R.remaining reader.old) (R.remaining reader.new)
         (longest_head + longest_body) (IsCutBy fault)) }
 {
@@ -59,7 +59,7 @@ pub fn read_request<R: Read>(alloc: Global, reader: &mut R) -> Result<Request, F
 fn read_within<R: Read>(alloc: Global, reader: &mut R, room: &mut [u8]) -> Result<Request, Fault>
     requires { length room.old ≡ longest_head }
     ensures ok { IfOk result (λ request. TakesAtMost (R.remaining reader.old) (R.remaining reader.new)
-        (longest_head + longest_body) (λ took. Framed took (part_of request))) }
+        (longest_head + longest_body) (λ took. Framed took (request_meaning request))) }
     ensures err { IfErr result (λ fault. TakesAtMost (R.remaining reader.old) (R.remaining reader.new)
         (longest_head + longest_body) (IsCutBy fault)) }
 {
@@ -85,7 +85,7 @@ fn read_rest<R: Read>(
     requires head { HasHead buffered.now end }
     requires buffered { length buffered.now ≤ longest_head }
     ensures ok { IfOk result (λ request. TakesAtMost (R.remaining reader.old) (R.remaining reader.new)
-        longest_body (λ took. Framed (buffered.now ++ took) (part_of request))) }
+        longest_body (λ took. Framed (buffered.now ++ took) (request_meaning request))) }
     ensures err { IfErr result (λ fault. TakesAtMost (R.remaining reader.old) (R.remaining reader.new)
         longest_body (λ took. IsCutBy fault (buffered.now ++ took))) }
 {
@@ -135,7 +135,7 @@ fn fill_body<R: Read>(reader: &mut R, body: &mut [u8], buffered: &[u8]) -> Resul
 fn owned(alloc: Global, head: &[u8], spans: HeadSpans, body: Vec<u8>) -> Result<Request, Fault>
     requires { ∥ HoldsHead head.now spans ∥₁ }
     ensures ok { IfOk result (λ request.
-        part_of request
+        request_meaning request
         ≡ asked (span_bytes head.now spans.method) (span_bytes head.now spans.target) body.items) }
     ensures err { IfErr result (λ fault. fault ≡ Fault.Memory) }
 {

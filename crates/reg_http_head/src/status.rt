@@ -2,7 +2,7 @@
 
 pub const OK: u16 = 200;
 
-/// 400: the head, the target, or a part of the path or the body can't be read.
+/// 400: the head, the target, or a part of the path, the query or the body can't be read.
 pub const BAD_REQUEST: u16 = 400;
 /// 404: no route has the path, or there is no such CRL.
 pub const NOT_FOUND: u16 = 404;
@@ -22,5 +22,5 @@ pub const HEADERS_TOO_LARGE: u16 = 431;
 
 /// 500: out of memory, or the store failed.
 pub const INTERNAL_SERVER_ERROR: u16 = 500;
-/// 503: the open desk is not healthy, its clock is too far ahead, or it keeps the rest of the requests table for the control socket.
+/// 503: the open desk is not healthy, its clock is too far ahead, or it keeps the last tenth of the requests table for the control socket.
 pub const SERVICE_UNAVAILABLE: u16 = 503;

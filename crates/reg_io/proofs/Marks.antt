@@ -1,4 +1,4 @@
--- Lemmas on marks: how a search finds the first, what further bytes do to it, and what a mark of one byte is.
+-- Lemmas on delimiters: how a search finds the first one, more bytes after it, and delimiters of one byte.
 use Rattle.std.proofs.Common.{◌≡◌, ◌≢◌, ℕ, ◌<◌, ◌≤◌, ◌+◌, ◌-◌, List, [], ◌∷◌, ◌++◌, length, take, Bool, true, false, refl, sym, ap, ◌∙◌, subst, arith, length-append, nat_eq, inl, inr}
 use Rattle.std.specs.List.{All, ends_with}
 use Rattle.std.proofs.lemmas.Bool.{cases_lt, cases_order}

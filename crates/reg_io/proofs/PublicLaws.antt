@@ -1,4 +1,4 @@
--- The laws, for proofs above: they cite these alone. Each is stated in specs/, and is what a function of `laws` ensures.
+-- The laws that proofs of other crates cite. Each is stated in specs/, and a function of `laws` ensures it.
 use Rattle.reg_io.specs.Fill.{KeepsWhatWasTaken, SplitsAtDelimiter}
 use Rattle.reg_io.specs.Delimiter.{OneFirstDelimiter, FirstDelimiterOfAppend, FirstDelimiterInPrefix, NoDelimiterInPrefix, FirstDelimiterOfByte, NoDelimiterOfByte}
 use Rattle.reg_io.specs.Put.{PrefixOfFirst, PrefixOfSecond}

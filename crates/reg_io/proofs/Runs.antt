@@ -1,4 +1,4 @@
--- Lemmas on runs of an office.
+-- Lemmas on runs: requests that are answered one after another.
 use Rattle.std.proofs.Common.{List, [], ◌∷◌, ◌++◌, refl, subst}
 use Rattle.reg_io.specs.RunsOfAnswers.{Answered}
 

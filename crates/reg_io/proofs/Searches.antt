@@ -1,4 +1,4 @@
--- Lemmas on a reading up to a mark: how it can come to rest.
+-- Lemmas on a read up to a delimiter: how it can stop.
 use Rattle.std.proofs.Common.{◌≡◌, ℕ, ◌<◌, ◌≤◌, ◌+◌, List, ◌++◌, length, take, drop, sym, ap, ◌∙◌, subst, arith, take-append-drop}
 use Rattle.std.specs.declared.option.Option.{Option}
 use Rattle.std.specs.Io.KnownBytes.{Consumes, IsAtEnd, Keeps}
@@ -7,7 +7,7 @@ use Rattle.std.proofs.lemmas.Slice.{take-put_mid_below}
 use borrow.Rule.Slice.PartMut.{put_mid}
 use Rattle.reg_io.specs.declared.fill.Reached.{Reached}
 use Rattle.reg_io.specs.declared.fill.Reached.TheVariants.{Delimiter, Full, End}
-use Rattle.reg_io.specs.Fill.{FillsShort, FillsTo, kept_of_reading}
+use Rattle.reg_io.specs.Fill.{FillsShort, FillsTo, buffered_after}
 use Rattle.reg_io.specs.Delimiter.{EndsWith, HasNoDelimiter}
 use Rattle.reg_io.proofs.Buffers.{SoFar, held_stays, so_far_kept, so_far_more}
 use Rattle.reg_io.proofs.Marks.{no_mark_of_fronts, nothing_ends}
@@ -78,7 +78,7 @@ breaks_off delimiter input middle left before between ys buffered filled k so_fa
 
 -- what is held where the reading came to rest
 pub keeps_what_was_taken : (delimiter : List ℕ) (input left : Option (List ℕ)) (before after : List ℕ) (buffered : ℕ) (reached : Reached)
-    → (to : FillsTo delimiter input left before after buffered reached) → take (kept_of_reading (length after) reached) after ≡ take buffered before ++ to.took
+    → (to : FillsTo delimiter input left before after buffered reached) → take (buffered_after (length after) reached) after ≡ take buffered before ++ to.took
 keeps_what_was_taken delimiter input left before after buffered reached to = ap (λ n. take n after) to.count ∙ to.fills.stands
 
 -- at a mark: the bytes up to its end, and those that are held behind it

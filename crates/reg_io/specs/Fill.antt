@@ -14,10 +14,10 @@ pub record Fills (input left : Option (List ℕ)) (before after : List ℕ) (buf
   pub stands : take (buffered + length took) after ≡ take buffered before ++ took
 
 -- how many bytes a buffer of this size has after a read up to a delimiter
-abbrev pub kept_of_reading : ℕ → Reached → ℕ
-kept_of_reading size (Delimiter end buffered) = buffered
-kept_of_reading size Full = size
-kept_of_reading size (End buffered) = buffered
+abbrev pub buffered_after : ℕ → Reached → ℕ
+buffered_after size (Delimiter end buffered) = buffered
+buffered_after size Full = size
+buffered_after size (End buffered) = buffered
 
 -- a read stopped: the buffer has a delimiter, the first of which ends at `end`; or is full without a delimiter; or the reader is at its end,
 -- and the buffer is neither full nor has a delimiter
@@ -33,7 +33,7 @@ pub record FillsTo (delimiter : List ℕ) (input left : Option (List ℕ)) (befo
     (reached : Reached) : Type 0 where
   pub took : List ℕ
   pub fills : Fills input left before after buffered took
-  pub count : kept_of_reading (length after) reached ≡ buffered + length took
+  pub count : buffered_after (length after) reached ≡ buffered + length took
   pub rests : ReadStopsAt delimiter after left reached
 
 -- a read up to a delimiter that failed: the bytes `took` were taken before that, and the buffer is not full and has no delimiter
@@ -52,9 +52,9 @@ KeepsWhatWasTaken =
     (delimiter : List ℕ) (input left : Option (List ℕ)) (before after : List ℕ) (buffered : ℕ)
     (reached : Reached)
     → (to : FillsTo delimiter input left before after buffered reached)
-    → take (kept_of_reading (length after) reached) after ≡ take buffered before ++ to.took
+    → take (buffered_after (length after) reached) after ≡ take buffered before ++ to.took
 
--- if the read stopped at a delimiter, these are the bytes up to its end, and then the bytes after it that the buffer has (`now` in all)
+-- if the read stopped at a delimiter, the former bytes and those taken are the bytes up to its end, and then the rest of the buffer's `now` bytes
 abbrev pub SplitsAtDelimiter : Type 0
 SplitsAtDelimiter =
     (delimiter : List ℕ) (input left : Option (List ℕ)) (before after : List ℕ) (buffered end now : ℕ)

@@ -1,4 +1,4 @@
--- Runs: an object, such as an office, answers one request after another.
+-- Runs: an object, such as an `Office` (reg_office_api), answers one request after another.
 use Rattle.std.specs.Prelude.{◌≡◌, List, [], ◌∷◌, ◌++◌}
 
 -- From the state s on, the object answers the requests `asked` with the answers `given`, one for each, and is then in the state t.

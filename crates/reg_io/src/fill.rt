@@ -8,7 +8,7 @@ ghost use Rattle.reg_io.specs.Fill.{Fills, FillsShort, FillsTo};
 use crate::streams::Source;
 use std::io::Read;
 
-/// The reader failed, it ended before the buffer was full ([`fill_exact`]), or the buffer was full before the reader ended ([`fill_to_end`]).
+/// The reader failed, it ended before the buffer was full ([`fill_exact`]), or its bytes filled the buffer ([`fill_to_end`]).
 #[derive(Clone, Copy, PartialEq, Eq)]
 pub struct ReadFault;
 

@@ -31,7 +31,7 @@ pub fn prefixes_of_two_parts()
     ensures second { PrefixOfSecond }
 {}
 
-/// An object that answers one request after another. No type implements it: the law of runs needs only its relation `answers`.
+/// An object that gives each request (`Asked`) an answer (`Given`), in turn. No type implements it: the law of runs needs only `answers`.
 pub trait AnswersInTurn {
     type Asked;
 

@@ -36,10 +36,10 @@ refused_of other = None
 abbrev pub unreadable : Answered
 unreadable = Completed Nothing (Err (Refused Syntax))
 
--- the reply to an OCSP request with this response; `is_refusal` says whether the response has five bytes, which are only a status (RFC 6960 4.2.1)
+-- the reply to an OCSP request with this response; `has_only_status` says whether the response has five bytes, which are only a status (RFC 6960 4.2.1)
 pub record IsReplyOf (response : List ℕ) (reply : OcspReply) : Type 0 where
   pub line : reply.line.items ≡ with_lf (codes "ocsp " ++ encode_lower response)
-  pub refuses : reply.is_refusal ≡ (length response == 5)
+  pub refuses : reply.has_only_status ≡ (length response == 5)
 
 -- the result of a line with an OCSP request, by the response; or there was no memory for the request, the response or its digits
 abbrev pub OcspLineComesTo : Result (List ℕ) NoMemory → Answered → Type 0
@@ -47,7 +47,7 @@ OcspLineComesTo given (Completed what outcome) = (what ≡ Ocsp) × (outcome ≡
 OcspLineComesTo (Ok response) (Response reply) = IsReplyOf response reply
 OcspLineComesTo (Err memory) (Response reply) = ⊥
 
--- Lines that an office runs: `s` is the office before, `t` after. `answers` is the relation of its calls, as `Lines`.
+-- Lines that an office runs: `s` is the office before, `t` after. `answers` is the relation of its calls, such as `LineCalls`.
 module _ {S : Type 0} (answers : S → ℕ → Call → S → Type 0) where
   -- the office gets this call at a moment, with this result
   abbrev pub OfficeAnswers : ℕ → S → Meaning → Answered → S → Type 0

@@ -2,7 +2,7 @@
 use Rattle.std.specs.Prelude.{◌≡◌, ◌<◌, ℕ, List, Result, Err}
 use Rattle.reg_office_api.specs.CallSteps.{Signs, Runs, Asks, AnswersOcsp}
 use Rattle.reg_office_api.specs.Leads.{Leads}
-use Rattle.reg_office_api.specs.Signatories.{Signatory}
+use Rattle.reg_office_api.specs.Signers.{OfficeSigners}
 use Rattle.reg_office_api.specs.declared.office.Office.{Ghosts as Office}
 use Rattle.reg_core.specs.Records.{Records}
 use Rattle.reg_core.specs.declared.command.Command.{Command}
@@ -19,12 +19,12 @@ pub data Call : Type 0 where
   responded : List ℕ → Result (List ℕ) NoMemory → Call
 
 -- the result of each call for a line, over the records at a moment
-abbrev pub Lines : Signs → Signatory → Records → ℕ → Call → Records → Type 0
-Lines signs signatory before now (ran command outcome) after =
-    Runs signs signatory before now command outcome after
-Lines signs signatory before now (asked query outcome) after = Asks before now query outcome after
-Lines signs signatory before now (responded request given) after =
-    AnswersOcsp signs signatory before now request given after
+abbrev pub Lines : Signs → OfficeSigners → Records → ℕ → Call → Records → Type 0
+Lines signs signers before now (ran command outcome) after =
+    Runs signs signers before now command outcome after
+Lines signs signers before now (asked query outcome) after = Asks before now query outcome after
+Lines signs signers before now (responded request given) after =
+    AnswersOcsp signs signers before now request given after
 
 -- the result of a call is a fault of the signer
 abbrev pub FailsToSign : Call → Type 0
@@ -40,5 +40,5 @@ CountsFailure before call after = FailsToSign call → before < after
 abbrev pub LineCalls : {O : Type 0} → Office O → O → ℕ → Call → O → Type 0
 LineCalls office s now call t =
     Leads office.is_clean office.stands
-    (λ signatory before after. Lines office.signs signatory before now call after) s t
+    (λ signers before after. Lines office.signs signers before now call after) s t
     × CountsFailure (office.failures s) call (office.failures t)

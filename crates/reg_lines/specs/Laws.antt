@@ -14,7 +14,7 @@ use Rattle.reg_lines.specs.LineReading.{register_of}
 use Rattle.reg_lines.specs.Meaning.{SpellsRegister}
 use Rattle.reg_lines.specs.Replies.{outcome_line, with_lf}
 use Rattle.reg_office_api.specs.CallSteps.{Signs}
-use Rattle.reg_office_api.specs.Signatories.{Signatory}
+use Rattle.reg_office_api.specs.Signers.{OfficeSigners}
 
 -- fields that spell a registration are read as that registration
 abbrev pub RegistrationsAreRead : Type 0
@@ -40,12 +40,12 @@ RepliedAgain first second =
     (first ≡ with_lf (codes "registered")) ⊎ (first ≡ with_lf (codes "same"))
     → (second ≡ with_lf (codes "same")) ⊎ IsFaultLine second
 
--- A text is imported twice at one moment, with nothing between, over sound records and with any signer of their CRLs. If each row ran both
--- times, and no reply was a fault the first time, the second import adds no certificate, and each of its replies is as
--- above.
+-- A text is imported twice at one moment, with nothing between, over sound records and with any signers. If each row ran both
+-- times, and no reply was a fault the first time, the second import adds no certificate, and `RepliedAgain` holds of the two
+-- replies to each row.
 abbrev pub ImportsTextTwice : Signs → Type 0
 ImportsTextTwice signs =
-    (identity : Signatory)
+    (identity : OfficeSigners)
     (records between after : Records)
     (now : ℕ)
     (text : List ℕ)

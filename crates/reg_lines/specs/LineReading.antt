@@ -82,7 +82,7 @@ register_by all = do
   not_after ← moment_of all.3
   Some (Register order serial not_before not_after)
 
--- the same, if there are four
+-- the command of the fields after the word `register`, if there are exactly four
 unfoldable pub register_of : List (List ℕ) → Option Command
 register_of fields = option_and_then register_by (four fields)
 

@@ -1,4 +1,4 @@
--- The grammar of script lines: a moment, a space and an untimed line. An untimed line spells a meaning: its fields write the meaning.
+-- The grammar of script lines: a moment, a space and an untimed line. The fields of an untimed line spell its meaning.
 use Rattle.std.specs.Prelude.{◌≡◌, ℕ, ◌<◌, List, [], ◌∷◌, ◌++◌, length, codes, Ok, unwrap_or}
 use Rattle.std.specs.Result.{result_ok}
 use Rattle.hex.specs.Hex.{decode_of}
@@ -83,7 +83,7 @@ meaning_of (line.Command command) = means_command command
 meaning_of (line.Query query) = means_query query
 meaning_of (line.Ocsp digits) = is_ocsp_line (decoded_bytes digits.now)
 
--- the line of a script begins with this moment: it is the moment's text, a space (the byte 32), and an untimed line
+-- the line of a script has this moment: the line is the moment's text, a space (the byte 32), and an untimed line
 abbrev pub HasMoment : List ℕ → ℕ → List ℕ → Type 0
 HasMoment line now command = (line ≡ moment_text now ++ 32 ∷ command) × IsMoment now
 

@@ -45,8 +45,8 @@ abbrev pub IsShort : ℕ → List ℕ → Type 0
 IsShort longest piece = length (strip_last 10 piece) ≤ longest
 
 -- an untimed line has at most 8,171 bytes before its LF
-abbrev pub IsShortCommand : List ℕ → Type 0
-IsShortCommand = IsShort (longest_of true)
+abbrev pub IsShortUntimedLine : List ℕ → Type 0
+IsShortUntimedLine = IsShort (longest_of true)
 
 -- the bytes have no LF
 abbrev pub HasNoLf : List ℕ → Type 0
@@ -153,7 +153,7 @@ module _ (longest : ℕ) (input input' out out' : Option (List ℕ)) where
         × (IsTrue is_strict → AllByRecursion IsAccepted lines.replies) × output_failed
     RunEnds (Err other) = ⊥
 
--- A run of lines, with the office, the reader and the writer before and after, and what states that a read or a write failed.
+-- A run of lines: the office, the reader and the writer before and after; `input_failed` and `output_failed` state that a read or a write failed.
 module _ {S R W : Type 0} (answers : S → ℕ → Call → S → Type 0) (remaining : R → Option (List ℕ))
     (contents : W → Option (List ℕ)) (input_failed output_failed : Type 0)
     (s t : S) (reader reader' : R) (writer writer' : W) where
@@ -190,7 +190,7 @@ module _ {S : Type 0} (runs : S → List ℕ → List ℕ → S → Type 0) (s t
       clock_failed × (t ≡ s) × Appends out out' []
   LineEnds clock_failed output_failed is_strict line (Err other) = ⊥
 
-  -- The longest line; what is left of the input, before and after; and the bytes that were buffered.
+  -- The longest line; the rest of the input, before and after; and the bytes that were buffered.
   module _ (longest : ℕ) (input input' : Option (List ℕ)) (buffered : List ℕ) where
     -- a whole line ran, from the bytes that were buffered and those that were read; the others are left
     pub record RanWhole (left : List ℕ) : Type 0 where

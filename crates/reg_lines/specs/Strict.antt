@@ -1,4 +1,4 @@
--- A strict import: it ends at the first refusal or fault, and does not run a last row without its line end.
+-- A strict import: it ends at the first refusal or fault, and does not run bytes after the last line end of the text.
 use Rattle.std.specs.Prelude.{◌≡◌, ℕ, ◌==◌, ◌&&◌, Bool, true, not, List, [], ◌∷◌, length, reverse, if◌then◌else◌, Result, Ok, Err}
 use Rattle.std.specs.declared.option.Option.{Option}
 use Rattle.reg_core.specs.declared.refusal.Fault.{Fault}
@@ -8,7 +8,7 @@ use Rattle.reg_lines.specs.declared.answered.Ended.{Ended}
 use Rattle.reg_lines.specs.declared.answered.Ended.TheVariants.{Whole, Refused, NoLineEnd}
 use Rattle.reg_lines.specs.declared.answered.Continuation.TheVariants as passed
 
--- a byte within a line: neither CR nor LF (13 and 10), each of which ends a record
+-- a byte within a line: neither CR nor LF (13 and 10), each of which ends a record, unless it is between quotation marks
 abbrev pub is_within : ℕ → Bool
 is_within byte = not (byte == 13) && not (byte == 10)
 

@@ -24,7 +24,7 @@ pub struct OcspReply {
     /// `ocsp HEX`, with its LF.
     pub line: Vec<u8>,
     /// Whether the response has only a status, so no signature (RFC 6960 4.2.1).
-    pub is_refusal: bool,
+    pub has_only_status: bool,
 }
 
 /// The result of a line.
@@ -44,7 +44,7 @@ pub struct RefusedCommand {
     pub why: Refusal,
 }
 
-/// How a run of lines or rows ended, if no fault of input, output or memory cut it short.
+/// How a run of lines or rows ended, if no fault of input, clock, output or memory cut it short.
 #[derive(Clone, Copy)]
 pub enum Ended {
     /// Each line or row ran. In a strict run, each was accepted.

@@ -3,12 +3,12 @@
 use crate::answered::Answered;
 use reg_core::{Fault, Moment};
 
-/// The host of a run of lines. It has a clock if the lines have no moments of their own, and it observes the result of each
-/// line.
+/// The host of a run of lines, which observes the result of each line. The host has a clock if the lines have no moments of their own.
 pub trait Host {
     ghost use Rattle.std.specs.Prelude.{◌≡◌, ℕ, Bool, IfErr, IfOk, OnErr};
     ghost use Rattle.reg_core.specs.declared.refusal.Fault.TheVariants.{Read};
 
+    /// Whether the host has a clock.
     ghost clocked: { Self → Bool };
 
     /// The clock has reached this moment.

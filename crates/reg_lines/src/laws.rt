@@ -1,4 +1,4 @@
-//! Laws of lines and rows. The functions do nothing: their contracts are the laws. Proofs in other crates cite them by `proofs/PublicLaws.antt`.
+//! Laws of lines and rows. The functions do nothing: their contracts are the laws. Other crates cite `rows_are_read` by `proofs/PublicLaws.antt`.
 
 ghost use Rattle.reg_lines.specs.Laws.{ImportsTextTwice, RegistrationsAreRead, RowsMeanWhatIsRead};
 

@@ -19,7 +19,7 @@ use std::alloc::Global;
 pub const LONGEST_LINE: usize = 8192;
 
 /// The most bytes of an untimed line before its LF: 8,171, as [`LONGEST_LINE`] without a moment and a space. A CR counts.
-pub const LONGEST_COMMAND: usize = LONGEST_LINE - MOMENT - 1;
+pub const LONGEST_UNTIMED_LINE: usize = LONGEST_LINE - MOMENT - 1;
 
 /// The most lines of a run.
 pub const MOST_LINES: u64 = 1_000_000;
@@ -27,13 +27,13 @@ pub const MOST_LINES: u64 = 1_000_000;
 /// How a run goes on after a line.
 #[derive(Clone, Copy)]
 enum Next {
-    /// More lines may follow: this many of their bytes are at the front of the buffer.
+    /// More lines may follow: this many of their bytes are at the start of the buffer.
     Held(usize),
     End(Ended),
 }
 
-/// Runs each line of an input, in turn, and writes each reply before it runs the next line. The lines begin with moments of their
-/// own, as in a script, or, if the host has a clock, run at its moments. A strict run ends after the first reply that is
+/// Runs each line of an input, in turn, and writes each reply before the next line runs. The lines begin with moments of their
+/// own, as in a script; or, if the host has a clock, each runs at the clock's moment. A strict run ends after the first reply that is
 /// a refusal or a fault, and does not run a last line without its LF.
 ///
 /// # Errors
@@ -49,8 +49,8 @@ pub fn run_lines<R: Source, W: Sink, O: Office, H: Host>(
     is_strict: bool,
 ) -> Result<Ended, Fault>
     ensures ends { LeadsIn O.Office
-        (λ signatory before after.
-        LinesEnd (Lines O.signs signatory) R.remaining W.contents R.failed W.failed before after
+        (λ signers before after.
+        LinesEnd (Lines O.signs signers) R.remaining W.contents R.failed W.failed before after
         reader.old reader.new writer.old writer.new
         H.clock_reached H.clock_failed (H.clocked host.now) is_strict result)
         office.old office.new }
@@ -69,7 +69,7 @@ fn buffer_size(is_clocked: bool) -> usize
     ensures { result ≡ longest_of is_clocked + 1 }
 {
     if is_clocked {
-        LONGEST_COMMAND + 1
+        LONGEST_UNTIMED_LINE + 1
     } else {
         LONGEST_LINE + 1
     }

@@ -3,9 +3,9 @@
 ghost use Rattle.std.specs.Prelude.{◌≡◌, IfNone, IfSome, MatchOption};
 ghost use Rattle.std.specs.Io.BufRead.{strip_last};
 ghost use Rattle.reg_lines.specs.Meaning.{HasMoment, HasNoMoment, OneBeginning};
-ghost use Rattle.reg_lines.specs.Script.{IsShortCommand, line_of};
+ghost use Rattle.reg_lines.specs.Script.{IsShortUntimedLine, line_of};
 
-use crate::lines::LONGEST_COMMAND;
+use crate::lines::LONGEST_UNTIMED_LINE;
 use reg_core::Moment;
 
 /// The number of bytes of a moment's text.
@@ -25,12 +25,12 @@ pub fn take_moment(line: &[u8]) -> Option<(Moment, &[u8])>
     Some((now, &line[MOMENT + 1..]))
 }
 
-/// An untimed line without its line end; `None` if it has more than [`LONGEST_COMMAND`] bytes before its LF.
-pub fn command_in(line: &[u8]) -> Option<&[u8]>
-    ensures { MatchOption result (¬ IsShortCommand line.now)
-        (λ command. (command.now ≡ line_of line.now) × IsShortCommand line.now) }
+/// An untimed line without its line end; `None` if it has more than [`LONGEST_UNTIMED_LINE`] bytes before its LF.
+pub fn untimed_line(line: &[u8]) -> Option<&[u8]>
+    ensures { MatchOption result (¬ IsShortUntimedLine line.now)
+        (λ command. (command.now ≡ line_of line.now) × IsShortUntimedLine line.now) }
 {
-    if without_last(line, b'\n').len() > LONGEST_COMMAND {
+    if without_last(line, b'\n').len() > LONGEST_UNTIMED_LINE {
         return None;
     }
     Some(without_end(line))

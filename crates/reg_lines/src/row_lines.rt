@@ -13,7 +13,7 @@ use reg_core::Fault;
 use reg_io::Source;
 use std::alloc::{AllocError, Global};
 
-/// The untimed line for each row of a text, in order: `register` and its four fields. A first row
+/// The untimed lines, each with its LF, for the rows of a text, in order: `register` and the row's four fields. A first row
 /// `order,serial,notBefore,notAfter` is skipped. A row that is no registration gives `register` alone, which is refused
 /// (`E22`), so that each row but the header has one line.
 ///

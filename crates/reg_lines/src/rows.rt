@@ -20,10 +20,11 @@ use std::alloc::Global;
 /// The most bytes of an import.
 pub const MOST_BYTES: usize = 16_777_216;
 
+/// The most bytes of one read.
 const PIECE: usize = 4096;
 
-/// Registers each row of a text of comma-separated fields (RFC 4180) at one moment, in order, and writes each reply before
-/// it runs the next row. It reads the whole text first. A first row `order,serial,notBefore,notAfter` is skipped.
+/// Registers each row of a text of comma-separated fields (RFC 4180) at one moment, in order, and writes each reply before the next row runs.
+/// The whole text is read first. A first row `order,serial,notBefore,notAfter` is skipped. A row that is no registration is refused (`E22`).
 ///
 /// # Errors
 ///
@@ -38,8 +39,8 @@ pub fn import<R: Source, W: Sink, O: Office>(
     office: &mut O,
 ) -> Result<(), Fault>
     ensures ends { LeadsIn O.Office
-        (λ signatory before after.
-        ImportEnds (Lines O.signs signatory) R.remaining W.contents R.failed W.failed now before after
+        (λ signers before after.
+        ImportEnds (Lines O.signs signers) R.remaining W.contents R.failed W.failed now before after
         reader.old reader.new writer.old writer.new result)
         office.old office.new }
     ensures calls { ImportEnds (LineCalls O.Office) R.remaining W.contents R.failed W.failed

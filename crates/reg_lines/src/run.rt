@@ -14,13 +14,13 @@ use reg_core::{Fault, Moment, Refusal};
 use reg_office_api::Office;
 use std::alloc::{AllocError, Global};
 
-/// The length of an OCSP response that has only a status (RFC 6960 4.2.1).
+/// The length in bytes of an OCSP response that has only a status (RFC 6960 4.2.1).
 const STATUS_ONLY_LENGTH: usize = 5;
 
 /// Runs an untimed line, given without its line end, at a moment. A line that can't be read gets [`Refusal::Syntax`], without a call of the office.
 pub fn run_line<O: Office>(alloc: Global, office: &mut O, now: Moment, line: &[u8]) -> Answered
     ensures leads { LeadsIn O.Office
-        (λ signatory before after. ComesTo (Lines O.signs signatory) now before line.now result after)
+        (λ signers before after. ComesTo (Lines O.signs signers) now before line.now result after)
         office.old office.new }
     ensures by_calls { ComesTo (LineCalls O.Office) now office.old line.now result office.new }
 {
@@ -63,7 +63,7 @@ fn respond(alloc: Global, response: &[u8]) -> Answered
     match response_line(alloc, response) {
         Ok(line) => Answered::Response(OcspReply {
             line,
-            is_refusal: response.len() == STATUS_ONLY_LENGTH,
+            has_only_status: response.len() == STATUS_ONLY_LENGTH,
         }),
         Err(_) => no_memory(),
     }

@@ -43,8 +43,8 @@ impl Host for NoHost {
 ///
 /// # Errors
 ///
-/// [`Fault::Read`] if a read fails, a line has more than 8,192 bytes, or there is a line after the 1,000,000th: the lines
-/// before it ran, and their replies were written. [`Fault::Write`] if the output fails in a reply, whose line ran.
+/// [`Fault::Read`] if a read fails, a line has more than 8,192 bytes before its LF, or there is a line after the 1,000,000th: the lines
+/// before the failure ran, and their replies were written. [`Fault::Write`] if the output fails in a reply, whose line ran.
 /// [`Fault::Memory`] if there is no memory for one line: nothing ran, nothing was read and nothing was written.
 pub fn run_script<R: Source, W: Sink, O: Office>(
     alloc: Global,
@@ -53,8 +53,8 @@ pub fn run_script<R: Source, W: Sink, O: Office>(
     office: &mut O,
 ) -> Result<(), Fault>
     ensures ends { LeadsIn O.Office
-        (λ signatory before after.
-        ScriptEnds (Lines O.signs signatory) R.remaining W.contents R.failed W.failed before after
+        (λ signers before after.
+        ScriptEnds (Lines O.signs signers) R.remaining W.contents R.failed W.failed before after
         reader.old reader.new writer.old writer.new result)
         office.old office.new }
     ensures by_calls { ScriptEnds (LineCalls O.Office) R.remaining W.contents R.failed W.failed
@@ -63,8 +63,7 @@ pub fn run_script<R: Source, W: Sink, O: Office>(
     run_script_for(alloc, reader, writer, office, &NoHost)
 }
 
-/// As [`run_script`], for a host without a clock, which observes the result of each line.
-/// Errors are those of [`run_script`].
+/// As [`run_script`], with the same errors, for a host without a clock, which observes the result of each line.
 pub fn run_script_for<R: Source, W: Sink, O: Office, H: Host>(
     alloc: Global,
     reader: &mut R,
@@ -74,8 +73,8 @@ pub fn run_script_for<R: Source, W: Sink, O: Office, H: Host>(
 ) -> Result<(), Fault>
     requires { IsFalse (H.clocked host.now) }
     ensures ends { LeadsIn O.Office
-        (λ signatory before after.
-        ScriptEnds (Lines O.signs signatory) R.remaining W.contents R.failed W.failed before after
+        (λ signers before after.
+        ScriptEnds (Lines O.signs signers) R.remaining W.contents R.failed W.failed before after
         reader.old reader.new writer.old writer.new result)
         office.old office.new }
     ensures by_calls { ScriptEnds (LineCalls O.Office) R.remaining W.contents R.failed W.failed

@@ -12,8 +12,8 @@ use reg_io::{Sink, Source};
 use reg_office_api::Office;
 use std::alloc::Global;
 
-/// Registers each row of a text as [`crate::import`] does, up to the first reply that is a refusal or a fault. A last row without a line end (a CR
-/// or an LF) does not run. The errors are those of [`crate::import`].
+/// Registers each row of a text as [`crate::import`] does, up to the first reply that is a refusal or a fault. Bytes after the last line end (CR or
+/// LF) of the text do not run ([`Ended::NoLineEnd`]). The errors are those of [`crate::import`].
 pub fn import_strictly<R: Source, W: Sink, O: Office>(
     alloc: Global,
     reader: &mut R,
@@ -22,8 +22,8 @@ pub fn import_strictly<R: Source, W: Sink, O: Office>(
     office: &mut O,
 ) -> Result<Ended, Fault>
     ensures ends { LeadsIn O.Office
-        (λ signatory before after.
-        StrictEnds (Lines O.signs signatory) R.remaining W.contents R.failed W.failed now before after
+        (λ signers before after.
+        StrictEnds (Lines O.signs signers) R.remaining W.contents R.failed W.failed now before after
         reader.old reader.new writer.old writer.new result)
         office.old office.new }
     ensures calls { StrictEnds (LineCalls O.Office) R.remaining W.contents R.failed W.failed

@@ -1,4 +1,4 @@
--- CertIDs that are answered are as few and as short as those that were asked.
+-- The CertIDs that are answered are within the bounds of those in the request.
 use Rattle.std.proofs.Common.{◌≡◌, ◌≤◌, ◌<◌, ◌+◌, ℕ, List, [], ◌∷◌, ◌++◌, length, take, Option, refl, sym, ap, ◌∙◌, subst, arith}
 use Rattle.std.specs.Prelude.{get_or, sum_by}
 use Rattle.std.specs.List.{flat_map}

@@ -1,4 +1,4 @@
--- Certificates: what is read is spelled so, and what is spelled so is read.
+-- Certificates: reading gives only trees whose encoding is the bytes, and gives each of them.
 use Rattle.std.proofs.Common.{◌≡◌, ℕ, suc, ◌≤◌, ◌&&◌, true, false, eqb, leb, ltb, List, [], ◌∷◌, ◌++◌, length, Option, Some, None, refl, sym, ap, subst, ◌∙◌, arith}
 use Rattle.std.specs.Prelude.{IfSome, option_map}
 use Rattle.std.proofs.lemmas.Bool.{eqb-true, le-ltb, ltb-false}
@@ -11,7 +11,7 @@ use Rattle.reg_der.specs.ValueReading.{AgreesWith}
 use Rattle.reg_der.specs.WrittenValues.{bits_value}
 use Rattle.reg_der.proofs.PublicLaws.{value_size, bind_then, kept, some_is}
 use Rattle.reg_ocsp.specs.declared.certificate.SubjectPublicKey.{SubjectPublicKey}
-use Rattle.reg_ocsp.specs.Certificate.{CertificateTree, IsCertificateOf, key_info, certificate, no_unused, as_key, key_info_at, after_subject_at, signed_part_at, certificate_at}
+use Rattle.reg_ocsp.specs.Certificate.{CertificateTree, IsCertificateOf, key_info, certificate, no_unused, as_key, key_info_at, after_subject_at, tbs_contents_at, certificate_at}
 use Rattle.reg_der.specs.TaggedValues.{expect_at, whole_at, optional_at}
 use Rattle.reg_ocsp.specs.Request.{optional}
 use Rattle.reg_ocsp.specs.Views.{key_model}
@@ -156,8 +156,8 @@ record TakesPart (bytes part : List ℕ) : Type 0 where
   each : IsBytes part
   spelled : bytes ≡ tlv 0x30 (tlv 0x30 part ++ (tlv 0x30 signature_algorithm ++ tlv 0x03 signed))
 
-part_takes : (bytes part : List ℕ) → IsBytes bytes → signed_part_at bytes ≡ Some part → TakesPart bytes part
-unfolding signed_part_at
+part_takes : (bytes part : List ℕ) → IsBytes bytes → tbs_contents_at bytes ≡ Some part → TakesPart bytes part
+unfolding tbs_contents_at
 part_takes bytes part each e =
     let g = kept (ltb 65536 (length bytes)) _ part e in
     bind_then (whole_at 0x30 bytes) _ part g.1 (λ outer read_outer e1.
@@ -181,8 +181,8 @@ part_takes bytes part each e =
     })))))
 
 part_again : (part signature_algorithm signed : List ℕ) → length (tlv 0x30 (tlv 0x30 part ++ (tlv 0x30 signature_algorithm ++ tlv 0x03 signed))) ≤ 65536
-    → signed_part_at (tlv 0x30 (tlv 0x30 part ++ (tlv 0x30 signature_algorithm ++ tlv 0x03 signed))) ≡ Some part
-unfolding signed_part_at
+    → tbs_contents_at (tlv 0x30 (tlv 0x30 part ++ (tlv 0x30 signature_algorithm ++ tlv 0x03 signed))) ≡ Some part
+unfolding tbs_contents_at
 part_again part signature_algorithm signed small =
     let b2 = tlv 0x03 signed in
     let b1 = tlv 0x30 signature_algorithm ++ b2 in
@@ -200,7 +200,7 @@ part_again part signature_algorithm signed small =
 certificate_takes : (bytes : List ℕ) (x : List ℕ × List ℕ) → IsBytes bytes → certificate_at bytes ≡ Some x → IsCertificateOf bytes x.0 x.1
 unfolding certificate_at
 certificate_takes bytes x each e =
-    bind_then (signed_part_at bytes) _ x e (λ part read_part e1.
+    bind_then (tbs_contents_at bytes) _ x e (λ part read_part e1.
     bind_then (after_subject_at part) _ x e1 (λ rest read_rest e2.
     bind_then (expect_at 0x30 rest) _ x e2 (λ info read_info e3.
     let t0 = part_takes bytes part each read_part in

@@ -1,4 +1,4 @@
--- A CertID names one certificate of an issuer at most.
+-- A CertID identifies at most one certificate of an issuer.
 use Rattle.std.proofs.Common.{◌≡◌, ℕ, List, Option, Some, None, sym, ap, ◌∙◌, arith}
 use Rattle.std.specs.Prelude.{◌≢◌, MatchOption}
 use Rattle.reg_core.specs.Integer.{IsInteger, integer}

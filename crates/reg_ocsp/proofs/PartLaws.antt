@@ -1,4 +1,4 @@
--- Values of a known tag: what is read is spelled so, and what is spelled so is read.
+-- Values with an expected tag: reading gives only contents whose encoding is the bytes, and gives each of them.
 use Rattle.std.proofs.Common.{◌≡◌, ℕ, ◌%◌, ◌<◌, ◌≤◌, Bool, true, false, cond, eqb, List, [], ◌∷◌, ◌++◌, length, Option, Some, None, refl, sym, ap, subst, ◌∙◌, arith}
 use Rattle.std.specs.Prelude.{IfSome}
 use Rattle.std.proofs.lemmas.Bool.{eqb-true, eq-eqb, ne_eqb}

@@ -1,2 +1,2 @@
--- The lemmas for proofs of crates above: they cite these alone.
+-- The lemmas that proofs of other crates cite.
 pub use Rattle.reg_ocsp.proofs.Answering.{answers_fit}

@@ -1,4 +1,4 @@
--- Whole requests: what is read is a request, a request is read so, and no bytes are two requests.
+-- Whole requests: reading gives only requests, and gives each request; bytes have at most one reading.
 use Rattle.std.proofs.Common.{◌≡◌, ℕ, ◌≤◌, Bool, true, false, ◌&&◌, cond, eqb, ltb, List, [], ◌∷◌, ◌++◌, length, map, Option, Some, None, refl, sym, ap, subst, ◌∙◌, arith}
 use Rattle.std.specs.Prelude.{IfSome, IfOk, IsErrOf, Result, Ok, Err, option_copied, leb, sum_by}
 use Rattle.std.specs.List.{flat_map, AllByRecursion}

@@ -1,4 +1,4 @@
--- CertIDs and single requests: what is read is spelled so, and what is spelled so is read.
+-- CertIDs and single requests: reading gives only trees whose encoding is the bytes, and gives each of them.
 use Rattle.std.proofs.Common.{◌≡◌, ℕ, ◌%◌, ◌<◌, ◌≤◌, true, false, not, ◌&&◌, ◌||◌, eqb, ltb, leb, List, [], ◌∷◌, ◌++◌, length, Option, Some, None, refl, sym, ap, subst, ◌∙◌, arith}
 use Rattle.std.specs.Prelude.{IfSome}
 use Rattle.std.proofs.lemmas.Bool.{eqb-true, eqb-false, ne_eqb, not-false}
@@ -8,9 +8,9 @@ use Rattle.reg_core.specs.Integer.{IsBytes, IsShortest}
 use Rattle.reg_der.specs.Der.{tlv}
 use Rattle.reg_der.specs.ValueReading.{Parts, value_at, Takes}
 use Rattle.reg_der.proofs.PublicLaws.{value_takes, value_again, value_size, bind_then, kept, some_is, or_false}
-use Rattle.reg_ocsp.specs.Request.{Target, IsTarget, Single, IsSingle, Id, id_of, cert_id_in, parameters, algorithm, cert_id, single, extensions}
+use Rattle.reg_ocsp.specs.Request.{CertIdTree, IsCertIdTree, Single, IsSingle, Id, id_of, cert_id_in, parameters, algorithm, cert_id, single, extensions}
 use Rattle.reg_der.specs.TaggedValues.{expect_at, whole_at}
-use Rattle.reg_ocsp.specs.RequestReading.{last_nonce_at, read_all, algorithm_at, is_shortest, serial_at, hashes_and_serial_at, target_at, single_at}
+use Rattle.reg_ocsp.specs.RequestReading.{last_nonce_at, read_all, algorithm_at, is_shortest, serial_at, hashes_and_serial_at, cert_id_at, single_at}
 use Rattle.reg_ocsp.proofs.PartLaws.{chosen, expect_takes, expect_again, expect_next, whole_takes, whole_again}
 use Rattle.reg_ocsp.proofs.ItemLaws.{Reads, TakesItem}
 use Rattle.reg_ocsp.proofs.ExtensionLaws.{last_nonce_takes, last_nonce_again}
@@ -148,8 +148,8 @@ same_id : (raw raw2 algorithm algorithm2 name key serial : List ℕ) → raw ≡
     → the_id (record { raw = raw; algorithm = algorithm; name_hash = name; key_hash = key; serial = serial }) ≡ record { raw = raw2; algorithm = algorithm2; name_hash = name; key_hash = key; serial = serial }
 same_id raw raw2 algorithm algorithm2 name key serial e f = cc
 
-target_takes : (bytes : List ℕ) (x : Id × List ℕ) → IsBytes bytes → target_at bytes ≡ Some x → TakesItem cert_id id_of IsTarget bytes x.0 x.1
-unfolding target_at
+target_takes : (bytes : List ℕ) (x : Id × List ℕ) → IsBytes bytes → cert_id_at bytes ≡ Some x → TakesItem cert_id id_of IsCertIdTree bytes x.0 x.1
+unfolding cert_id_at
 target_takes bytes x each e =
     bind_then (expect_at 0x30 bytes) _ x e (λ outer read_outer e1.
     bind_then (algorithm_at outer.0) _ x e1 (λ hash read_hash e2.
@@ -158,10 +158,10 @@ target_takes bytes x each e =
     let t0 = expect_takes 0x30 bytes outer each read_outer in
     let t1 = algorithm_takes outer.0 hash t0.inner read_hash in
     let t2 = names_take hash.1 names t1.taken.each read_names in
-    let tree : Target = record { identifier = t1.identifier; parameters = t1.any; name_hash = names.0; key_hash = names.1; serial = names.2 } in
+    let tree : CertIdTree = record { identifier = t1.identifier; parameters = t1.any; name_hash = names.0; key_hash = names.1; serial = names.2 } in
     let front = algorithm t1.identifier t1.any in
     let inner : outer.0 ≡ front ++ (tlv 0x04 names.0 ++ (tlv 0x04 names.1 ++ tlv 0x02 names.2)) = t1.taken.parts ∙ ap (λ (r : List ℕ). front ++ r) t2.spelled in
-    subst (λ (y : Id × List ℕ). TakesItem cert_id id_of IsTarget bytes y.0 y.1) (some_is (made, outer.1) x e3)
+    subst (λ (y : Id × List ℕ). TakesItem cert_id id_of IsCertIdTree bytes y.0 y.1) (some_is (made, outer.1) x e3)
     (record {
       tree = tree;
       fits = record { identified = t1.identified; low_tag = t1.low_tag; shortest = t2.shortest };
@@ -169,8 +169,8 @@ target_takes bytes x each e =
       same = same_id (tlv 0x30 outer.0) (cert_id tree) hash.0 front names.0 names.1 names.2 (ap (tlv 0x30) inner) t1.same;
     }))))
 
-target_again : (t : Target) (rest : List ℕ) → IsTarget t → length (cert_id t) ≤ 65536 → target_at (cert_id t ++ rest) ≡ Some (id_of t, rest)
-unfolding target_at hashes_and_serial_at serial_at
+target_again : (t : CertIdTree) (rest : List ℕ) → IsCertIdTree t → length (cert_id t) ≤ 65536 → cert_id_at (cert_id t ++ rest) ≡ Some (id_of t, rest)
+unfolding cert_id_at hashes_and_serial_at serial_at
 target_again t rest fits small =
     let front = algorithm t.identifier t.parameters in
     let last = tlv 0x02 t.serial in
@@ -192,7 +192,7 @@ pub single_takes : (bytes : List ℕ) (x : Id × List ℕ) → IsBytes bytes →
 unfolding single_at
 single_takes bytes x each e =
     bind_then (expect_at 0x30 bytes) _ x e (λ outer read_outer e1.
-    bind_then (target_at outer.0) _ x e1 (λ target read_target e2.
+    bind_then (cert_id_at outer.0) _ x e1 (λ target read_target e2.
     bind_then (last_nonce_at 0xA0 target.1) _ x e2 (λ nonce read_nonce e3.
     let t0 = expect_takes 0x30 bytes outer each read_outer in
     let t1 = target_takes outer.0 target t0.inner read_target in

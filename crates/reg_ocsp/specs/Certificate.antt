@@ -90,8 +90,8 @@ after_subject_at bytes = do
   Some subject.1
 
 -- the contents of the TBSCertificate of a certificate, which is all of the bytes, at most 65,536
-unfoldable pub signed_part_at : List ℕ → Option (List ℕ)
-signed_part_at bytes =
+unfoldable pub tbs_contents_at : List ℕ → Option (List ℕ)
+tbs_contents_at bytes =
     if nat_lt 65536 (length bytes) then None
     else (whole_at 0x30 bytes >>= λ outer. expect_at 0x30 outer >>= λ part. expect_at 0x30 part.1 >>= λ under.
     whole_at 0x03 under.1
@@ -100,7 +100,7 @@ signed_part_at bytes =
 -- the whole DER value of the public key's algorithm, and the key, of a certificate
 unfoldable pub certificate_at : List ℕ → Option (List ℕ × List ℕ)
 certificate_at bytes = do
-  part ← signed_part_at bytes
+  part ← tbs_contents_at bytes
   rest ← after_subject_at part
   info ← expect_at 0x30 rest
   key_info_at info.0

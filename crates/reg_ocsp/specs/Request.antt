@@ -17,7 +17,7 @@ pub record Extension : Type 0 where
 
 -- a CertID: the OID and the parameters of the hash algorithm (any one value, or none), issuerNameHash, issuerKeyHash and the
 -- contents octets of the serial number
-pub record Target : Type 0 where
+pub record CertIdTree : Type 0 where
   pub identifier : List ℕ
   pub parameters : Option Parts
   pub name_hash : List ℕ
@@ -26,7 +26,7 @@ pub record Target : Type 0 where
 
 -- a Request: its CertID, and singleRequestExtensions if they are written
 pub record Single : Type 0 where
-  pub target : Target
+  pub target : CertIdTree
   pub extensions : Option (List Extension)
 
 -- an OCSPRequest: whether version 0 is written; the contents of requestorName and of optionalSignature, which are not checked, if
@@ -74,7 +74,7 @@ abbrev pub algorithm : List ℕ → Option Parts → List ℕ
 algorithm identifier any = tlv 0x30 (tlv 0x06 identifier ++ parameters any)
 
 -- CertID ::= SEQUENCE { hashAlgorithm, issuerNameHash OCTET STRING, issuerKeyHash OCTET STRING, serialNumber INTEGER }
-abbrev pub cert_id : Target → List ℕ
+abbrev pub cert_id : CertIdTree → List ℕ
 cert_id t =
     tlv 0x30 (algorithm t.identifier t.parameters
     ++ (tlv 0x04 t.name_hash ++ (tlv 0x04 t.key_hash ++ tlv 0x02 t.serial)))
@@ -112,7 +112,7 @@ pub record IsExtension (e : Extension) : Type 0 where
 
 -- the OID is not empty, the tag of the parameters has one octet, and the serial number is an INTEGER in the fewest octets
 -- (X.690 8.1.2.4, 8.3.2, 8.19.2)
-pub record IsTarget (t : Target) : Type 0 where
+pub record IsCertIdTree (t : CertIdTree) : Type 0 where
   pub identified : 1 ≤ length t.identifier
   pub low_tag : IfSome t.parameters (λ any. any.tag % 32 < 31)
   pub shortest : IsShortest t.serial
@@ -123,7 +123,7 @@ AreExtensions written = IfSome written (AllByRecursion IsExtension)
 
 -- the CertID and the extensions of a Request are allowed
 pub record IsSingle (s : Single) : Type 0 where
-  pub target : IsTarget s.target
+  pub target : IsCertIdTree s.target
   pub extensions : AreExtensions s.extensions
 
 -- there is at least one request, and each request and each extension is allowed
@@ -142,7 +142,7 @@ pub record Id : Type 0 where
   pub key_hash : List ℕ
   pub serial : List ℕ
 
-abbrev pub id_of : Target → Id
+abbrev pub id_of : CertIdTree → Id
 id_of t =
     record {
       raw = cert_id t;

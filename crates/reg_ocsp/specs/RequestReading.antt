@@ -94,8 +94,8 @@ hashes_and_serial_at bytes = do
   Some (name.0, key.0, serial)
 
 -- the CertID at the front, and the bytes after it
-unfoldable pub target_at : List ℕ → Option (Id × List ℕ)
-target_at bytes = do
+unfoldable pub cert_id_at : List ℕ → Option (Id × List ℕ)
+cert_id_at bytes = do
   outer ← expect_at 0x30 bytes
   algorithm ← algorithm_at outer.0
   names ← hashes_and_serial_at algorithm.1
@@ -114,7 +114,7 @@ target_at bytes = do
 unfoldable pub single_at : List ℕ → Option (Id × List ℕ)
 single_at bytes = do
   outer ← expect_at 0x30 bytes
-  target ← target_at outer.0
+  target ← cert_id_at outer.0
   ignored ← last_nonce_at 0xA0 target.1
   Some (target.0, outer.1)
 

@@ -23,7 +23,7 @@ id_model id =
 abbrev pub ids_model : List CertId → List Id
 ids_model ids = map id_model ids
 
--- the result agrees with `read`: `Ok` has the model that reading gives, for `Malformed` reading gives none; `Memory` says nothing
+-- the result agrees with `read`: `Ok` has the model that reading gives; with `Malformed`, reading gives none; `Memory` says nothing
 abbrev pub GivesUnlessMemory : {X Y : Type 0} → (X → Y) → Result X RequestFault → Option Y → Type 0
 GivesUnlessMemory view (Ok x) read = read ≡ Some (view x)
 GivesUnlessMemory view (Err Malformed) read = read ≡ None

@@ -2,7 +2,7 @@
 
 ghost use Rattle.std.specs.Prelude.{◌≡◌, ◌≤◌, ℕ, List, Some, IfOk, IfSome, IsErrOf, length, option_map};
 ghost use Rattle.reg_der.specs.ValueReading.{AgreesWith};
-ghost use Rattle.reg_ocsp.specs.Certificate.{IsCertificateOf, after_subject_at, as_key, certificate_at, key_info_at, no_unused, signed_part_at};
+ghost use Rattle.reg_ocsp.specs.Certificate.{IsCertificateOf, after_subject_at, as_key, certificate_at, key_info_at, no_unused, tbs_contents_at};
 ghost use Rattle.reg_ocsp.specs.Views.{key_model};
 ghost use Rattle.reg_ocsp.specs.declared.certificate.CertificateFault.TheVariants.{Memory};
 
@@ -125,9 +125,9 @@ fn read_certificate(bytes: &[u8]) -> Option<SubjectPublicKey<'_>>
 }
 
 /// The contents of the TBSCertificate of a certificate of at most 65,536 bytes.
-#[tactic(auto, unfolding(crate::specs::Certificate::signed_part_at))]
+#[tactic(auto, unfolding(crate::specs::Certificate::tbs_contents_at))]
 fn tbs_contents(bytes: &[u8]) -> Option<&[u8]>
-    ensures { AgreesWith (λ x. x.now) result (signed_part_at bytes.now) }
+    ensures { AgreesWith (λ x. x.now) result (tbs_contents_at bytes.now) }
 {
     if bytes.len() > LONGEST_CERTIFICATE {
         return None;

@@ -19,7 +19,7 @@ pub(crate) struct Extension<'a> {
     value: &'a [u8],
 }
 
-/// The value of the first nonce in the bytes: either one Extensions value under this explicit tag, or no bytes. `Some(None)` if there is no
+/// The value of the first nonce in bytes that are one Extensions value under this explicit tag, or empty. `Some(None)` if there is no
 /// nonce; `None` for any other bytes.
 #[tactic(auto, unfolding(crate::specs::RequestReading::last_nonce_at))]
 pub(crate) fn nonce_under(tag: u8, bytes: &[u8]) -> Option<Option<&[u8]>>

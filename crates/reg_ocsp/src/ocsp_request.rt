@@ -3,7 +3,7 @@
 ghost use Rattle.std.specs.Prelude.{◌≡◌, ℕ, List, Option, ◌≤◌, ◌<◌, length, IfOk, IfSome, IsErrOf, option_copied};
 ghost use Rattle.reg_der.specs.ValueReading.{AgreesWith, value_at};
 ghost use Rattle.reg_ocsp.specs.Request.{CanBeAnswered, Id, IsNonce, IsOcspRequest};
-ghost use Rattle.reg_ocsp.specs.RequestReading.{algorithm_at, ids_at, list_at, hashes_and_serial_at, parts_at, read_all, request_at, serial_at, signed_at, single_at, target_at, tbs_at, version_at};
+ghost use Rattle.reg_ocsp.specs.RequestReading.{algorithm_at, ids_at, list_at, hashes_and_serial_at, parts_at, read_all, request_at, serial_at, signed_at, single_at, cert_id_at, tbs_at, version_at};
 ghost use Rattle.reg_ocsp.specs.RequestReading as spec;
 ghost use Rattle.reg_ocsp.specs.Request as grammar;
 ghost use Rattle.reg_ocsp.specs.Views.{ids_model, id_model, GivesUnlessMemory};
@@ -147,9 +147,9 @@ fn single(bytes: &[u8]) -> Option<(CertId<'_>, &[u8])>
 }
 
 /// The CertID at the front, and the bytes after it.
-#[tactic(auto, unfolding(crate::specs::RequestReading::target_at))]
+#[tactic(auto, unfolding(crate::specs::RequestReading::cert_id_at))]
 fn cert_id(bytes: &[u8]) -> Option<(CertId<'_>, &[u8])>
-    ensures { AgreesWith (λ x. (id_model x.0, x.1.now)) result (target_at bytes.now) }
+    ensures { AgreesWith (λ x. (id_model x.0, x.1.now)) result (cert_id_at bytes.now) }
 {
     let (outer, rest) = expect(SEQUENCE, bytes)?;
     let (algorithm, after_algorithm) = algorithm(outer.contents)?;

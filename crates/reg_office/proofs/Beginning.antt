@@ -14,9 +14,9 @@ use Rattle.reg_ocsp.specs.Response.{refusal_response}
 use Rattle.reg_ocsp.specs.declared.response.RefusalStatus.TheVariants as status
 use Rattle.reg_office_api.specs.CallSteps.{Signs}
 use Rattle.reg_office_api.specs.Drafts.{IsDraft, IsSignerFailure}
-use Rattle.reg_office_api.specs.Ocsp.{HasNoReading, IsOcspData, IsOcspReply, IsResponse, IsTimely}
+use Rattle.reg_office_api.specs.Ocsp.{IsNoOcspRequest, IsOcspData, IsOcspReply, IsResponse, IsTimely}
 use Rattle.reg_office_api.specs.Responses.{IsOcspResponse, IsReadResponse}
-use Rattle.reg_office_api.specs.Signatories.{Responder, responder_key}
+use Rattle.reg_office_api.specs.Signers.{Responder, responder_key}
 use Rattle.reg_office_api.specs.declared.response.OcspResponse.{OcspResponse}
 use Rattle.reg_office_api.specs.declared.response.ResponseKind.{ResponseKind}
 use Rattle.reg_office_api.specs.declared.response.ResponseKind.TheVariants.{Signed, Malformed, TryLater, StoreFailure, SignerFailure}
@@ -108,7 +108,7 @@ signed_apart same = cc same
 
 -- a response that is ready is malformedRequest exactly where these bytes are, and internalError at a failure of the signer
 pub ready_refuses : (request : List ℕ) (kind : ResponseKind) (bytes : List ℕ) (result : Result (ReadyOrUnsigned OcspResponse Drafted) NoMemory)
-    → (bytes ≡ refusal_response status.Malformed) ↔ HasNoReading request → (kind ≡ SignerFailure → bytes ≡ refusal_response status.Internal)
+    → (bytes ≡ refusal_response status.Malformed) ↔ IsNoOcspRequest request → (kind ≡ SignerFailure → bytes ≡ refusal_response status.Internal)
     → IfOk result (IsReady kind bytes) → IfOk result (RefusesRequest request)
 ready_refuses request kind bytes (Ok (Ready response)) malformed internal (kind_is, bytes_is) = (
   ((λ same. malformed.0 (sym bytes_is ∙ same)), (λ unread. bytes_is ∙ malformed.1 unread)),
@@ -118,13 +118,13 @@ ready_refuses request kind bytes (Ok (Unsigned draft)) malformed internal ready 
 ready_refuses request kind bytes (Err memory) malformed internal ready = tt
 
 -- bytes that were read are answered with no malformedRequest
-pub no_malformed : (request bytes : List ℕ) → ¬ (HasNoReading request) → bytes ≢ refusal_response status.Malformed
-    → (bytes ≡ refusal_response status.Malformed) ↔ HasNoReading request
+pub no_malformed : (request bytes : List ℕ) → ¬ (IsNoOcspRequest request) → bytes ≢ refusal_response status.Malformed
+    → (bytes ≡ refusal_response status.Malformed) ↔ IsNoOcspRequest request
 no_malformed request bytes read apart = ((λ same. absurd (apart same)), (λ unread. absurd (read unread)))
 
 -- the response over a ResponseData
 pub message_refuses : (signs : Signs) (responder : Responder) (request message : List ℕ) (result : Result (ReadyOrUnsigned OcspResponse Drafted) NoMemory)
-    → ¬ (HasNoReading request) → IfOk result (IsResponseOver signs responder message) → IfOk result (RefusesRequest request)
+    → ¬ (IsNoOcspRequest request) → IfOk result (IsResponseOver signs responder message) → IfOk result (RefusesRequest request)
 message_refuses signs responder request message (Ok (Ready response)) read (inl (kind_is, signed)) = (
   no_malformed request response.bytes.items read (λ same. whole_apart _ _ _ _ (sym signed.2 ∙ same)),
   (λ failed. absurd (signed_apart (sym kind_is ∙ failed))),
@@ -158,10 +158,10 @@ failed_over signs responder message (Ok (Unsigned draft)) ready = absurd ready
 failed_over signs responder message (Err memory) ready = tt
 
 -- the bytes of what was left to be signed are no malformedRequest
-pub signed_malformed : (signs : Signs) (identity : Identity) (request : List ℕ) (draft : Drafted) (bytes : List ℕ) → ¬ (HasNoReading request)
+pub signed_malformed : (signs : Signs) (identity : Identity) (request : List ℕ) (draft : Drafted) (bytes : List ℕ) → ¬ (IsNoOcspRequest request)
     → (bytes ≡ refusal_response status.Internal)
     ⊎ ((signature : List ℕ) × signs identity draft.message signature × (bytes ≡ drafted_response draft (Some signature)))
-    → (bytes ≡ refusal_response status.Malformed) ↔ HasNoReading request
+    → (bytes ≡ refusal_response status.Malformed) ↔ IsNoOcspRequest request
 signed_malformed signs identity request draft bytes read (inl failed) = no_malformed request bytes read (λ same. internal_apart (sym failed ∙ same))
 signed_malformed signs identity request draft bytes read (inr (signature, signed, is)) =
     no_malformed request bytes read (λ same. whole_apart _ _ _ _ (sym is ∙ same))

@@ -82,7 +82,7 @@ module _ {C S : Type 0} (g : Ghosts C) (signs : Identity → List ℕ → List �
       → IsRunTo new left outcome
   not_run (Ok reply) fault told same looked happens is_fault device = absurd told
   not_run {new = new} {left = left} (Err other) fault told same looked happens is_fault device = subst (λ (f : Fault). IsRunTo new left (Err f)) (sym told) (record {
-    step = λ records stands clean. subst (λ (signatory : Identity). HasOutcome g signs new signatory records now command (Err fault)) (sym same) (record {
+    step = λ records stands clean. subst (λ (signers : Identity). HasOutcome g signs new signers records now command (Err fault)) (sym same) (record {
       after = records;
       happens = happens records stands.shown stands.sound.rows clean;
       stands = stands_looked looked stands;
@@ -121,7 +121,7 @@ module _ {C S : Type 0} (g : Ghosts C) (signs : Identity → List ℕ → List �
       step = λ records stands clean.
           let it = may_of records stands clean in
           let after = changed_by records now change in
-          subst (λ (signatory : Identity). HasOutcome g signs new signatory records now command (Ok reply)) (sym same) (record {
+          subst (λ (signers : Identity). HasOutcome g signs new signers records now command (Ok reply)) (sym same) (record {
             after = after;
             happens = it.happens;
             stands = record {
@@ -142,7 +142,7 @@ module _ {C S : Type 0} (g : Ghosts C) (signs : Identity → List ℕ → List �
     not_carried_out (Err other) failure told below changed =
         let fault = fault_of failure in
         subst (λ (f : Fault). IsRunTo new left (Err f)) (sym told) (record {
-          step = λ records stands clean. subst (λ (signatory : Identity). HasOutcome g signs new signatory records now command (Err fault)) (sym same) (record {
+          step = λ records stands clean. subst (λ (signers : Identity). HasOutcome g signs new signers records now command (Err fault)) (sym same) (record {
             after = records;
             happens = of_failure (λ (f : Fault). Happens (signed_by signs (identity signer)) records now command (Err f) records) (below, refl) (below, refl) failure;
             stands = record {

@@ -110,7 +110,7 @@ module _ (signs : Identity → List ℕ → List ℕ → Type 0) (seal : Identit
       let tbs : List ℕ → List ℕ = λ algorithm. tbs_of algorithm crl in
       let Q : List ℕ → Type 0 = λ algorithm. bytes ≡ certificate_list (tbs algorithm) algorithm (sha1 (tbs algorithm)) in
       subst Q is_seal.algorithm
-      (is ∙ ap (certificate_list (tbs seal.algorithm) seal.algorithm) (is_seal.seals (tbs seal.algorithm) signature signed))
+      (is ∙ ap (certificate_list (tbs seal.algorithm) seal.algorithm) (is_seal.signature_is_sha1 (tbs seal.algorithm) signature signed))
 
   stored_is_sealed : (since : ℕ) (crl : CertList) (bytes : List ℕ) → signed_since since signs seal crl bytes → has_placeholder_digest crl bytes
   stored_is_sealed since crl bytes (inl (below, is)) = is

@@ -9,7 +9,7 @@ use Rattle.reg_core.specs.Records.{Records}
 use Rattle.reg_core.specs.declared.refusal.Fault.{Fault}
 use Rattle.reg_core.specs.declared.refusal.Fault.TheVariants.{Refused, Memory, Store, Signer, Read, Write}
 use Rattle.reg_office_api.specs.CallSteps.{Signs}
-use Rattle.reg_office_api.specs.Signatories.{Signatory}
+use Rattle.reg_office_api.specs.Signers.{OfficeSigners}
 use Rattle.reg_store_tables.proofs.PublicLaws.{was_clean}
 use Rattle.reg_office.specs.AfterStoppedCommand.{ChangingCall, command_call, identifier_call, schedule_call}
 use Rattle.reg_office.specs.Calls.{MayInterrupt, StandsWith}
@@ -82,28 +82,28 @@ if_later (Some it) call calls later = inr later
 
 module _ {C : Type 0} (g : Ghosts C) (signs : Signs) where
   -- the disk was clean before the calls
-  call_clean : (s : Held C × Signatory) (call : OfficeCall) (t : Held C × Signatory) → IsCall g signs s call t
+  call_clean : (s : Held C × OfficeSigners) (call : OfficeCall) (t : Held C × OfficeSigners) → IsCall g signs s call t
       → HasCleanDisk (state g t.0) → HasCleanDisk (state g s.0)
   call_clean s (command_ran now command outcome) t called = called.0
   call_clean s (schedule_set steps result) t called = called.0
   call_clean s (identifier_set octets result) t called = called.0
   call_clean s looked_up t called = was_clean (state g s.0) (state g t.0) called.0.survives.clean
 
-  calls_clean : (s : Held C × Signatory) (calls : List OfficeCall) (t : Held C × Signatory) → AreCalls g signs s calls t
+  calls_clean : (s : Held C × OfficeSigners) (calls : List OfficeCall) (t : Held C × OfficeSigners) → AreCalls g signs s calls t
       → HasCleanDisk (state g t.0) → HasCleanDisk (state g s.0)
-  calls_clean s [] t same clean = subst (λ (v : Held C × Signatory). HasCleanDisk (state g v.0)) same clean
+  calls_clean s [] t same clean = subst (λ (v : Held C × OfficeSigners). HasCleanDisk (state g v.0)) same clean
   calls_clean s (call ∷ calls) t (next, called, rest) clean = call_clean s call next called (calls_clean next calls t rest clean)
 
   -- one call
-  one_call : (s : Held C × Signatory) (call : OfficeCall) (t : Held C × Signatory) (signatory : Signatory) (before : Records) (first : Option ChangingCall)
-      → StandsWith g signs s signatory before first → IsCall g signs s call t → HasCleanDisk (state g t.0)
-      → (after : Records) × (last : Option ChangingCall) × CallStep signs call signatory before after
-      × StandsWith g signs t signatory after last × Moves first call last
-  one_call s (command_ran now command outcome) t signatory before first stands called clean = called.1 signatory before first stands clean
-  one_call s (schedule_set steps result) t signatory before first stands called clean = called.1 signatory before first stands clean
-  one_call s (identifier_set octets result) t signatory before first stands called clean = called.1 signatory before first stands clean
-  one_call s looked_up t signatory before first stands (looked, same) clean =
-      (before, first, refl, looked_stands g signs s t signatory before first looked same stands, refl)
+  one_call : (s : Held C × OfficeSigners) (call : OfficeCall) (t : Held C × OfficeSigners) (signers : OfficeSigners) (before : Records) (first : Option ChangingCall)
+      → StandsWith g signs s signers before first → IsCall g signs s call t → HasCleanDisk (state g t.0)
+      → (after : Records) × (last : Option ChangingCall) × CallStep signs call signers before after
+      × StandsWith g signs t signers after last × Moves first call last
+  one_call s (command_ran now command outcome) t signers before first stands called clean = called.1 signers before first stands clean
+  one_call s (schedule_set steps result) t signers before first stands called clean = called.1 signers before first stands clean
+  one_call s (identifier_set octets result) t signers before first stands called clean = called.1 signers before first stands clean
+  one_call s looked_up t signers before first stands (looked, same) clean =
+      (before, first, refl, looked_stands g signs s t signers before first looked same stands, refl)
 
   -- a call over an open connection, where none was interrupted
   none_yet : (held : Held C) (first : Option ChangingCall) → IsTrue (state g held).is_open → IfSome first (λ call. IsFalse (state g held).is_open) → first ≡ None
@@ -111,37 +111,37 @@ module _ {C : Type 0} (g : Ghosts C) (signs : Signs) where
   none_yet held (Some call) up closed = absurd (not_closed g held up closed)
 
   pub only_itself : InterruptsOnlyItself g signs
-  only_itself s t signatory before first call stands up called clean =
+  only_itself s t signers before first call stands up called clean =
       let closed = stands.2.closed (call_clean s call t called clean) in
-      let still = subst (λ (v : Option ChangingCall). StandsWith g signs s signatory before v) (none_yet s.0 first up closed) stands in
-      let (after, last, step, stands_now, moves) = one_call s call t signatory before None still called clean in
+      let still = subst (λ (v : Option ChangingCall). StandsWith g signs s signers before v) (none_yet s.0 first up closed) stands in
+      let (after, last, step, stands_now, moves) = one_call s call t signers before None still called clean in
       (after, last, step, stands_now, itself call last (moves_first call last moves))
 
   -- the calls after the interrupted one
-  calls_after : (s : Held C × Signatory) (calls : List OfficeCall) (t : Held C × Signatory) (signatory : Signatory) (before : Records) (it : ChangingCall)
-      → StandsWith g signs s signatory before (Some it) → AreCalls g signs s calls t → HasCleanDisk (state g t.0)
-      → (after : Records) × AreCallSteps signs signatory before calls after × StandsWith g signs t signatory after (Some it) × AllByRecursion HasNotChanged calls
-  calls_after s [] t signatory before it stands same clean =
-      (before, refl, subst (λ (v : Held C × Signatory). StandsWith g signs v signatory before (Some it)) (sym same) stands, tt)
-  calls_after s (call ∷ calls) t signatory before it stands (next, called, rest) clean =
-      let (middle, last, step, stands_next, moves) = one_call s call next signatory before (Some it) stands called (calls_clean next calls t rest clean) in
+  calls_after : (s : Held C × OfficeSigners) (calls : List OfficeCall) (t : Held C × OfficeSigners) (signers : OfficeSigners) (before : Records) (it : ChangingCall)
+      → StandsWith g signs s signers before (Some it) → AreCalls g signs s calls t → HasCleanDisk (state g t.0)
+      → (after : Records) × AreCallSteps signs signers before calls after × StandsWith g signs t signers after (Some it) × AllByRecursion HasNotChanged calls
+  calls_after s [] t signers before it stands same clean =
+      (before, refl, subst (λ (v : Held C × OfficeSigners). StandsWith g signs v signers before (Some it)) (sym same) stands, tt)
+  calls_after s (call ∷ calls) t signers before it stands (next, called, rest) clean =
+      let (middle, last, step, stands_next, moves) = one_call s call next signers before (Some it) stands called (calls_clean next calls t rest clean) in
       let (unchanged, same) = moves_on it call last moves in
-      let still = subst (λ (v : Option ChangingCall). StandsWith g signs next signatory middle v) same stands_next in
-      let (after, steps, stands_now, all) = calls_after next calls t signatory middle it still rest clean in
+      let still = subst (λ (v : Option ChangingCall). StandsWith g signs next signers middle v) same stands_next in
+      let (after, steps, stands_now, all) = calls_after next calls t signers middle it still rest clean in
       (after, (middle, step, steps), stands_now, (unchanged, all))
 
   pub one_of_them : InterruptsOneOfThem g signs
-  one_of_them s t signatory before [] stands same clean =
-      (before, None, refl, subst (λ (v : Held C × Signatory). StandsWith g signs v signatory before None) (sym same) stands, tt)
-  one_of_them s t signatory before (call ∷ calls) stands (next, called, rest) clean =
-      let (middle, last, step, stands_next, moves) = one_call s call next signatory before None stands called (calls_clean next calls t rest clean) in
+  one_of_them s t signers before [] stands same clean =
+      (before, None, refl, subst (λ (v : Held C × OfficeSigners). StandsWith g signs v signers before None) (sym same) stands, tt)
+  one_of_them s t signers before (call ∷ calls) stands (next, called, rest) clean =
+      let (middle, last, step, stands_next, moves) = one_call s call next signers before None stands called (calls_clean next calls t rest clean) in
       elim (moves_first call last moves) [
         | inl nothing ↦
-            let still = subst (λ (v : Option ChangingCall). StandsWith g signs next signatory middle v) nothing stands_next in
-            let (after, interrupted, steps, stands_now, later) = one_of_them next t signatory middle calls still rest clean in
+            let still = subst (λ (v : Option ChangingCall). StandsWith g signs next signers middle v) nothing stands_next in
+            let (after, interrupted, steps, stands_now, later) = one_of_them next t signers middle calls still rest clean in
             (after, interrupted, (middle, step, steps), stands_now, if_later interrupted call calls later)
         | inr (it, itself, is, failed) ↦
-            let still = subst (λ (v : Option ChangingCall). StandsWith g signs next signatory middle v) itself stands_next in
-            let (after, steps, stands_now, all) = calls_after next calls t signatory middle it still rest clean in
+            let still = subst (λ (v : Option ChangingCall). StandsWith g signs next signers middle v) itself stands_next in
+            let (after, steps, stands_now, all) = calls_after next calls t signers middle it still rest clean in
             (after, Some it, (middle, step, steps), stands_now, inl (is, (failed, all)))
       ]

@@ -16,7 +16,7 @@ use Rattle.sqlite_catalog.specs.Listing.{IsSound}
 use Rattle.sqlite_schema.specs.declared.schema.Schema.{Schema}
 use Rattle.reg_store.proofs.PublicLaws.{shows_again}
 use Rattle.reg_store_tables.specs.Schema.{register_schema}
-use Rattle.reg_store_tables.specs.AfterStop.{AreARegisters, ShowsDerivedAfterStop}
+use Rattle.reg_store_tables.specs.AfterStop.{HaveRegisterSchema, ShowsDerivedAfterStop}
 use Rattle.reg_office.specs.AfterStoppedCommand.{ChangingCall, IsCallDone, IsDone, IsNext, ShowsPrefix, LeavesReported, command_call, schedule_call, identifier_call}
 use Rattle.reg_office.specs.OpenedAgain.{OpensReported, ShowsAccepted, ShowsCallDone, StandsPartlyRun}
 use Rattle.reg_office.specs.Stands.{SoundFor, Stands}
@@ -71,7 +71,7 @@ module _ {C : Type 0} (g : Ghosts C) (signs : Identity → List ℕ → List ℕ
   stands_told records None sound (inr done) = absurd done
 
   -- a register's tables obey its schema
-  pub registers_again : (state g again).committed.schema ≡ register_schema → AreARegisters (state g again).committed.trees
+  pub registers_again : (state g again).committed.schema ≡ register_schema → HaveRegisterSchema (state g again).committed.trees
   registers_again same = subst (λ (schema : Schema). IsSound schema (state g again).committed.trees) same (live opens.is_open).1
 
 -- what a stop leaves stands

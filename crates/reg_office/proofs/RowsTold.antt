@@ -19,7 +19,7 @@ use Rattle.reg_core.specs.declared.rows.SubscriberRow.{SubscriberRow}
 use Rattle.reg_core_lists.specs.Lists.{listed_certificate, certificate_row, expiring_row, history_row, lateness_of, open_row, order_row, overdue_row, listed_request, revoked_row, status_at, subscriber_of_order}
 use Rattle.reg_core_lists.specs.declared.rows.ListedCertificate.{ListedCertificate}
 use Rattle.reg_core_lists.specs.declared.rows.ListedOrder.{ListedOrder}
-use Rattle.reg_core_lists.specs.declared.rows.RequestHistory.{RequestHistory}
+use Rattle.reg_core_lists.specs.declared.rows.RequestWithState.{RequestWithState}
 use Rattle.reg_core_lists.specs.declared.rows.ListedRequest.{ListedRequest}
 use Rattle.reg_core_lists.specs.declared.rows.ListedRevocation.{ListedRevocation}
 use Rattle.reg_core_lists.specs.declared.rows.Row.{Row}
@@ -176,11 +176,11 @@ module _ (records : Records) (now : ℕ) (request : RequestRow) where
   pub overdue_none : (due : ℕ) → due ≡ deadline request → nat_lt due now ≡ false → None ≡ overdue_row records now request
   overdue_none due is early = sym (ap (λ b. cond b (open_row records now request) None) (sym (ap (λ moment. nat_lt moment now) is) ∙ early))
 
-  abbrev history_with : Status → ListedRequest → RequestHistory
+  abbrev history_with : Status → ListedRequest → RequestWithState
   history_with is line = record { request = line; status = is; lateness = lateness_of now request line.certificate is }
 
   -- what became of any
-  pub history_is : (line : ListedRequest) (certificate : CertRow) (revocation : Option RevocationRow) (history : RequestHistory)
+  pub history_is : (line : ListedRequest) (certificate : CertRow) (revocation : Option RevocationRow) (history : RequestWithState)
       → history.request ≡ line → history.status ≡ status_by now (Some certificate) revocation
       → history.lateness ≡ lateness_of now request line.certificate history.status
       → Some line ≡ listed_request records request → Some certificate ≡ certificate_in records.certificates request.serial
@@ -188,9 +188,9 @@ module _ (records : Records) (now : ℕ) (request : RequestRow) where
   history_is line certificate revocation history same is late told found revoked =
       let whole : history ≡ history_with (status_by now (Some certificate) revocation) line =
       λ i. record { request = same i; status = is i; lateness = (late ∙ ap (lateness_of now request line.certificate) is) i } in
-      ap (λ (it : RequestHistory). Some (History it)) whole
+      ap (λ (it : RequestWithState). Some (History it)) whole
       ∙ (λ i. Some (History (history_with (status_by now (found i) (revoked i)) line)))
-      ∙ ap (λ (it : Option ListedRequest). option_map (λ (one : RequestHistory). History one) (option_map (history_with (status records request.serial now)) it)) told
+      ∙ ap (λ (it : Option ListedRequest). option_map (λ (one : RequestWithState). History one) (option_map (history_with (status records request.serial now)) it)) told
 
 -- ---- revocations
 

@@ -13,7 +13,7 @@ use Rattle.reg_ocsp.specs.Request.{Id}
 use Rattle.reg_ocsp.specs.Response.{SingleAnswer}
 use Rattle.reg_office.specs.Agreement.{Agrees, OcspAgrees}
 use Rattle.reg_office_api.specs.Ocsp.{IsOcspReply, IsReadReply, IsResponse, IsTimely}
-use Rattle.reg_office_api.specs.Signatories.{Responder, responder_key}
+use Rattle.reg_office_api.specs.Signers.{Responder, responder_key}
 use Rattle.reg_office.specs.Shown.{IsReached, AnswersStatuses, ResponseHasStatuses}
 
 -- the clock refuses no moment that is reached

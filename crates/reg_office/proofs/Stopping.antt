@@ -11,7 +11,7 @@ use Rattle.reg_core.specs.declared.command.Reply.{Reply}
 use Rattle.reg_core.specs.declared.refusal.Fault.{Fault}
 use Rattle.reg_crl.specs.Signing.{Identity}
 use Rattle.reg_store.proofs.PublicLaws.{at_rest, live_at_rest}
-use Rattle.reg_store_tables.specs.AfterStop.{AreARegisters, ShowsDerivedAfterStop}
+use Rattle.reg_store_tables.specs.AfterStop.{HaveRegisterSchema, ShowsDerivedAfterStop}
 use Rattle.reg_store_tables.proofs.PublicLaws.{was_clean}
 use Rattle.reg_office.specs.AfterStoppedCommand.{AreRunByOne, HaveNoReply, ShowsPrefix, IsRunOne}
 use Rattle.reg_office.specs.Stands.{HasRun, Stands}
@@ -63,13 +63,13 @@ module _ {C : Type 0} (g : Ghosts C) (signs : Identity → List ℕ → List ℕ
 
   -- what it finds of those behind the first, behind it
   behind : (records : Records) (timed : ℕ × Command) (outcome : Result Reply Fault) (commands : List (ℕ × Command)) (came : List (Result Reply Fault)) (trees : Trees) (old next : Held C)
-      → Settles g → ((found : Trees) → (state g old).may_leave found → AreARegisters found)
+      → Settles g → ((found : Trees) → (state g old).may_leave found → HaveRegisterSchema found)
       → Stands g signs old identity records → IsRunOne g signs identity old next timed.0 timed.1 outcome → HasCleanDisk (state g next)
       → HaveNoReply came → (state g next).may_leave trees → Finds old records (timed ∷ commands) (outcome ∷ came) trees
   behind records timed (Ok reply) commands came trees old next settles legal stands one clean none may =
       let step = one.step records stands clean in
       let up : IsTrue (state g next).is_open = one.live clean in
-      let sound : AreARegisters trees = elim (one.survives.crash clean trees may) [
+      let sound : HaveRegisterSchema trees = elim (one.survives.crash clean trees may) [
         | inl before ↦ legal trees before
         | inr does ↦ (does records stands).rests.3
       ] in
@@ -104,7 +104,7 @@ module _ {C : Type 0} (g : Ghosts C) (signs : Identity → List ℕ → List ℕ
   ]
 
   found_all : (old new : Held C) (records : Records) (commands : List (ℕ × Command)) (came : List (Result Reply Fault)) (trees : Trees)
-      → Settles g → ((found : Trees) → (state g old).may_leave found → AreARegisters found)
+      → Settles g → ((found : Trees) → (state g old).may_leave found → HaveRegisterSchema found)
       → Stands g signs old identity records → AreRunByOne g signs identity old commands came new → HasCleanDisk (state g new) → (state g new).may_leave trees
       → Finds old records commands came trees
   found_all old new records [] [] trees settles legal stands same clean may = inl (subst (λ (held : Held C). (state g held).may_leave trees) same may, tt)
@@ -113,7 +113,7 @@ module _ {C : Type 0} (g : Ghosts C) (signs : Identity → List ℕ → List ℕ
   found_all old new records (first ∷ commands) (told ∷ came) trees settles legal stands (next, here, rest) clean may =
       let was = was_clean (state g next) (state g new) (run_clean next new commands came rest) clean in
       let step = here.step records stands was in
-      let still : (found : Trees) → (state g next).may_leave found → AreARegisters found = λ found left. elim (here.survives.crash was found left) [
+      let still : (found : Trees) → (state g next).may_leave found → HaveRegisterSchema found = λ found left. elim (here.survives.crash was found left) [
         | inl before ↦ legal found before
         | inr does ↦ (does records stands).rests.3
       ] in

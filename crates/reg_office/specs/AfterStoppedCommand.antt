@@ -11,14 +11,14 @@ use Rattle.reg_core.specs.declared.command.Command.{Command}
 use Rattle.reg_core.specs.declared.command.Reply.{Reply}
 use Rattle.reg_core.specs.declared.refusal.Fault.{Fault}
 use Rattle.reg_crl.specs.Signing.{Identity, signed_by}
-use Rattle.reg_office_api.specs.Signatories.{Signs}
+use Rattle.reg_office_api.specs.Signers.{Signs}
 use Rattle.reg_der.specs.Issuers.{with_key_identifier}
 use Rattle.reg_store_tables.specs.Kept.{ShowsKept}
-use Rattle.reg_store_tables.specs.AfterStop.{AreARegisters, ShowsDerivedAfterStop}
+use Rattle.reg_store_tables.specs.AfterStop.{HaveRegisterSchema, ShowsDerivedAfterStop}
 use Rattle.reg_core_laws.specs.Run.{Happens, Run}
 use Rattle.reg_office.specs.Stands.{SoundFor, Stands, HasOutcome}
 
--- the rows show the records after the command, which was accepted over `records`; these are sound for the office's signer, and the derived tables
+-- the command was accepted over `records`, and the rows show the records after it, which are sound for the office's signer; the derived tables
 -- match them
 pub record IsDone (signs : Signs) (identity : Identity) (records : Records) (now : ℕ) (command : Command)
     (trees : Trees) : Type 0 where
@@ -53,7 +53,7 @@ abbrev pub IsNext : (Records → ℕ → Command → Type 0) → Records → Lis
 IsNext Done records [] = ⊥
 IsNext Done records (timed ∷ commands) = Done records timed.0 timed.1
 
--- What a stop leaves, after a prefix of the commands: `Rests` holds of the records after `done`, whose outcomes are `came`; or `Done` holds of
+-- After a stop in a run, a prefix of the commands is done: `Rests` holds of the records after `done`, whose outcomes are `came`; or `Done` holds of
 -- these records and the next command. The outcomes of the commands after `done` are refusals or faults.
 pub record PartlyRun (signs : Signs) (identity : Identity) (Rests : Records → Type 0)
     (Done : Records → ℕ → Command → Type 0)
@@ -124,6 +124,6 @@ pub record LeavesReported {C : Type 0} (g : Ghosts C) (signs : Signs) (held : He
     (records : Records) (interrupted : Option ChangingCall) : Type 0 where
   pub closed : HasCleanDisk (state g held) → IfSome interrupted (λ call. IsFalse (state g held).is_open)
   pub leaves : HasCleanDisk (state g held) → (trees : Trees) → (state g held).may_leave trees
-      → AreARegisters trees
+      → HaveRegisterSchema trees
       → ShowsDerivedAfterStop records trees
       ⊎ IsSomeAnd interrupted (λ call. IsCallDone signs identity records call trees)

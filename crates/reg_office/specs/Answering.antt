@@ -1,8 +1,8 @@
--- The responder to OCSP requests for an office.
+-- The signers of an office's CRLs and OCSP responses, and how many failures they have counted.
 use Rattle.std.specs.Prelude.{◌≡◌, ◌<◌, ℕ, Some, None, option_copied, option_map}
 use Rattle.reg_crl.specs.Signing.{Identity}
 use Rattle.reg_crl.specs.declared.signer.Signer.{Ghosts as Signer}
-use Rattle.reg_office_api.specs.Signatories.{Responder, Signatory}
+use Rattle.reg_office_api.specs.Signers.{Responder, OfficeSigners}
 use Rattle.reg_office.specs.declared.responder.ResponderFields.{ResponderFields}
 use Rattle.reg_office.specs.declared.responder.Responder.{Responder as Held}
 use Rattle.reg_office.specs.declared.responder.Responder.TheVariants.{Issuer, Delegate}
@@ -29,8 +29,8 @@ answers_by identity crls (Delegate signer certificate) = record {
 }
 
 -- the signers of an office
-abbrev pub signatory_of : {S : Type 0} → (S → Identity) → Identity → Held S → Signatory
-signatory_of identity crls responder = record { crls = crls; answers = answers_by identity crls responder }
+abbrev pub signers_of : {S : Type 0} → (S → Identity) → Identity → Held S → OfficeSigners
+signers_of identity crls responder = record { crls = crls; answers = answers_by identity crls responder }
 
 -- how many failures the responder has counted, given the count of the signer of CRLs
 abbrev pub failures_of : {S : Type 0} → (S → ℕ) → ℕ → Held S → ℕ
@@ -42,17 +42,17 @@ abbrev pub answering : {S : Type 0} → Signer S → S → Held S → Responder
 answering signer crls responder = answers_by signer.identity (signer.identity crls) responder
 
 -- the signers of an office have the same identities as before
-abbrev pub SameSignatory : {S : Type 0} → Signer S → S → Held S → S → Held S → Type 0
-SameSignatory signer old answered new answers =
-    signatory_of signer.identity (signer.identity new) answers
-    ≡ signatory_of signer.identity (signer.identity old) answered
+abbrev pub SameSigners : {S : Type 0} → Signer S → S → Held S → S → Held S → Type 0
+SameSigners signer old answered new answers =
+    signers_of signer.identity (signer.identity new) answers
+    ≡ signers_of signer.identity (signer.identity old) answered
 
 -- a signer counted a failure
 abbrev pub SignerHasFailed : {S : Type 0} → Signer S → S → S → Type 0
 SignerHasFailed signer old new = signer.failure_count old < signer.failure_count new
 
 -- the responder counted a failure
-abbrev pub AnswerFailed : {S : Type 0} → Signer S → S → Held S → S → Held S → Type 0
-AnswerFailed signer old answered new answers =
+abbrev pub ResponderHasFailed : {S : Type 0} → Signer S → S → Held S → S → Held S → Type 0
+ResponderHasFailed signer old answered new answers =
     failures_of signer.failure_count (signer.failure_count old) answered
     < failures_of signer.failure_count (signer.failure_count new) answers

@@ -9,9 +9,9 @@ use Rattle.reg_ocsp.specs.Response.{refusal_response}
 use Rattle.reg_ocsp.specs.declared.response.RefusalStatus.TheVariants as status
 use Rattle.reg_office_api.specs.CallSteps.{Signs}
 use Rattle.reg_office_api.specs.Drafts.{IsBy, IsDraft}
-use Rattle.reg_office_api.specs.Ocsp.{HasNoReading, IsOcspData, response_signed_by}
+use Rattle.reg_office_api.specs.Ocsp.{IsNoOcspRequest, IsOcspData, response_signed_by}
 use Rattle.reg_office_api.specs.Responses.{IsOcspResponse}
-use Rattle.reg_office_api.specs.Signatories.{Responder}
+use Rattle.reg_office_api.specs.Signers.{Responder}
 use Rattle.reg_office_api.specs.declared.response.OcspResponse.{OcspResponse}
 use Rattle.reg_office_api.specs.declared.response.ResponseKind.{ResponseKind}
 use Rattle.reg_office_api.specs.declared.response.ResponseKind.TheVariants.{Signed, SignerFailure}
@@ -30,9 +30,9 @@ IsBegun signs responder records now request (Unsigned draft) = IsDraft responder
 -- draft is made only if the bytes are a request.
 abbrev pub RefusesRequest : List ℕ → ReadyOrUnsigned OcspResponse Drafted → Type 0
 RefusesRequest request (Ready response) =
-    ((response.bytes.items ≡ refusal_response status.Malformed) ↔ HasNoReading request)
+    ((response.bytes.items ≡ refusal_response status.Malformed) ↔ IsNoOcspRequest request)
     × (response.kind ≡ SignerFailure → response.bytes.items ≡ refusal_response status.Internal)
-RefusesRequest request (Unsigned left) = ¬ (HasNoReading request)
+RefusesRequest request (Unsigned left) = ¬ (IsNoOcspRequest request)
 
 -- the bytes of the response of a draft: with a signature by the responder, or internalError
 abbrev pub IsSignedBy : Signs → Responder → Drafted → List ℕ → Type 0
@@ -45,7 +45,7 @@ IsSignedBy signs responder draft bytes =
 abbrev pub key_in : Records → Option (List ℕ) → List ℕ
 key_in records own = unwrap_or own records.issuer.key
 
--- the issuer, and now plus the life of an OCSP answer; or the clock checks refuse this moment; or memory or the store failed
+-- the issuer, and now plus the life of an OCSP answer; or the clock checks refuse this moment; or out of memory, or the store failed
 abbrev pub IsResponding : Records → ℕ → Result (Issuer × ℕ) ResponseFault → Type 0
 IsResponding records now (Ok it) =
     (first_refusal (clock_checks now records.last) ≡ None) × (it.0 ≡ records.issuer)
@@ -54,7 +54,7 @@ IsResponding records now (Err fault.Clock) = IsSome (first_refusal (clock_checks
 IsResponding records now (Err fault.Memory) = Unit {0}
 IsResponding records now (Err fault.Store) = Unit {0}
 
--- the ResponseData for a request that was read; or the clock checks refuse this moment; or memory or the store failed
+-- the ResponseData for a request that was read; or the clock checks refuse this moment; or out of memory, or the store failed
 abbrev pub IsMessage : {Z : Type 0} → List ℕ → Records → ℕ → List Id → Option (List ℕ)
     → Result (Vec ℕ Z) ResponseFault → Type 0
 IsMessage key records now ids echo (Ok bytes) =

@@ -4,7 +4,7 @@ use Rattle.sqlite.specs.Held.{Held, state}
 use Rattle.sqlite.specs.State.{HasCleanDisk}
 use Rattle.sqlite_trees.specs.declared.store.Store.{Ghosts}
 use Rattle.reg_office_api.specs.Leads.{Leads}
-use Rattle.reg_office_api.specs.Signatories.{Signatory}
+use Rattle.reg_office_api.specs.Signers.{OfficeSigners}
 use Rattle.reg_office_api.specs.CallSteps.{Signs}
 use Rattle.reg_core.specs.Records.{Records}
 use Rattle.reg_core.specs.declared.command.Command.{Command}
@@ -14,7 +14,7 @@ use Rattle.reg_core.specs.declared.refusal.Fault.TheVariants.{Refused}
 use Rattle.reg_crl.specs.declared.signer.Signer.{Ghosts as Signer}
 use Rattle.reg_store_tables.specs.Stays.{Looked}
 use Rattle.reg_office.specs.AfterStoppedCommand.{ChangingCall, LeavesReported}
-use Rattle.reg_office.specs.Answering.{failures_of, signatory_of}
+use Rattle.reg_office.specs.Answering.{failures_of, signers_of}
 use Rattle.reg_office.specs.Commands.{RunsCommand}
 use Rattle.reg_office.specs.Stands.{Stands}
 use Rattle.reg_office.specs.declared.office.Office.{Office}
@@ -22,30 +22,30 @@ use Rattle.reg_office.specs.declared.office.Office.{Office}
 -- the office has these signers, and its store shows the records, which are sound for the signer of CRLs; a stop leaves these records, or those
 -- after the interrupted call
 abbrev pub StandsWith
-    : {C : Type 0} → Ghosts C → Signs → Held C × Signatory → Signatory → Records → Option ChangingCall → Type 0
-StandsWith g signs office signatory records interrupted =
-    (office.1 ≡ signatory) × Stands g signs office.0 signatory.crls records
-    × LeavesReported g signs office.0 signatory.crls records interrupted
+    : {C : Type 0} → Ghosts C → Signs → Held C × OfficeSigners → OfficeSigners → Records → Option ChangingCall → Type 0
+StandsWith g signs office signers records interrupted =
+    (office.1 ≡ signers) × Stands g signs office.0 signers.crls records
+    × LeavesReported g signs office.0 signers.crls records interrupted
 
 -- the same, whichever call was interrupted, or none
-abbrev pub StandsFor : {C : Type 0} → Ghosts C → Signs → Held C × Signatory → Signatory → Records → Type 0
-StandsFor g signs office signatory records =
-    (interrupted : Option ChangingCall) × StandsWith g signs office signatory records interrupted
+abbrev pub StandsFor : {C : Type 0} → Ghosts C → Signs → Held C × OfficeSigners → OfficeSigners → Records → Type 0
+StandsFor g signs office signers records =
+    (interrupted : Option ChangingCall) × StandsWith g signs office signers records interrupted
 
 -- a call of an office, given by its store and its signers before and after, is this step of the records
-abbrev pub LeadsOver : {C : Type 0} → Ghosts C → Signs → (Signatory → Records → Records → Type 0)
-    → Held C × Signatory → Held C × Signatory → Type 0
+abbrev pub LeadsOver : {C : Type 0} → Ghosts C → Signs → (OfficeSigners → Records → Records → Type 0)
+    → Held C × OfficeSigners → Held C × OfficeSigners → Type 0
 LeadsOver {C = C} g signs step =
-    Leads (λ (office : Held C × Signatory). HasCleanDisk (state g office.0))
-    (λ signatory office records. StandsFor g signs office signatory records) step
+    Leads (λ (office : Held C × OfficeSigners). HasCleanDisk (state g office.0))
+    (λ signers office records. StandsFor g signs office signers records) step
 
 -- an office in the form that these relations take: its store, and the identities of its signers
-abbrev pub seen : {C S : Type 0} → Signer S → Office C S → Held C × Signatory
+abbrev pub seen : {C S : Type 0} → Signer S → Office C S → Held C × OfficeSigners
 seen signer office =
-    (office.store, signatory_of signer.identity (signer.identity office.signer) office.responder)
+    (office.store, signers_of signer.identity (signer.identity office.signer) office.responder)
 
 -- a call of an office is this step of its records
-abbrev pub OfficeLeads : {C S : Type 0} → Ghosts C → Signer S → (Signatory → Records → Records → Type 0)
+abbrev pub OfficeLeads : {C S : Type 0} → Ghosts C → Signer S → (OfficeSigners → Records → Records → Type 0)
     → Office C S → Office C S → Type 0
 OfficeLeads g signer step old new = LeadsOver g signer.signs step (seen signer old) (seen signer new)
 
@@ -53,10 +53,10 @@ OfficeLeads g signer step old new = LeadsOver g signer.signs step (seen signer o
 abbrev pub OfficeTells
     : {C S : Type 0} → Ghosts C → Signer S → (Records → Type 0) → Office C S → Office C S → Type 0
 OfficeTells g signer Tells old new =
-    OfficeLeads g signer (λ signatory before after. Tells before × (after ≡ before)) old new
+    OfficeLeads g signer (λ signers before after. Tells before × (after ≡ before)) old new
 
--- `first` is the interrupted call before a call `it` with this result, `last` the one after it. If there is a first one, `it` fails, and the first
--- one stays. Else there is none after a success or a refusal, and none or `it` after a fault.
+-- A call `it` has this result. `first` is the interrupted call before `it`, and `last` the one after `it`. If `first` is a call, `it` fails, and
+-- `last` is `first`. If `first` is none, `last` is none after a success or a refusal, and none or `it` after a fault.
 abbrev pub MayInterrupt
     : {T : Type 0} → Option ChangingCall → ChangingCall → Result T Fault → Option ChangingCall → Type 0
 MayInterrupt (Some first) it result last = IsErr result × (last ≡ Some first)
@@ -68,18 +68,18 @@ MayInterrupt None it (Err fault) last = (last ≡ None) ⊎ (last ≡ Some it)
 -- records after it, or those after the interrupted call.
 abbrev pub StopsOver
     : {C T : Type 0} → Ghosts C → Signs → ChangingCall → Result T Fault
-    → (Signatory → Records → Records → Type 0) → Held C × Signatory → Held C × Signatory → Type 0
+    → (OfficeSigners → Records → Records → Type 0) → Held C × OfficeSigners → Held C × OfficeSigners → Type 0
 StopsOver g signs it result step old new =
     (HasCleanDisk (state g new.0) → HasCleanDisk (state g old.0))
-    × ((signatory : Signatory) (before : Records) (first : Option ChangingCall)
-    → StandsWith g signs old signatory before first → HasCleanDisk (state g new.0)
-    → (after : Records) × (last : Option ChangingCall) × step signatory before after
-    × StandsWith g signs new signatory after last × MayInterrupt first it result last)
+    × ((signers : OfficeSigners) (before : Records) (first : Option ChangingCall)
+    → StandsWith g signs old signers before first → HasCleanDisk (state g new.0)
+    → (after : Records) × (last : Option ChangingCall) × step signers before after
+    × StandsWith g signs new signers after last × MayInterrupt first it result last)
 
 -- `StopsOver`, of an office
 abbrev pub OfficeStops
     : {C S T : Type 0} → Ghosts C → Signer S → ChangingCall → Result T Fault
-    → (Signatory → Records → Records → Type 0) → Office C S → Office C S → Type 0
+    → (OfficeSigners → Records → Records → Type 0) → Office C S → Office C S → Type 0
 OfficeStops g signer it result step old new =
     StopsOver g signer.signs it result step (seen signer old) (seen signer new)
 

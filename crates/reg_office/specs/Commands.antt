@@ -11,7 +11,7 @@ use Rattle.reg_core.specs.declared.refusal.Fault.{Fault}
 use Rattle.reg_core.specs.declared.refusal.Fault.TheVariants.{Signer as SignerFailed}
 use Rattle.reg_crl.specs.Signing.{Identity}
 use Rattle.reg_crl.specs.declared.signer.Signer.{Ghosts as Signer}
-use Rattle.reg_office_api.specs.Signatories.{Signs}
+use Rattle.reg_office_api.specs.Signers.{Signs}
 use Rattle.reg_store_tables.specs.Stays.{Changed}
 use Rattle.reg_office.specs.AfterStoppedCommand.{Does}
 use Rattle.reg_office.specs.Faults.{IsOfficeFault}

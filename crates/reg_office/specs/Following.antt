@@ -10,7 +10,7 @@ use Rattle.reg_core.specs.declared.refusal.Fault.{Fault}
 use Rattle.reg_core.specs.Crls.{CertList}
 use Rattle.reg_crl.specs.Signing.{Identity, signed_since, sha1_algorithm, signed_by}
 use Rattle.reg_crl.specs.declared.signer.Signer.{Ghosts as Signer}
-use Rattle.reg_office_api.specs.Signatories.{Signs}
+use Rattle.reg_office_api.specs.Signers.{Signs}
 use Rattle.reg_core_laws.specs.Run.{Run}
 use Rattle.reg_office.specs.Stands.{SoundFor, Stands}
 
@@ -34,7 +34,7 @@ RunsSince signs identity =
 -- this signer makes the placeholder digest: its AlgorithmIdentifier is that of SHA-1, and each signature is the SHA-1 of its message
 pub record IsDigestSigner (signs : Signs) (identity : Identity) : Type 0 where
   pub algorithm : identity.algorithm ≡ sha1_algorithm
-  pub seals : (message signature : List ℕ) → signs identity message signature → signature ≡ sha1 message
+  pub signature_is_sha1 : (message signature : List ℕ) → signs identity message signature → signature ≡ sha1 message
 
 -- records that are sound for the placeholder digest are sound for any next signer: all CRLs so far have the digest
 abbrev pub FollowsDigest : {C : Type 0} → Ghosts C → Signs → Type 0

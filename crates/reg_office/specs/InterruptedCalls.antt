@@ -1,4 +1,4 @@
--- The calls that an office gets one after another, and the call that a stop interrupted.
+-- The calls that an office gets one after another, and the call that was interrupted (`LeavesReported`), if any.
 use Rattle.std.specs.Prelude.{◌≡◌, ◌⊎◌, ℕ, List, [], ◌∷◌, Option, None, Some, IfSome, IsTrue, Result, IsErr}
 use Rattle.std.specs.List.{AllByRecursion}
 use Rattle.sqlite.specs.Held.{Held, state}
@@ -10,7 +10,7 @@ use Rattle.reg_core.specs.declared.command.Reply.{Reply}
 use Rattle.reg_core.specs.declared.refusal.Fault.{Fault}
 use Rattle.reg_office_api.specs.CallSteps.{CommandStep, Signs}
 use Rattle.reg_office_api.specs.Settings.{ReplacesSchedule, SetsKeyIdentifier}
-use Rattle.reg_office_api.specs.Signatories.{Signatory}
+use Rattle.reg_office_api.specs.Signers.{OfficeSigners}
 use Rattle.reg_store_tables.specs.Stays.{Looked}
 use Rattle.reg_office.specs.AfterStoppedCommand.{ChangingCall, command_call, identifier_call, schedule_call}
 use Rattle.reg_office.specs.Calls.{StandsWith, StopsOver}
@@ -23,34 +23,34 @@ pub data OfficeCall : Type 0 where
   looked_up : OfficeCall
 
 -- the call as a step of the records
-abbrev pub CallStep : Signs → OfficeCall → Signatory → Records → Records → Type 0
+abbrev pub CallStep : Signs → OfficeCall → OfficeSigners → Records → Records → Type 0
 CallStep signs (command_ran now command outcome) = CommandStep signs now command outcome
-CallStep signs (schedule_set steps result) = λ signatory. ReplacesSchedule steps result
-CallStep signs (identifier_set octets result) = λ signatory. SetsKeyIdentifier octets result
-CallStep signs looked_up = λ signatory before after. after ≡ before
+CallStep signs (schedule_set steps result) = λ signers. ReplacesSchedule steps result
+CallStep signs (identifier_set octets result) = λ signers. SetsKeyIdentifier octets result
+CallStep signs looked_up = λ signers before after. after ≡ before
 
 -- the clauses of the call, over the office before and after it (its store, and its signers)
-abbrev pub IsCall : {C : Type 0} → Ghosts C → Signs → Held C × Signatory → OfficeCall → Held C × Signatory → Type 0
+abbrev pub IsCall : {C : Type 0} → Ghosts C → Signs → Held C × OfficeSigners → OfficeCall → Held C × OfficeSigners → Type 0
 IsCall g signs old (command_ran now command outcome) new =
     StopsOver g signs (command_call now command) outcome (CommandStep signs now command outcome) old new
 IsCall g signs old (schedule_set steps result) new =
-    StopsOver g signs (schedule_call steps) result (λ signatory. ReplacesSchedule steps result) old new
+    StopsOver g signs (schedule_call steps) result (λ signers. ReplacesSchedule steps result) old new
 IsCall g signs old (identifier_set octets result) new =
-    StopsOver g signs (identifier_call octets) result (λ signatory. SetsKeyIdentifier octets result) old new
+    StopsOver g signs (identifier_call octets) result (λ signers. SetsKeyIdentifier octets result) old new
 IsCall g signs old looked_up new = Looked g old.0 new.0 × (new.1 ≡ old.1)
 
 -- calls one after another
 abbrev pub AreCalls
-    : {C : Type 0} → Ghosts C → Signs → Held C × Signatory → List OfficeCall → Held C × Signatory → Type 0
+    : {C : Type 0} → Ghosts C → Signs → Held C × OfficeSigners → List OfficeCall → Held C × OfficeSigners → Type 0
 AreCalls g signs first [] last = last ≡ first
 AreCalls {C = C} g signs first (call ∷ calls) last =
-    (next : Held C × Signatory) × IsCall g signs first call next × AreCalls g signs next calls last
+    (next : Held C × OfficeSigners) × IsCall g signs first call next × AreCalls g signs next calls last
 
 -- calls one after another, as steps of the records
-abbrev pub AreCallSteps : Signs → Signatory → Records → List OfficeCall → Records → Type 0
-AreCallSteps signs signatory before [] after = after ≡ before
-AreCallSteps signs signatory before (call ∷ calls) after =
-    (middle : Records) × CallStep signs call signatory before middle × AreCallSteps signs signatory middle calls after
+abbrev pub AreCallSteps : Signs → OfficeSigners → Records → List OfficeCall → Records → Type 0
+AreCallSteps signs signers before [] after = after ≡ before
+AreCallSteps signs signers before (call ∷ calls) after =
+    (middle : Records) × CallStep signs call signers before middle × AreCallSteps signs signers middle calls after
 
 -- the call, if it may change the records
 abbrev pub changing : OfficeCall → Option ChangingCall
@@ -76,21 +76,21 @@ FailsFrom it (call ∷ calls) =
 -- these; or, if the call failed, those that it would have led to.
 abbrev pub InterruptsOnlyItself : {C : Type 0} → Ghosts C → Signs → Type 0
 InterruptsOnlyItself {C = C} g signs =
-    (old new : Held C × Signatory) (signatory : Signatory) (before : Records) (first : Option ChangingCall)
+    (old new : Held C × OfficeSigners) (signers : OfficeSigners) (before : Records) (first : Option ChangingCall)
     (call : OfficeCall)
-    → StandsWith g signs old signatory before first → IsTrue (state g old.0).is_open
+    → StandsWith g signs old signers before first → IsTrue (state g old.0).is_open
     → IsCall g signs old call new → HasCleanDisk (state g new.0)
-    → (after : Records) × (last : Option ChangingCall) × CallStep signs call signatory before after
-    × StandsWith g signs new signatory after last
+    → (after : Records) × (last : Option ChangingCall) × CallStep signs call signers before after
+    × StandsWith g signs new signers after last
     × IfSome last (λ it. (changing call ≡ Some it) × HasNotChanged call)
 
 -- An office gets these calls, before which none was interrupted; the machine may stop in the last of them, or after it. The calls lead to the
 -- records `after`. A stop leaves these, or those after the interrupted call, which is one of the calls: it failed, and so did each later one.
 abbrev pub InterruptsOneOfThem : {C : Type 0} → Ghosts C → Signs → Type 0
 InterruptsOneOfThem {C = C} g signs =
-    (first last : Held C × Signatory) (signatory : Signatory) (before : Records) (calls : List OfficeCall)
-    → StandsWith g signs first signatory before None → AreCalls g signs first calls last
+    (first last : Held C × OfficeSigners) (signers : OfficeSigners) (before : Records) (calls : List OfficeCall)
+    → StandsWith g signs first signers before None → AreCalls g signs first calls last
     → HasCleanDisk (state g last.0)
-    → (after : Records) × (interrupted : Option ChangingCall) × AreCallSteps signs signatory before calls after
-    × StandsWith g signs last signatory after interrupted
+    → (after : Records) × (interrupted : Option ChangingCall) × AreCallSteps signs signers before calls after
+    × StandsWith g signs last signers after interrupted
     × IfSome interrupted (λ it. FailsFrom it calls)

@@ -34,7 +34,7 @@ pub record LooksAndDecides {C T : Type 0} (g : Ghosts C) (old new : Held C)
   pub looks : LooksUp g old new (λ records. IsDecidedOr (refused records) (IsDecision records) result)
   pub faults : IfErr result IsTableFault
 
--- no refusal applies to the command, this is its reply, and this is the one change that it makes of the records, which fits them
+-- no refusal applies to the command; this is its reply, and the one change that it makes to the records; `Fits` holds of the change
 pub record IsAcceptance (now : ℕ) (command : Command) (records : Records)
     (decided : Reply × Change) : Type 0 where
   pub accepted : refusal records now command ≡ None

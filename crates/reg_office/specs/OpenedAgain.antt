@@ -9,7 +9,7 @@ use Rattle.reg_core.specs.declared.command.Command.{Command}
 use Rattle.reg_core.specs.declared.command.Reply.{Reply}
 use Rattle.reg_core.specs.declared.refusal.Fault.{Fault}
 use Rattle.reg_crl.specs.Signing.{Identity}
-use Rattle.reg_office_api.specs.Signatories.{Signs}
+use Rattle.reg_office_api.specs.Signers.{Signs}
 use Rattle.reg_der.specs.Issuers.{with_key_identifier}
 use Rattle.reg_store.specs.OpenedAgain.{IsOpenedAgain}
 use Rattle.reg_store_tables.specs.Kept.{ShowsKept}
@@ -24,7 +24,7 @@ pub record ShowsAccepted {C : Type 0} (g : Ghosts C) (signs : Signs) (held : Hel
   pub came : HasOutcome g signs held identity records now command (Ok answer)
 
 -- if the machine stops after a command, or in the middle of it, and the register is opened again, it shows the records before the command, or
--- those after its acceptance, with derived tables that match them; the disk may lose what was not synced
+-- those after its acceptance, with derived tables that match them; the disk may lose writes that were not synced
 abbrev pub OpensBeforeOrAfter : {C : Type 0} → Ghosts C → Signs → Type 0
 OpensBeforeOrAfter {C = C} g signs =
     (old new again : Held C) (identity : Identity) (records : Records) (now : ℕ) (command : Command)
@@ -42,7 +42,7 @@ StandsPartlyRun g signs held identity records commands outcomes =
     records commands outcomes
 
 -- if the machine stops after such a run, or in the middle of it, and the register is opened again, it shows the records after a prefix of the
--- commands, which includes each command that was reported as accepted; the disk may lose what was not synced
+-- commands, which includes each command that was reported as accepted; the disk may lose writes that were not synced
 abbrev pub OpensAfterAPrefix : {C : Type 0} → Ghosts C → Signs → Type 0
 OpensAfterAPrefix {C = C} g signs =
     (old new again : Held C) (identity : Identity) (records : Records) (commands : List (ℕ × Command))

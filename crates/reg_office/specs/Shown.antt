@@ -1,7 +1,7 @@
 -- A revoked certificate is shown as revoked everywhere, and nothing else is.
 --
--- A register shows in three ways whether a certificate is revoked: by the status of its serial number, by answers to
--- OCSP requests (RFC 6960), and by the CRLs that it issues (RFC 5280 5). This file says what each shows after any run of
+-- This file is about three ways in which a register shows whether a certificate is revoked: the status of its serial
+-- number, answers to OCSP requests (RFC 6960), and CRLs (RFC 5280 5). It says what each shows after any run of
 -- commands. The same holds in the middle of a run: the commands that ran so far are a run themselves.
 use Rattle.std.specs.Prelude.{◌≡◌, ◌⊎◌, ℕ, Bool, ◌+◌, ◌<◌, ◌≤◌, nat_lt, List, [], ◌∷◌, ◌++◌, find, ◌==◌, Option, Some, None, Result, Ok, Err, MatchBool, IsFalse, IsSome, IsSomeAnd}
 use Rattle.std.specs.List.{AllByRecursion, AllZip}
@@ -28,9 +28,9 @@ use Rattle.reg_ocsp.specs.Matching.{IsMatch}
 use Rattle.reg_ocsp.specs.Request.{Id, IsOcspRequest}
 use Rattle.reg_ocsp.specs.Response.{refusal_response}
 use Rattle.reg_ocsp.specs.declared.response.RefusalStatus.TheVariants.{Malformed, Internal}
-use Rattle.reg_office_api.specs.Ocsp.{HasNoReading, IsOcspReply, IsResponse}
+use Rattle.reg_office_api.specs.Ocsp.{IsNoOcspRequest, IsOcspReply, IsResponse}
 use Rattle.reg_office_api.specs.Answered.{IsAnswered}
-use Rattle.reg_office_api.specs.Signatories.{Responder, Signs}
+use Rattle.reg_office_api.specs.Signers.{Responder, Signs}
 use Rattle.reg_office.specs.Stands.{SoundFor}
 
 -- A RUN, AND THE REVOCATIONS THAT IT ACCEPTED
@@ -91,7 +91,7 @@ pub record ResponseHasStatuses (signs : Signs) (responder : Responder) (records 
 abbrev pub AnswersStatuses : Signs → Responder → Records → ℕ → ℕ → (Status → Type 0)
     → List ℕ → List ℕ → Type 0
 AnswersStatuses signs responder records moment serial IsSo asked reply =
-    (HasNoReading asked × (reply ≡ refusal_response Malformed))
+    (IsNoOcspRequest asked × (reply ≡ refusal_response Malformed))
     ⊎ (reply ≡ refusal_response Internal)
     ⊎ ResponseHasStatuses signs responder records moment serial IsSo asked reply
 

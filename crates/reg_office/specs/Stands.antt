@@ -10,7 +10,7 @@ use Rattle.reg_core.specs.declared.command.Command.{Command}
 use Rattle.reg_core.specs.declared.command.Reply.{Reply}
 use Rattle.reg_core.specs.declared.refusal.Fault.{Fault}
 use Rattle.reg_crl.specs.Signing.{Identity, signed_since, signed_by}
-use Rattle.reg_office_api.specs.Signatories.{Signs}
+use Rattle.reg_office_api.specs.Signers.{Signs}
 use Rattle.reg_store_tables.specs.Kept.{ShowsKept}
 use Rattle.reg_core_laws.specs.Run.{Happens, Run}
 

@@ -89,6 +89,7 @@ fn next_row<C: Alter>(tables: &mut Tables<C>, now: Moment) -> Result<(CrlRow, Mo
     Ok((row, next_update))
 }
 
+/// The issuer, and the entries of the CRL with a number.
 fn listed<C: Alter>(
     tables: &mut Tables<C>,
     number: u64,

@@ -35,7 +35,7 @@ pub(crate) fn head_at<C: Alter>(
     })
 }
 
-/// The same for `decline` and `revoke`, which add no row to a table with a cap. These decisions use only the moments, so the policy and the row
+/// The input for `decline` and `revoke`, which add no row to a table with a cap. These decisions use only the moments, so the policy and the row
 /// count are placeholders: neither is read from the tables.
 pub(crate) fn clock_head<C: Alter>(
     tables: &mut Tables<C>,

@@ -1,4 +1,4 @@
-//! The response to an OCSP request: its ResponseData is read from the register, and signed here or, later, by the caller.
+//! The response to an OCSP request: its ResponseData is made from the register's tables, and signed here, or later at the caller's request.
 
 ghost use Rattle.std.specs.Prelude.{◌≡◌, ◌^◌, ◌≤◌, ◌↔◌, None, length, IfOk, IfSome, option_copied, unwrap_or};
 ghost use Rattle.reg_ocsp.specs.Request.{CanBeAnswered};
@@ -6,7 +6,7 @@ ghost use Rattle.reg_ocsp.specs.Response.{refusal_response};
 ghost use Rattle.reg_ocsp.specs.Views.{ids_model};
 ghost use Rattle.reg_ocsp.specs.declared.response.RefusalStatus.TheVariants as refused;
 ghost use Rattle.reg_office_api.specs.Drafts.{IsSignerFailure};
-ghost use Rattle.reg_office.specs.Answering.{AnswerFailed, SameSignatory, SignerHasFailed, answering, failures_of, responder_named};
+ghost use Rattle.reg_office.specs.Answering.{ResponderHasFailed, SameSigners, SignerHasFailed, answering, failures_of, responder_named};
 ghost use Rattle.reg_office.specs.Beginning.{IsBegun, IsMessage, IsReady, IsResponding, IsResponseOver, IsSignedBy, RefusesRequest, key_in};
 ghost use Rattle.reg_store_tables.specs.LookUps.{Learns, LooksUp};
 
@@ -26,7 +26,7 @@ use reg_store::Tables;
 use sqlite::Alter;
 use std::alloc::Global;
 
-/// The response (RFC 6960 4.2.1) to the bytes of a request at a moment; or, if the response needs a signature and its signer has a key, a draft
+/// The response (RFC 6960 4.2.1) to the bytes of a request at a moment; or, if it needs a signature and its signer has a public key, a draft
 /// without the signature. No table changes. [`Memory`] if out of memory.
 pub(crate) fn begin_ocsp<C: Alter, S: Signer>(
     alloc: Global,
@@ -39,9 +39,9 @@ pub(crate) fn begin_ocsp<C: Alter, S: Signer>(
     ensures looks { Learns C.Store tables.old tables.new result (λ records.
         IsBegun S.signs (answering S.Signer signer.old responder.old) records now request.now) }
     ensures refuses { IfOk result (RefusesRequest request.now) }
-    ensures same { SameSignatory S.Signer signer.old responder.old signer.new responder.new }
+    ensures same { SameSigners S.Signer signer.old responder.old signer.new responder.new }
     ensures counts { IfOk result (λ begun.
-        IsSignerFailure begun ↔ AnswerFailed S.Signer signer.old responder.old signer.new responder.new) }
+        IsSignerFailure begun ↔ ResponderHasFailed S.Signer signer.old responder.old signer.new responder.new) }
     ensures never_falls { failures_of S.failure_count (S.failure_count signer.old) responder.old
         ≤ failures_of S.failure_count (S.failure_count signer.new) responder.new }
 {
@@ -64,8 +64,8 @@ pub(crate) fn sign_draft<S: Signer>(
 ) -> Result<Vec<u8>, Memory>
     ensures signed { IfOk result (λ bytes.
         IsSignedBy S.signs (answering S.Signer signer.old responder.old) draft.now bytes.items) }
-    ensures same { SameSignatory S.Signer signer.old responder.old signer.new responder.new }
-    ensures failed { AnswerFailed S.Signer signer.old responder.old signer.new responder.new
+    ensures same { SameSigners S.Signer signer.old responder.old signer.new responder.new }
+    ensures failed { ResponderHasFailed S.Signer signer.old responder.old signer.new responder.new
         → IfOk result (λ bytes. bytes.items ≡ refusal_response refused.Internal) }
 {
     let signature = match responder {

@@ -9,7 +9,7 @@ use crate::identifiers::set_key_identifier;
 use crate::ocsp_answer::{begin_ocsp, sign_draft};
 use crate::pages::page;
 use crate::queries::answer;
-use crate::register_state::{longest_in, open_count_in, request_load_in, standing_in};
+use crate::register_state::{longest_in, open_count_in, request_load_in, summary_in};
 use crate::responder::{Responder, failures_in};
 use reg_core::{Command, Fault, Label, Memory, Moment, Outcome, Query, Refusal, Schedule, Serial};
 use reg_core_lists::{Cursor, Page};
@@ -81,7 +81,7 @@ impl<C: Alter, S: Signer> reg_office_api::Office for Office<C, S> {
     ghost use Rattle.reg_core.specs.Records.{Records};
     ghost use Rattle.reg_core.specs.declared.refusal.Fault.TheVariants.{Refused, Signer as SignerFailed};
     ghost use Rattle.reg_core.specs.declared.refusal.Refusal.TheVariants.{ClockEnd};
-    ghost use Rattle.reg_core_lists.specs.Pages.{IsPagedSoundly};
+    ghost use Rattle.reg_core_lists.specs.Pages.{IsPageOfSoundRows};
     ghost use Rattle.reg_ocsp.specs.Response.{refusal_response};
     ghost use Rattle.reg_ocsp.specs.declared.response.RefusalStatus.TheVariants.{Malformed, Internal};
     ghost use Rattle.reg_office_api.specs.Answered.{IsAnswered, IsGiven};
@@ -89,7 +89,7 @@ impl<C: Alter, S: Signer> reg_office_api::Office for Office<C, S> {
     ghost use Rattle.reg_office_api.specs.Drafts.{BeginStep, IsSignerFailure};
     ghost use Rattle.reg_office_api.specs.Items.{items_of};
     ghost use Rattle.reg_office_api.specs.LookUps.{HasLongest, HasOpen, HasRequestLoad, HasSummary, IsOfStore, PageStep};
-    ghost use Rattle.reg_office_api.specs.Ocsp.{HasNoReading, IsOcspReply};
+    ghost use Rattle.reg_office_api.specs.Ocsp.{IsNoOcspRequest, IsOcspReply};
     ghost use Rattle.reg_office_api.specs.Settings.{SetsKeyIdentifier, ReplacesSchedule};
     ghost use Rattle.reg_store_changes.specs.AfterStoppedChange.{IsScheduled};
     ghost use Rattle.reg_der.specs.Issuers.{with_key_identifier};
@@ -102,7 +102,7 @@ impl<C: Alter, S: Signer> reg_office_api::Office for Office<C, S> {
 
     ghost is_clean = { λ office. HasCleanDisk (state C.Store office.store) };
 
-    ghost stands = { λ signatory office records. StandsFor C.Store S.signs (seen S.Signer office) signatory records };
+    ghost stands = { λ signers office records. StandsFor C.Store S.signs (seen S.Signer office) signers records };
 
     ghost signs = { S.signs };
 
@@ -155,13 +155,13 @@ impl<C: Alter, S: Signer> reg_office_api::Office for Office<C, S> {
         Err(Fault::Refused(Refusal::ClockEnd))
     }
 
-    /// The OCSPResponse (RFC 6960 4.2.1): malformedRequest exactly if the bytes are no request; else internalError if the store or the
-    /// signer fails, tryLater if the clock checks refuse the moment, or a signed response. [`Memory`] if out of memory.
+    /// The OCSPResponse (RFC 6960 4.2.1): malformedRequest exactly if `IsOcspRequest` does not accept the bytes; else internalError if the store
+    /// or the signer fails, tryLater if the clock checks refuse the moment, or a signed response. [`Memory`] if out of memory.
     fn ocsp(&mut self, alloc: Global, now: Moment, request: &[u8]) -> Result<Vec<u8>, Memory>
         ensures answers { OfficeLeads C.Store S.Signer
             (OcspStep S.signs now request.now (items_of result)) self.old self.new }
         ensures malformed { IfOk result (λ answer.
-            (answer.items ≡ refusal_response Malformed) ↔ HasNoReading request.now) }
+            (answer.items ≡ refusal_response Malformed) ↔ IsNoOcspRequest request.now) }
         ensures looks { OfficeLooks C.Store S.Signer (λ records. IfOk result (λ answer.
             IsOcspReply S.signs (seen S.Signer self.old).1.answers records now request.now answer.items))
             self.old self.new }
@@ -217,7 +217,7 @@ impl<C: Alter, S: Signer> reg_office_api::Office for Office<C, S> {
     }
 
     fn crl_message(&mut self, alloc: Global, now: Moment) -> Option<Vec<u8>>
-        ensures stays { OfficeLeads C.Store S.Signer (λ signatory before after. after ≡ before)
+        ensures stays { OfficeLeads C.Store S.Signer (λ signers before after. after ≡ before)
             self.old self.new }
         ensures looks { OfficeLooks C.Store S.Signer (λ records. Unit {0}) self.old self.new }
         ensures untouched { SignsNothing self.old self.new }
@@ -235,7 +235,7 @@ impl<C: Alter, S: Signer> reg_office_api::Office for Office<C, S> {
         ensures pages { OfficeLeads C.Store S.Signer
             (PageStep now most from result) self.old self.new }
         ensures looks { OfficeLooks C.Store S.Signer
-            (λ records. IsPagedSoundly records now most from result) self.old self.new }
+            (λ records. IsPageOfSoundRows records now most from result) self.old self.new }
         ensures untouched { SignsNothing self.old self.new }
         ensures faults { IfErr result IsTableFault }
     {
@@ -247,7 +247,7 @@ impl<C: Alter, S: Signer> reg_office_api::Office for Office<C, S> {
         ensures looked { OfficeLooks C.Store S.Signer (λ records. HasSummary records result) self.old self.new }
         ensures faults { IfErr result IsOfStore }
     {
-        standing_in(&mut self.store)
+        summary_in(&mut self.store)
     }
 
     fn open_count(&mut self, now: Moment) -> Result<u64, Fault>
@@ -279,10 +279,10 @@ impl<C: Alter, S: Signer> reg_office_api::Office for Office<C, S> {
     }
 
     fn set_schedule(&mut self, alloc: Global, schedule: Schedule) -> Result<(), Fault>
-        ensures sets { OfficeLeads C.Store S.Signer (λ signatory. ReplacesSchedule schedule result)
+        ensures sets { OfficeLeads C.Store S.Signer (λ signers. ReplacesSchedule schedule result)
             self.old self.new }
         ensures stops { OfficeStops C.Store S.Signer (schedule_call schedule) result
-            (λ signatory. ReplacesSchedule schedule result) self.old self.new }
+            (λ signers. ReplacesSchedule schedule result) self.old self.new }
         ensures faults { IfErr result IsOfStore }
         ensures ok { (records : Records) → StandsIn C.Store S.Signer self.old records
             → OnOk result (StandsIn C.Store S.Signer self.new (with_schedule records schedule)) }
@@ -300,10 +300,10 @@ impl<C: Alter, S: Signer> reg_office_api::Office for Office<C, S> {
     }
 
     fn set_key_identifier(&mut self, alloc: Global, octets: Label) -> Result<(), Fault>
-        ensures sets { OfficeLeads C.Store S.Signer (λ signatory. SetsKeyIdentifier octets result)
+        ensures sets { OfficeLeads C.Store S.Signer (λ signers. SetsKeyIdentifier octets result)
             self.old self.new }
         ensures stops { OfficeStops C.Store S.Signer (identifier_call octets) result
-            (λ signatory. SetsKeyIdentifier octets result) self.old self.new }
+            (λ signers. SetsKeyIdentifier octets result) self.old self.new }
         ensures faults { IfErr result IsOfStore }
         ensures ok { (records : Records) → StandsIn C.Store S.Signer self.old records
             → HasCleanDisk (state C.Store self.new.store)

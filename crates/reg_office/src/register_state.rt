@@ -11,7 +11,7 @@ use sqlite::Alter;
 
 /// The summary of the register that the tables show.
 #[tactic(auto, using(crate::proofs::Composing::answer_of_fault))]
-pub(crate) fn standing_in<C: Alter>(tables: &mut Tables<C>) -> Result<RegisterSummary, Fault>
+pub(crate) fn summary_in<C: Alter>(tables: &mut Tables<C>) -> Result<RegisterSummary, Fault>
     ensures looks { LooksUp C.Store tables.old tables.new (λ records. HasSummary records result) }
     ensures faults { IfErr result IsOfStore }
 {

@@ -23,7 +23,7 @@ pub(crate) struct Case {
     revocation: Option<RevocationRow>,
 }
 
-/// Decides the command `request`. `word` is the ground.
+/// Decides the command `request`. `word` names the ground.
 pub(crate) fn enter_request<C: Alter>(
     tables: &mut Tables<C>,
     now: Moment,

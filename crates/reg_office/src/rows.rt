@@ -14,12 +14,12 @@ use reg_core::{
     status_of,
 };
 use reg_core_lists::{
-    ListedCertificate, ListedOrder, ListedRequest, ListedRevocation, RequestHistory, Row,
+    ListedCertificate, ListedOrder, ListedRequest, ListedRevocation, RequestWithState, Row,
 };
 use reg_store::{DatabaseFault, Tables};
 use sqlite::Alter;
 
-// ---- records to which other records refer: a register has them all, so a missing one is the fault `Store`
+// ---- records to which other records refer, or whose ids a page reads: a register has them all, so a missing one is the fault `Store`
 
 pub(crate) fn subscriber_at<C: Alter>(
     tables: &mut Tables<C>,
@@ -88,7 +88,7 @@ fn listing_of<C: Alter>(
     }
 }
 
-fn certificate_line_from(
+fn listed_certificate_from(
     now: Moment,
     certificate: &CertRow,
     revocation: Option<RevocationRow>,
@@ -122,7 +122,7 @@ fn listed_certificate<C: Alter>(
     let revocation = tables.revocation(certificate.serial)?;
     let subscriber = subscriber_of(tables, certificate.order)?;
     let listing = listing_of(tables, certificate.serial, &revocation)?;
-    Ok(certificate_line_from(now, &certificate, revocation, subscriber, listing))
+    Ok(listed_certificate_from(now, &certificate, revocation, subscriber, listing))
 }
 
 /// The row of a certificate in the list of all.
@@ -300,7 +300,7 @@ pub(crate) fn history_row<C: Alter>(
     let line = listed_request(tables, &request, &certificate)?;
     let status = status_of(now, Some(certificate), revocation);
     let lateness = lateness_of(now, &request, &line.certificate, &status)?;
-    Ok(Some(Row::History(RequestHistory {
+    Ok(Some(Row::History(RequestWithState {
         request: line,
         status,
         lateness,

@@ -18,8 +18,8 @@ use sqlite::Alter;
 use std::alloc::Global;
 
 impl<C: Alter, S: Signer> Office<C, S> {
-    /// Runs commands in their order, each at its moment, and goes on after refusals and faults. One outcome for each is
-    /// appended. If there is no memory for them, it fails with `Memory` before any command runs.
+    /// Runs commands in their order, each at its moment, and goes on after refusals and faults. One outcome for each command is
+    /// appended to `outcomes`. [`Memory`] if out of memory for the outcomes: then no command ran.
     pub fn run(
         &mut self,
         alloc: Global,

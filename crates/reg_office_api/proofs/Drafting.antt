@@ -8,7 +8,7 @@ use Rattle.reg_ocsp.specs.Response.{ocsp_response}
 use Rattle.reg_office_api.specs.Drafts.{IsBy, IsDraft}
 use Rattle.reg_office_api.specs.Ocsp.{IsResponse}
 use Rattle.reg_office_api.specs.Responses.{IsOcspResponse}
-use Rattle.reg_office_api.specs.Signatories.{Responder}
+use Rattle.reg_office_api.specs.Signers.{Responder}
 use Rattle.reg_office_api.specs.declared.response.ResponseKind.TheVariants.{Signed, SignerFailure}
 
 -- the response that a signature makes of what was left is the one of who answers

@@ -10,22 +10,22 @@ use Rattle.reg_crl.specs.Signing.{signed_by}
 use Rattle.reg_core_laws.specs.Run.{Happens}
 use Rattle.reg_office_api.specs.Answered.{IsAnswered, IsGiven}
 use Rattle.reg_office_api.specs.Ocsp.{IsOcspReply}
-use Rattle.reg_office_api.specs.Signatories.{Signatory}
-pub use Rattle.reg_office_api.specs.Signatories.{Signs}
+use Rattle.reg_office_api.specs.Signers.{OfficeSigners}
+pub use Rattle.reg_office_api.specs.Signers.{Signs}
 
 -- a command: its outcome by the rules (`Happens`), with CRLs by the office's signer of CRLs
-abbrev pub Runs : Signs → Signatory → Records → ℕ → Command → Result Reply Fault → Records → Type 0
-Runs signs signatory = Happens (signed_by signs signatory.crls)
+abbrev pub Runs : Signs → OfficeSigners → Records → ℕ → Command → Result Reply Fault → Records → Type 0
+Runs signs signers = Happens (signed_by signs signers.crls)
 
 -- a query: its answer; the records stay
 abbrev pub Asks : Records → ℕ → Query → Result Reply Fault → Records → Type 0
 Asks before now query outcome after = IsAnswered before now query outcome × (after ≡ before)
 
 -- an OCSP request: its response (RFC 6960 4.2), or out of memory; the records stay
-abbrev pub AnswersOcsp : Signs → Signatory → Records → ℕ → List ℕ → Result (List ℕ) NoMemory → Records → Type 0
-AnswersOcsp signs signatory before now request (Ok response) after =
-    IsOcspReply signs signatory.answers before now request response × (after ≡ before)
-AnswersOcsp signs signatory before now request (Err memory) after = after ≡ before
+abbrev pub AnswersOcsp : Signs → OfficeSigners → Records → ℕ → List ℕ → Result (List ℕ) NoMemory → Records → Type 0
+AnswersOcsp signs signers before now request (Ok response) after =
+    IsOcspReply signs signers.answers before now request response × (after ≡ before)
+AnswersOcsp signs signers before now request (Err memory) after = after ≡ before
 
 -- the bytes of a CRL, or why there are none; the records stay
 abbrev pub GivesCrl : Records → Option ℕ → Result (List ℕ) Fault → Records → Type 0
@@ -33,16 +33,16 @@ GivesCrl before number given after = IsGiven before number given × (after ≡ b
 
 -- ---- the same calls, each as a step from the records before it to those after it, given the signers
 
-abbrev pub CommandStep : Signs → ℕ → Command → Result Reply Fault → Signatory → Records → Records → Type 0
+abbrev pub CommandStep : Signs → ℕ → Command → Result Reply Fault → OfficeSigners → Records → Records → Type 0
 CommandStep signs now command outcome =
-    λ signatory before after. Runs signs signatory before now command outcome after
+    λ signers before after. Runs signs signers before now command outcome after
 
-abbrev pub QueryStep : ℕ → Query → Result Reply Fault → Signatory → Records → Records → Type 0
-QueryStep now query outcome = λ signatory before after. Asks before now query outcome after
+abbrev pub QueryStep : ℕ → Query → Result Reply Fault → OfficeSigners → Records → Records → Type 0
+QueryStep now query outcome = λ signers before after. Asks before now query outcome after
 
-abbrev pub OcspStep : Signs → ℕ → List ℕ → Result (List ℕ) NoMemory → Signatory → Records → Records → Type 0
+abbrev pub OcspStep : Signs → ℕ → List ℕ → Result (List ℕ) NoMemory → OfficeSigners → Records → Records → Type 0
 OcspStep signs now request given =
-    λ signatory before after. AnswersOcsp signs signatory before now request given after
+    λ signers before after. AnswersOcsp signs signers before now request given after
 
-abbrev pub CrlStep : Option ℕ → Result (List ℕ) Fault → Signatory → Records → Records → Type 0
-CrlStep number given = λ signatory before after. GivesCrl before number given after
+abbrev pub CrlStep : Option ℕ → Result (List ℕ) Fault → OfficeSigners → Records → Records → Type 0
+CrlStep number given = λ signers before after. GivesCrl before number given after

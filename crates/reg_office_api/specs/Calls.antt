@@ -11,13 +11,13 @@ use Rattle.reg_office_api.specs.CallSteps.{CommandStep, QueryStep, OcspStep, Crl
 use Rattle.reg_office_api.specs.Drafts.{Drafts}
 use Rattle.reg_office_api.specs.Leads.{Leads, Looks}
 use Rattle.reg_office_api.specs.Responses.{Replies}
-use Rattle.reg_office_api.specs.Signatories.{Signatory}
+use Rattle.reg_office_api.specs.Signers.{OfficeSigners}
 use Rattle.reg_office_api.specs.declared.office.Office.{Ghosts as Office}
 use Rattle.reg_office_api.specs.declared.response.ResponseKind.{ResponseKind}
 
 module _ {O : Type 0} (office : Office O) where
   -- a call as a step of the records that the office keeps
-  abbrev pub LeadsIn : (Signatory → Records → Records → Type 0) → O → O → Type 0
+  abbrev pub LeadsIn : (OfficeSigners → Records → Records → Type 0) → O → O → Type 0
   LeadsIn step s t = Leads office.is_clean office.stands step s t
 
   -- a call that does not change the records, and for whose result `Tells` holds of them
@@ -26,7 +26,7 @@ module _ {O : Type 0} (office : Office O) where
 
   -- a call that does not change the records
   abbrev pub KeepsIn : O → O → Type 0
-  KeepsIn s t = Leads office.is_clean office.stands (λ signatory before after. after ≡ before) s t
+  KeepsIn s t = Leads office.is_clean office.stands (λ signers before after. after ≡ before) s t
 
   -- a command
   abbrev pub RunsIn : O → ℕ → Command → Result Reply Fault → O → Type 0
@@ -46,13 +46,13 @@ module _ {O : Type 0} (office : Office O) where
   abbrev pub RepliesIn : O → ℕ → List ℕ → Result (ResponseKind × List ℕ) NoMemory → O → Type 0
   RepliesIn s now request given t =
       Leads office.is_clean office.stands
-      (λ signatory before after. Replies office.signs signatory before now request given after) s t
+      (λ signers before after. Replies office.signs signers before now request given after) s t
 
   -- an OCSP request, with a draft of its response that is not signed yet
   abbrev pub DraftsIn : O → ℕ → List ℕ → Drafted → O → Type 0
   DraftsIn s now request draft t =
       Leads office.is_clean office.stands
-      (λ signatory before after. Drafts signatory before now request draft after) s t
+      (λ signers before after. Drafts signers before now request draft after) s t
 
   -- the bytes of a CRL
   abbrev pub GivesCrlIn : O → Option ℕ → Result (List ℕ) Fault → O → Type 0

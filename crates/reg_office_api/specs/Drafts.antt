@@ -7,7 +7,7 @@ use Rattle.reg_ocsp.specs.Drafts.{Drafted}
 use Rattle.reg_ocsp.specs.Request.{Id, IsOcspRequest}
 use Rattle.reg_office_api.specs.Ocsp.{IsOcspData}
 use Rattle.reg_office_api.specs.Responses.{Replies}
-use Rattle.reg_office_api.specs.Signatories.{Responder, Signatory, Signs, responder_key}
+use Rattle.reg_office_api.specs.Signers.{Responder, OfficeSigners, Signs, responder_key}
 use Rattle.reg_office_api.specs.declared.response.OcspResponse.{OcspResponse}
 use Rattle.reg_office_api.specs.declared.response.ResponseKind.{ResponseKind}
 use Rattle.reg_office_api.specs.declared.response.ResponseKind.TheVariants.{SignerFailure}
@@ -36,9 +36,9 @@ pub record IsDraft (responder : Responder) (records : Records) (now : ℕ) (requ
   pub read : IsReadDraft responder records now ids nonce draft
 
 -- the draft for a request, by the office's responder; the records don't change
-abbrev pub Drafts : Signatory → Records → ℕ → List ℕ → Drafted → Records → Type 0
-Drafts signatory before now request draft after =
-    IsDraft signatory.answers before now request draft × (after ≡ before)
+abbrev pub Drafts : OfficeSigners → Records → ℕ → List ℕ → Drafted → Records → Type 0
+Drafts signers before now request draft after =
+    IsDraft signers.answers before now request draft × (after ≡ before)
 
 -- the outcome of `begin_ocsp`: `replies` holds of a ready response and of out of memory, `drafts` of a draft
 abbrev pub Begins : {S : Type 0} → (S → ℕ → List ℕ → Result (ResponseKind × List ℕ) NoMemory → S → Type 0)
@@ -50,11 +50,11 @@ Begins replies drafts s now request (Ok (Unsigned draft)) t = drafts s now reque
 Begins replies drafts s now request (Err memory) t = replies s now request (Err memory) t
 
 -- the outcome of `begin_ocsp` as a step of the records, given the signers
-abbrev pub BeginStep : Signs → ℕ → List ℕ → Result (ReadyOrUnsigned OcspResponse Drafted) NoMemory → Signatory
+abbrev pub BeginStep : Signs → ℕ → List ℕ → Result (ReadyOrUnsigned OcspResponse Drafted) NoMemory → OfficeSigners
     → Records → Records → Type 0
 BeginStep signs now request begun =
-    λ signatory before after.
-    Begins (Replies signs signatory) (Drafts signatory) before now request begun after
+    λ signers before after.
+    Begins (Replies signs signers) (Drafts signers) before now request begun after
 
 -- the response is internalError because the signer failed
 abbrev pub IsSignerFailure : {U : Type 0} → ReadyOrUnsigned OcspResponse U → Type 0

@@ -8,4 +8,4 @@ pub mod LookUps
 pub mod Ocsp
 pub mod Responses
 pub mod Settings
-pub mod Signatories
+pub mod Signers

@@ -9,7 +9,7 @@ use Rattle.reg_core.specs.declared.refusal.Fault.TheVariants.{Memory, Store}
 use Rattle.reg_core_lists.specs.Pages.{Pages}
 use Rattle.reg_core_lists.specs.declared.cursor.Cursor.{Cursor}
 use Rattle.reg_core_lists.specs.declared.rows.Page.{Page}
-use Rattle.reg_office_api.specs.Signatories.{Signatory}
+use Rattle.reg_office_api.specs.Signers.{OfficeSigners}
 use Rattle.reg_office_api.specs.declared.register_summary.RequestLoad.{RequestLoad}
 use Rattle.reg_office_api.specs.declared.register_summary.Rows.{Rows}
 use Rattle.reg_office_api.specs.declared.register_summary.RegisterSummary.{RegisterSummary}
@@ -30,7 +30,7 @@ rows_in records = record {
   crls = length records.crls;
 }
 
--- the last accepted moment, the latest CRL without its bytes, the life of CRLs, the cap of each table, and how many rows the tables have
+-- the last accepted moment, the latest CRL without its bytes, the life of CRLs, the cap, and how many rows each table with a cap has
 abbrev pub IsRegisterSummary : Records → RegisterSummary → Type 0
 IsRegisterSummary records summary =
     (summary.last ≡ records.last) × (summary.latest ≡ option_map row_of (latest records.crls))
@@ -74,5 +74,5 @@ HasLongest records order not_before result =
     IfOk result (λ days. days ≡ longest_allowed records order not_before)
 
 -- the result for a page of a list over sound records, as a step that does not change the records
-abbrev pub PageStep : ℕ → ℕ → Cursor → Result Page Fault → Signatory → Records → Records → Type 0
-PageStep now most from given = λ signatory before after. Pages before now most from given after
+abbrev pub PageStep : ℕ → ℕ → Cursor → Result Page Fault → OfficeSigners → Records → Records → Type 0
+PageStep now most from given = λ signers before after. Pages before now most from given after

@@ -11,11 +11,11 @@ use Rattle.reg_ocsp.specs.Matching.{IsMatch}
 use Rattle.reg_ocsp.specs.Request.{Id, IsOcspRequest}
 use Rattle.reg_ocsp.specs.Response.{SingleAnswer, ocsp_response, refusal_response, response_data}
 use Rattle.reg_ocsp.specs.declared.response.RefusalStatus.TheVariants.{Malformed, Internal, TryLater}
-use Rattle.reg_office_api.specs.Signatories.{Responder, Signs, responder_key}
+use Rattle.reg_office_api.specs.Signers.{Responder, Signs, responder_key}
 
 -- the bytes are no OCSP request that `IsOcspRequest` accepts (RFC 6960 4.1.1)
-abbrev pub HasNoReading : List ℕ → Type 0
-HasNoReading bytes = (ids : List Id) (nonce : Option (List ℕ)) → ¬ (IsOcspRequest bytes ids nonce)
+abbrev pub IsNoOcspRequest : List ℕ → Type 0
+IsNoOcspRequest bytes = (ids : List Id) (nonce : Option (List ℕ)) → ¬ (IsOcspRequest bytes ids nonce)
 
 -- the status for a CertID: that of the serial number, if the CertID identifies a certificate of the issuer; else unknown (RFC 6960 2.2)
 abbrev pub IsStatusFor : Records → ℕ → Id → Status → Type 0
@@ -68,7 +68,7 @@ IsReadReply signs responder records now ids nonce bytes =
 -- the response to any bytes: malformedRequest if they are no request, else the response to the request
 abbrev pub IsOcspReply : Signs → Responder → Records → ℕ → List ℕ → List ℕ → Type 0
 IsOcspReply signs responder records now request bytes =
-    (HasNoReading request × (bytes ≡ refusal_response Malformed))
+    (IsNoOcspRequest request × (bytes ≡ refusal_response Malformed))
     ⊎ ((ids : List Id)
     × (nonce : Option (List ℕ))
     × IsOcspRequest request ids nonce

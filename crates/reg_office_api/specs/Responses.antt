@@ -10,8 +10,8 @@ use Rattle.reg_ocsp.specs.Request.{Id, IsOcspRequest}
 use Rattle.reg_ocsp.specs.Response.{refusal_response}
 use Rattle.reg_ocsp.specs.declared.response.RefusalStatus.TheVariants as status
 use Rattle.reg_office_api.specs.CallSteps.{Signs}
-use Rattle.reg_office_api.specs.Ocsp.{HasNoReading, IsResponse}
-use Rattle.reg_office_api.specs.Signatories.{Responder, Signatory}
+use Rattle.reg_office_api.specs.Ocsp.{IsNoOcspRequest, IsResponse}
+use Rattle.reg_office_api.specs.Signers.{Responder, OfficeSigners}
 use Rattle.reg_office_api.specs.declared.effects.SignatureOutcome.{SignatureOutcome}
 use Rattle.reg_office_api.specs.declared.effects.SignatureOutcome.TheVariants as signature
 use Rattle.reg_office_api.specs.declared.effects.StoreEffect.{StoreEffect}
@@ -19,7 +19,7 @@ use Rattle.reg_office_api.specs.declared.effects.StoreEffect.TheVariants as stor
 use Rattle.reg_office_api.specs.declared.response.ResponseKind.{ResponseKind}
 use Rattle.reg_office_api.specs.declared.response.ResponseKind.TheVariants.{Signed, Malformed, TryLater, StoreFailure, SignerFailure}
 
--- a response of this kind to a request that was read: signed, if the clock checks pass; tryLater, if they refuse; else internalError
+-- a response of this kind to a request that was read: signed, if the clock checks pass; tryLater, if they refuse; or internalError
 abbrev pub IsReadResponse : Signs → Responder → Records → ℕ → List Id → Option (List ℕ)
     → ResponseKind → List ℕ → Type 0
 IsReadResponse signs responder records now ids echo Signed bytes =
@@ -37,18 +37,18 @@ IsReadResponse signs responder records now ids echo SignerFailure bytes =
 -- a response of this kind to any bytes: malformedRequest if they are no request, else the response to the request
 abbrev pub IsOcspResponse : Signs → Responder → Records → ℕ → List ℕ → ResponseKind → List ℕ → Type 0
 IsOcspResponse signs responder records now request kind bytes =
-    (HasNoReading request × (kind ≡ Malformed) × (bytes ≡ refusal_response status.Malformed))
+    (IsNoOcspRequest request × (kind ≡ Malformed) × (bytes ≡ refusal_response status.Malformed))
     ⊎ ((ids : List Id)
     × (nonce : Option (List ℕ))
     × IsOcspRequest request ids nonce
     × IsReadResponse signs responder records now ids nonce kind bytes)
 
 -- the response to a request, with its kind; or out of memory; the records stay
-abbrev pub Replies : Signs → Signatory → Records → ℕ → List ℕ
+abbrev pub Replies : Signs → OfficeSigners → Records → ℕ → List ℕ
     → Result (ResponseKind × List ℕ) NoMemory → Records → Type 0
-Replies signs signatory before now request (Ok response) after =
-    IsOcspResponse signs signatory.answers before now request response.0 response.1 × (after ≡ before)
-Replies signs signatory before now request (Err memory) after = after ≡ before
+Replies signs signers before now request (Ok response) after =
+    IsOcspResponse signs signers.answers before now request response.0 response.1 × (after ≡ before)
+Replies signs signers before now request (Err memory) after = after ≡ before
 
 -- whether a signature was requested, and whether the signer made it
 abbrev pub signature_of : ResponseKind → SignatureOutcome

@@ -10,7 +10,7 @@ use reg_core::Fault;
 pub enum SignatureOutcome {
     NotRequested,
     Made,
-    /// The signer failed, gave no answer in time, or was not asked during its back-off.
+    /// The signer failed, gave no answer in time, or was not asked during its back-off; or there is no signer.
     Failed,
 }
 
@@ -35,7 +35,7 @@ impl StoreEffect {
     }
 }
 
-/// The kind of the reply to a line.
+/// The kind of the reply to a line. `Refused`: a refusal, or a word such as `bad-clock`.
 #[derive(Clone, Copy, PartialEq, Eq)]
 pub enum LineReply {
     Accepted,

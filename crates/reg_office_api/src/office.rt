@@ -8,8 +8,8 @@ use reg_io::ReadyOrUnsigned;
 use reg_ocsp::Draft;
 use std::alloc::Global;
 
-/// An office that keeps the records of a register, and its signers. A clause of each call relates the records before it to those
-/// after it, provided that the disk has returned what was written to it ([`Leads`](crate::specs::Leads)).
+/// An office that keeps the records of a register, and its signers. A clause of each call but `failure_counts` relates the records before the
+/// call to those after it, provided that the disk has returned what was written to it ([`Leads`](crate::specs::Leads)).
 pub trait Office {
     ghost use Rattle.std.specs.Prelude.{◌≡◌, ◌≤◌, ◌<◌, ◌↔◌, ◌^◌, ℕ, List, IfErr, IfOk, IsErrOf};
     ghost use Rattle.reg_office_api.specs.CallSteps.{CommandStep, QueryStep, OcspStep, CrlStep};
@@ -18,7 +18,7 @@ pub trait Office {
     ghost use Rattle.reg_office_api.specs.Leads.{Leads, Looks};
     ghost use Rattle.reg_office_api.specs.LookUps.{HasRequestLoad, HasLongest, HasOpen, HasSummary, IsOfStore, PageStep};
     ghost use Rattle.reg_office_api.specs.Settings.{SetsKeyIdentifier, ReplacesSchedule};
-    ghost use Rattle.reg_office_api.specs.Signatories.{Signatory};
+    ghost use Rattle.reg_office_api.specs.Signers.{OfficeSigners};
     ghost use Rattle.reg_core.specs.Records.{Records};
     ghost use Rattle.reg_core.specs.declared.refusal.Fault.TheVariants.{Signer};
     ghost use Rattle.reg_crl.specs.Signing.{Identity};
@@ -27,15 +27,15 @@ pub trait Office {
     ghost is_clean: { Self → Type 0 };
 
     /// Whether the office has these signers and keeps these records.
-    ghost stands: { Signatory → Self → Records → Type 0 };
+    ghost stands: { OfficeSigners → Self → Records → Type 0 };
 
     /// `signs identity message signature`: the signer with this identity gave the signature for the message.
     ghost signs: { Identity → List ℕ → List ℕ → Type 0 };
 
-    /// How many failures the signer of its CRLs has counted.
+    /// How many failures the signer of the office's CRLs has counted.
     ghost failures: { Self → ℕ };
 
-    /// How many failures the signer of its OCSP answers has counted.
+    /// How many failures the signer of the office's OCSP answers has counted.
     ghost answer_failures: { Self → ℕ };
 
     /// Runs a command at its moment. Errors, after which the office keeps its records: the first refusal that applies; `Memory`; `Store`;
@@ -50,13 +50,13 @@ pub trait Office {
         ensures unsigned { ¬ (IsErrOf result Signer) };
 
     /// The whole OCSPResponse (RFC 6960 4.2.1) to the bytes of a request at a moment: signed, or malformedRequest, internalError or tryLater
-    /// (RFC 6960 2.3). [`Memory`] if out of memory.
+    /// (RFC 6960 2.3), each when [`ResponseKind`](crate::ResponseKind) says. [`Memory`] if out of memory.
     fn ocsp(&mut self, alloc: Global, now: Moment, request: &[u8]) -> Result<Vec<u8>, Memory>
         ensures { Leads is_clean stands (OcspStep signs now request.now (items_of result))
             self.old self.new };
 
-    /// Begins the response of [`Office::ocsp`]: if the signer of OCSP answers has a key, the response is left unsigned, and the caller requests its
-    /// signature. A response with the placeholder digest is ready, and so is one without responseBytes. [`Memory`] if out of memory.
+    /// Begins the response of [`Office::ocsp`]: if the signer of OCSP answers has a public key, a response to sign is a draft, and the caller
+    /// requests its signature. A response with the placeholder digest is ready, and so is one without responseBytes. [`Memory`] if out of memory.
     fn begin_ocsp(
         &mut self,
         alloc: Global,
@@ -73,16 +73,15 @@ pub trait Office {
         ensures { Leads is_clean stands (CrlStep number (items_of result)) self.old self.new };
 
     /// The DER of the TBSCertList (RFC 5280 5.1.2) of the CRL that would be issued at a moment. `None` if none would be issued then, if the signer
-    /// of CRLs has no key (as with the placeholder digest), or if memory or the store fails. Nothing is signed.
+    /// of CRLs has no public key (as with the placeholder digest), if out of memory, or if the store fails. Nothing is signed.
     fn crl_message(&mut self, alloc: Global, now: Moment) -> Option<Vec<u8>>
-        ensures { Leads is_clean stands (λ signatory before after. after ≡ before) self.old self.new };
+        ensures { Leads is_clean stands (λ signers before after. after ≡ before) self.old self.new };
 
     /// A page of a list from a cursor on, at a moment, over at most `most` rows of its table. Errors: `ClockEnd`, `ClockBack`; `Memory`, `Store`.
     fn page(&mut self, alloc: Global, now: Moment, from: Cursor, most: u64) -> Result<Page, Fault>
         ensures { Leads is_clean stands (PageStep now most from result) self.old self.new };
 
-    /// The register's summary: the last accepted moment, the latest CRL, the life of CRLs, the cap, and how many rows the tables have.
-    /// Errors: `Memory`, `Store`.
+    /// The register's summary. Errors: `Memory`, `Store`.
     fn summary(&mut self) -> Result<RegisterSummary, Fault>
         ensures looks { Looks is_clean stands (λ records. HasSummary records result) self.old self.new }
         ensures faults { IfErr result IsOfStore };
@@ -92,8 +91,8 @@ pub trait Office {
         ensures looks { Looks is_clean stands (λ records. HasOpen records now result) self.old self.new }
         ensures faults { IfErr result IsOfStore };
 
-    /// How full the requests table is, and how many requests for a serial number are open at a moment, counted up to `most`.
-    /// The call may go through all requests. Errors: `Memory`, `Store`.
+    /// The last accepted moment, how full the requests table is, and how many requests for a serial number are open at a moment, counted up
+    /// to `most`. The call may go through all requests. Errors: `Memory`, `Store`.
     fn request_load(&mut self, now: Moment, serial: Serial, most: u64) -> Result<RequestLoad, Fault>
         requires { most < 2 ^ 63 }
         ensures looks { Looks is_clean stands (λ records. HasRequestLoad records now serial most result)
@@ -106,17 +105,17 @@ pub trait Office {
         ensures looks { Looks is_clean stands
             (λ records. HasLongest records order not_before result) self.old self.new };
 
-    /// Sets the schedule of longest validities, which is no command: nothing else changes, and at an error nothing does.
-    /// Errors: `Memory`, `Store`.
+    /// Sets the schedule of the longest validities, in days by notBefore. This is no command: nothing else changes, and at an error
+    /// nothing does. Errors: `Memory`, `Store`.
     fn set_schedule(&mut self, alloc: Global, schedule: Schedule) -> Result<(), Fault>
-        ensures sets { Leads is_clean stands (λ signatory. ReplacesSchedule schedule result)
+        ensures sets { Leads is_clean stands (λ signers. ReplacesSchedule schedule result)
             self.old self.new }
         ensures faults { IfErr result IsOfStore };
 
     /// Sets a key identifier of the issuer's own, which its CRLs have from the next one on (RFC 5280 5.2.1). This is no command:
     /// nothing else changes, and at an error nothing does. Errors: `Memory`, `Store`.
     fn set_key_identifier(&mut self, alloc: Global, octets: Label) -> Result<(), Fault>
-        ensures sets { Leads is_clean stands (λ signatory. SetsKeyIdentifier octets result)
+        ensures sets { Leads is_clean stands (λ signers. SetsKeyIdentifier octets result)
             self.old self.new }
         ensures faults { IfErr result IsOfStore };
 

@@ -11,7 +11,7 @@ pub struct RegisterSummary {
     pub latest: Option<CrlRow>,
     /// The seconds from thisUpdate to nextUpdate of a CRL.
     pub crl_life: u64,
-    /// How many rows each table may have.
+    /// The most rows of each table that [`Rows`] counts.
     pub cap: u64,
     pub rows: Rows,
 }
@@ -31,7 +31,7 @@ pub struct Rows {
 pub struct RequestLoad {
     /// The last accepted moment.
     pub last: Moment,
-    /// How many rows each table may have.
+    /// The most rows of the requests table.
     pub cap: u64,
     /// How many requests the table has, open or not.
     pub requests: u64,

@@ -8,11 +8,11 @@ use crate::effects::{SignatureOutcome, StoreEffect};
 /// The kind of an OCSP response (OCSPResponseStatus, RFC 6960 4.2.1). The two causes of internalError are kept apart.
 #[derive(Clone, Copy, PartialEq, Eq)]
 pub enum ResponseKind {
-    /// successful: signed, or with the placeholder digest.
+    /// successful: signed, or, in a register without a key, with the placeholder digest.
     Signed,
-    /// malformedRequest: the bytes are no request.
+    /// malformedRequest: the bytes are no OCSP request that `IsOcspRequest` accepts (RFC 6960 4.1.1).
     Malformed,
-    /// tryLater: the clock checks refuse the moment.
+    /// tryLater: the moment is before the last accepted one, or not before `CLOCK_END`.
     TryLater,
     /// internalError: the store failed.
     StoreFailure,
@@ -20,7 +20,7 @@ pub enum ResponseKind {
     SignerFailure,
 }
 
-/// An OCSP response.
+/// An OCSP response: the DER of its OCSPResponse (RFC 6960 4.2.1), and its kind.
 #[derive(Drop)]
 pub struct OcspResponse {
     pub bytes: Vec<u8>,

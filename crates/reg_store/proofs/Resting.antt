@@ -10,7 +10,7 @@ use Rattle.reg_core.specs.Records.{Records}
 use Rattle.reg_store_tables.specs.Kept.{ShowsKept}
 use Rattle.reg_store_tables.specs.Shows.{IsShownBy, Shows}
 use Rattle.reg_store_tables.proofs.PublicLaws.{kept_shows, resting, rests_sound}
-use Rattle.reg_store_tables.specs.AfterStop.{AreARegisters, ShowsDerivedAfterStop}
+use Rattle.reg_store_tables.specs.AfterStop.{HaveRegisterSchema, ShowsDerivedAfterStop}
 use Rattle.reg_store_migration.specs.Older.{version_number}
 use Rattle.reg_store_migration.specs.declared.version.OlderVersion.{OlderVersion}
 use Rattle.reg_store_migration.specs.declared.version.OlderVersion.TheVariants.{First, Second}
@@ -24,14 +24,14 @@ IsUntouched g old trees = trees ≡ (state g old).committed.trees
 
 -- what is committed of shown records obeys a register's schema
 pub at_rest_sound : {S : Type 0} (g : Ghosts S) (held : Held S) (records : Records) (trees : Trees) → HasCleanDisk (state g held) → IsTrue (state g held).is_open → Shows g held records → IsLive (state g held) → IsUntouched g held trees
-    → AreARegisters trees
+    → HaveRegisterSchema trees
 at_rest_sound g held records trees clean up shows live is =
     let db = (state g held).now in
     let same : trees ≡ db.trees = is ∙ ap (λ (d : Database). d.trees) (sym (shows.saved clean up)) in
     rests_sound db trees same (shows.tables clean up).schema (live up).0
 
 -- and are rows of the records
-pub at_rest : {S : Type 0} (g : Ghosts S) (held : Held S) (records : Records) (trees : Trees) → HasCleanDisk (state g held) → IsTrue (state g held).is_open → ShowsKept g held records → AreARegisters trees → IsUntouched g held trees
+pub at_rest : {S : Type 0} (g : Ghosts S) (held : Held S) (records : Records) (trees : Trees) → HasCleanDisk (state g held) → IsTrue (state g held).is_open → ShowsKept g held records → HaveRegisterSchema trees → IsUntouched g held trees
     → ShowsDerivedAfterStop records trees
 at_rest g held records trees clean up kept sound is =
     let db = (state g held).now in

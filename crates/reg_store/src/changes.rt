@@ -12,15 +12,15 @@ use reg_store_tables::DatabaseFault;
 use sqlite::Alter;
 
 impl<S: Alter> Store<S> {
-    /// Makes a change at a moment, in one transaction. Errors, here and of the methods up to [`Store::add_crl`]: those of
-    /// [`reg_store_changes::apply`].
+    /// Makes a change at a moment, which becomes the last accepted one, in one transaction. Errors, here and of the methods up to
+    /// [`Store::add_crl`]: those of [`reg_store_changes::apply`].
     pub fn apply(&mut self, now: Moment, change: &Change<'_>) -> Result<(), DatabaseFault>
         ensures { MakesChange S.Store self.old self.new now change.now result }
     {
         reg_store_changes::apply(&mut self.tables.connection, now, change)
     }
 
-    /// Sets only the last accepted moment.
+    /// Sets the last accepted moment; no other record changes. As in each change, the derived tables then match the records at this moment.
     pub fn touch(&mut self, now: Moment) -> Result<(), DatabaseFault>
         ensures { MakesChange S.Store self.old self.new now Touch result }
     {
@@ -55,7 +55,7 @@ impl<S: Alter> Store<S> {
         self.apply(now, &Change::Request(row))
     }
 
-    /// Declines the request with an id.
+    /// Declines the request with an id. If there is none, the call succeeds, and no request changes.
     pub fn decline(&mut self, now: Moment, id: u64) -> Result<(), DatabaseFault>
         ensures { MakesChange S.Store self.old self.new now (Decline id) result }
     {
@@ -74,14 +74,14 @@ impl<S: Alter> Store<S> {
         self.apply(now, &Change::Revocation(row, not_after))
     }
 
-    /// Adds a CRL, with its bytes, and records it as the last CRL of each revocation without one whose notAfter is before this thisUpdate.
+    /// Adds a CRL, with its DER, and records it as the last CRL of each revocation without one whose certificate's notAfter is before its thisUpdate.
     pub fn add_crl(&mut self, now: Moment, row: CrlRow, der: &[u8]) -> Result<(), DatabaseFault>
         ensures { MakesChange S.Store self.old self.new now (Crl row der.entry) result }
     {
         self.apply(now, &Change::Crl(row, der))
     }
 
-    /// Sets the schedule of longest validities. This is no command: nothing else changes. Errors: those of [`reg_store_changes::set_schedule`].
+    /// Sets the schedule of longest validities, not the last accepted moment. Errors: those of [`reg_store_changes::set_schedule`].
     pub fn set_schedule(&mut self, schedule: Schedule) -> Result<(), DatabaseFault>
         ensures { SetsSchedule S.Store self.old self.new schedule result }
     {
@@ -89,7 +89,7 @@ impl<S: Alter> Store<S> {
     }
 
     /// Sets the issuer's Name and the key identifiers that were set for it. The issuer must have the same key as before; this is not checked.
-    /// This is no command: nothing else changes. Errors: those of [`reg_store_changes::set_issuer`].
+    /// Nothing else changes, not even the last accepted moment. Errors: those of [`reg_store_changes::set_issuer`].
     pub fn set_issuer(&mut self, issuer: &Issuer) -> Result<(), DatabaseFault>
         ensures { SetsIssuer S.Store self.old self.new issuer.now result }
     {

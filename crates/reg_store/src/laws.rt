@@ -1,13 +1,13 @@
 //! Laws. Each function here does nothing: its contract is the law, which `rt check` proves.
+//!
+//! In the laws, `IsOpenedAgain` is the clause `again` of `restart` in the crate `reg_store_restart`, over any disk that may lose unsynced
+//! writes. `IsLive` is the clause `live` of `Connection::schema` in the crate `sqlite`.
 
 ghost use Rattle.reg_store.specs.OpenedAgain.{OpensEmptyOrMade, OpensWithAnIssuer, OpensWithASchedule, OpensWithTheSame};
 
 use sqlite::Alter;
 
 /// A stop during `create` leaves the database as it was, or with a whole register that has no records.
-///
-/// In all laws here, `IsOpenedAgain` is the clause `again` of `restart` in the crate `reg_store_restart`, over any disk that may lose unsynced
-/// writes. `IsLive` is the clause `live` of `Connection::schema` in the crate `sqlite`.
 pub fn a_register_opened_after_a_stop_during_create_is_none_or_an_empty_one<S: Alter>()
     ensures { OpensEmptyOrMade S.Store }
 {}

@@ -23,7 +23,7 @@ use Rattle.reg_core.specs.declared.rows.CertRow.{CertRow}
 use Rattle.reg_core.specs.declared.rows.RevocationRow.{RevocationRow}
 use Rattle.reg_store_tables.specs.DerivedRows.{good, revoked, expired, is_good_letter, ends_before, Standing, Listed, DerivedRows, letter_counts, turned, with_counts}
 use Rattle.reg_store_tables.specs.Kept.{letter_of, standing_of, not_after_of, listed_of, Kept}
-use Rattle.reg_store_changes.specs.DerivedEffects.{lettered, with_expired, ended_by, is_good_at, good_at, with_revoked_letter, has_passed, with_last_listing, with_good, with_last_listings, shifted}
+use Rattle.reg_store_changes.specs.DerivedEffects.{lettered, with_expired, count_ended_before, is_good_at, good_at, with_revoked_letter, has_passed, with_last_listing, with_good, with_last_listings, shifted}
 use Rattle.reg_store_changes.specs.ChangeEffects.{derived_after}
 use Rattle.reg_store_tables.proofs.PublicLaws.{map_same, found_each, counts_stand}
 use Rattle.reg_store_changes.proofs.Letters.{counts_swept, counts_good, counts_revoked, ended_enough}
@@ -73,13 +73,13 @@ module _ (records : Records) (columns : DerivedRows) (now : ℕ) (sound : SoundR
   counted : columns.counts ≡ letter_counts columns.letters
   counted = kept.counts ∙ sym (counts_stand records (found_each records sound) columns.letters kept.letters)
 
-  moved : shifted columns.counts (ended_by now columns) 0 0 ≡ letter_counts (with_expired now columns).letters
-  moved = ap (λ base. shifted base (ended_by now columns) 0 0) counted ∙ counts_swept now columns.letters
+  moved : shifted columns.counts (count_ended_before now columns) 0 0 ≡ letter_counts (with_expired now columns).letters
+  moved = ap (λ base. shifted base (count_ended_before now columns) 0 0) counted ∙ counts_swept now columns.letters
 
-  enough : ended_by now columns ≤ columns.counts.good
-  enough = subst (λ (base : Counts). ended_by now columns ≤ base.good) (sym counted) (ended_enough now columns.letters)
+  enough : count_ended_before now columns ≤ columns.counts.good
+  enough = subst (λ (base : Counts). count_ended_before now columns ≤ base.good) (sym counted) (ended_enough now columns.letters)
 
-  moved_stand : shifted columns.counts (ended_by now columns) 0 0 ≡ counts (touched records now) now
+  moved_stand : shifted columns.counts (count_ended_before now columns) 0 0 ≡ counts (touched records now) now
   moved_stand = moved ∙ counts_stand (touched records now) (found_each records sound) (with_expired now columns).letters passed
 
 -- ---- one certificate more
@@ -147,7 +147,7 @@ module _ (records : Records) (columns : DerivedRows) (now : ℕ) (sound : SoundR
   kept_certificate : Kept (derived_after now (Certificate row) columns) (with_certificate records now row)
   kept_certificate = record {
     letters = letters_grown;
-    counts = counts_good (ended_by now columns) row.serial row.not_after columns.counts (with_expired now columns).letters (moved records columns now sound up kept) (enough records columns now sound up kept)
+    counts = counts_good (count_ended_before now columns) row.serial row.not_after columns.counts (with_expired now columns).letters (moved records columns now sound up kept) (enough records columns now sound up kept)
         ∙ counts_stand later found_all (with_good row.serial row.not_after (with_expired now columns)).letters letters_grown;
     listed = subst (λ those. IsPermutation those columns.listed) (sym old_listed) kept.listed;
   }
@@ -232,7 +232,7 @@ module _ (records : Records) (columns : DerivedRows) (now : ℕ) (sound : SoundR
   kept_revocation : row.first ≡ next_number records.crls → Kept (derived_after now (Revocation row certificate.not_after) columns) (with_revocation records now row)
   kept_revocation next = record {
     letters = letters_lost;
-    counts = counts_revoked (ended_by now columns) row.serial columns.counts (with_expired now columns).letters (moved records columns now sound up kept) good_once (enough records columns now sound up kept)
+    counts = counts_revoked (count_ended_before now columns) row.serial columns.counts (with_expired now columns).letters (moved records columns now sound up kept) good_once (enough records columns now sound up kept)
         ∙ counts_stand revoking (found_each records sound) (with_revoked_letter row.serial (with_expired now columns)).letters letters_lost;
     listed =
         let new : Listed = record { serial = row.serial; at = row.at; reason = row.reason; first = row.first; not_after = certificate.not_after; last = None } in
@@ -283,7 +283,7 @@ module _ (records : Records) (columns : DerivedRows) (now : ℕ) (sound : SoundR
       (all_join (SoundRevocation records.last records.certificates records.requests records.crls) (λ (r : RevocationRow). r.first ≤ next_number records.crls)
       (λ (r : RevocationRow). turned (has_passed crl.this_update) (with_last_listing crl.number) (listed_of records r) ≡ listed_of (with_crl records now crl) r) listed_on records.revocations sound.revocations.each (first_by_next records sound))
 
-  kept_crl : Kept (with_counts (shifted columns.counts (ended_by now columns) 0 0) (with_last_listings crl.number crl.this_update (with_expired now columns))) (with_crl records now crl)
+  kept_crl : Kept (with_counts (shifted columns.counts (count_ended_before now columns) 0 0) (with_last_listings crl.number crl.this_update (with_expired now columns))) (with_crl records now crl)
   kept_crl = record {
     letters = passed records columns now sound up kept;
     counts = moved_stand records columns now sound up kept;

@@ -12,7 +12,7 @@ use Rattle.sqlite.specs.Values.{bound_value}
 use Rattle.sqlite.specs.Listing.{understood}
 use Rattle.sqlite_tied.specs.Compute.{everything}
 use Rattle.reg_store_tables.specs.Schema.{register_schema}
-use Rattle.reg_store_changes.specs.declared.sql.TheConstants.{SWEEP, MARK_REVOKED, SET_LAST, SET_NAME, PUT_SUBSCRIBER, PUT_ORDER, PUT_CERT, PUT_LETTER, PUT_REQUEST, SET_DECLINED, PUT_REVOCATION, PUT_LISTED, PUT_CRL, MARK_LISTED, CLEAR_STEPS}
+use Rattle.reg_store_changes.specs.declared.sql.TheConstants.{EXPIRE_ENDED, MARK_REVOKED, SET_LAST, SET_NAME, PUT_SUBSCRIBER, PUT_ORDER, PUT_CERT, PUT_LETTER, PUT_REQUEST, SET_DECLINED, PUT_REVOCATION, PUT_LISTED, PUT_CRL, MARK_LISTED, CLEAR_STEPS}
 use Rattle.reg_store_tables.proofs.PublicLaws.{updates, inserts, deletes, IsWriting}
 
 abbrev pub equals : Term → Term → Term
@@ -28,7 +28,7 @@ text letters = lit (Text letters)
 abbrev pub lends : ValueRef → Value
 lends v = bound_value (owned v)
 
-pub sweep_means : IsWriting SWEEP.now (updates 7 12 (equals (col 1 3) (text (codes "G")) ∷ below (col 1 2) (col 0 0) ∷ []) (col 1 1 ∷ col 1 2 ∷ text (codes "X") ∷ []))
+pub sweep_means : IsWriting EXPIRE_ENDED.now (updates 7 12 (equals (col 1 3) (text (codes "G")) ∷ below (col 1 2) (col 0 0) ∷ []) (col 1 1 ∷ col 1 2 ∷ text (codes "X") ∷ []))
 unfolding understood everything register_schema
 sweep_means = record { plain = (refl, refl); is = refl }
 

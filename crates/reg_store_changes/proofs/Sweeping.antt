@@ -31,8 +31,8 @@ use Rattle.reg_store_tables.specs.Stays.{Ran}
 use Rattle.reg_store_tables.specs.Steps.{Turns, TurnsCounted}
 use Rattle.reg_store_changes.specs.ChangeSteps.{ReplacesIssuer}
 use Rattle.reg_der.specs.Issuers.{with_issuer}
-use Rattle.reg_store_changes.specs.DerivedEffects.{lettered, with_expired, ended_by, is_good_at, with_revoked_letter, good_at, has_passed, with_last_listing, with_last_listings}
-use Rattle.reg_store_changes.specs.declared.sql.TheConstants.{SWEEP, MARK_REVOKED, SET_LAST, SET_NAME, SET_DECLINED, MARK_LISTED}
+use Rattle.reg_store_changes.specs.DerivedEffects.{lettered, with_expired, count_ended_before, is_good_at, with_revoked_letter, good_at, has_passed, with_last_listing, with_last_listings}
+use Rattle.reg_store_changes.specs.declared.sql.TheConstants.{EXPIRE_ENDED, MARK_REVOKED, SET_LAST, SET_NAME, SET_DECLINED, MARK_LISTED}
 use Rattle.reg_store_changes.proofs.Meaning.{equals, below, text, lends, sweep_means, mark_revoked_means, set_last_means, set_name_means, set_declined_means, mark_listed_means}
 use Rattle.reg_store_tables.proofs.PublicLaws as Edits
 
@@ -104,9 +104,9 @@ module _ (old new : State) (count : ℕ) where
       )
 
   -- the good certificates that ended have ended, and the UPDATE answers how many
-  pub sweeps : (now : ℕ) {moment : ValueRef} → Ran SWEEP.now (lends moment ∷ []) old new count → moment ≡ lent.Int (pos now) → TurnsCounted (with_expired now) (ended_by now) count old.now new.now
+  pub sweeps : (now : ℕ) {moment : ValueRef} → Ran EXPIRE_ENDED.now (lends moment ∷ []) old new count → moment ≡ lent.Int (pos now) → TurnsCounted (with_expired now) (count_ended_before now) count old.now new.now
   sweeps now given is =
-      letters_turned SWEEP.now (number now ∷ []) (subst (λ params. Ran SWEEP.now params old new count) (λ i. lends (is i) ∷ []) given)
+      letters_turned EXPIRE_ENDED.now (number now ∷ []) (subst (λ params. Ran EXPIRE_ENDED.now params old new count) (λ i. lends (is i) ∷ []) given)
       (equals (col 1 3) (text (codes "G")) ∷ below (col 1 2) (col 0 0) ∷ []) (col 1 1 ∷ col 1 2 ∷ text (codes "X") ∷ []) (ends_before now) (lettered expired) sweep_means
       (λ id row in_range. sweep_test now id row) (λ id row. simp cast_int) (λ row in_range. in_range)
 

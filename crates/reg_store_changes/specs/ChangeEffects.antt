@@ -5,16 +5,16 @@ use Rattle.reg_core.specs.declared.change.Change.{Change}
 use Rattle.reg_core.specs.declared.change.Change.TheVariants.{Certificate, Revocation, Crl as NewCrl}
 use Rattle.reg_core.specs.declared.rows.CrlRow.{CrlRow}
 use Rattle.reg_store_tables.specs.DerivedRows.{DerivedRows, with_counts}
-use Rattle.reg_store_changes.specs.DerivedEffects.{with_expired, ended_by, with_revoked_letter, good_at, with_good, with_unlisted, with_last_listings, shifted}
+use Rattle.reg_store_changes.specs.DerivedEffects.{with_expired, count_ended_before, with_revoked_letter, good_at, with_good, with_unlisted, with_last_listings, shifted}
 
 -- a CRL with its bytes
 abbrev pub crl_of : CrlRow → List ℕ → Crl
 crl_of row bytes = record { number = row.number; this_update = row.this_update; bytes = bytes }
 
 -- how many certificates a change revokes
-abbrev pub lost : Change → ℕ
-lost (Revocation row not_after) = 1
-lost change = 0
+abbrev pub newly_revoked : Change → ℕ
+newly_revoked (Revocation row not_after) = 1
+newly_revoked change = 0
 
 -- how many certificates a change adds
 abbrev pub added : Change → ℕ
@@ -37,5 +37,5 @@ derived_rows_after change columns = columns
 -- the derived tables after a change at a moment
 abbrev pub derived_after : ℕ → Change → DerivedRows → DerivedRows
 derived_after now change columns =
-    with_counts (shifted columns.counts (ended_by now columns) (lost change) (added change))
+    with_counts (shifted columns.counts (count_ended_before now columns) (newly_revoked change) (added change))
     (derived_rows_after change (with_expired now columns))

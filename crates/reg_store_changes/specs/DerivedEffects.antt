@@ -14,8 +14,8 @@ with_expired now columns =
     record columns { letters = map (turned (ends_before now) (lettered expired)) columns.letters }
 
 -- how many good certificates have a notAfter before a moment
-abbrev pub ended_by : ℕ → DerivedRows → ℕ
-ended_by now columns = length (filter (ends_before now) columns.letters)
+abbrev pub count_ended_before : ℕ → DerivedRows → ℕ
+count_ended_before now columns = length (filter (ends_before now) columns.letters)
 
 -- the row is that of a good certificate with this serial number
 abbrev pub is_good_at : ℕ → Standing → Bool
@@ -67,8 +67,8 @@ with_last_listings number now columns =
 
 -- the counts after some good certificates ended, some were revoked, and some were added
 abbrev pub shifted : Counts → ℕ → ℕ → ℕ → Counts
-shifted counts ended lost added = record {
-  good = counts.good + added - (ended + lost);
-  revoked = counts.revoked + lost;
+shifted counts ended newly_revoked added = record {
+  good = counts.good + added - (ended + newly_revoked);
+  revoked = counts.revoked + newly_revoked;
   expired = counts.expired + ended;
 }

@@ -6,7 +6,7 @@ ghost use Rattle.reg_store_tables.specs.Stays.{Stepped};
 ghost use Rattle.reg_store_tables.specs.DerivedRows.{with_counts};
 ghost use Rattle.reg_store_tables.specs.Steps.{Continues, Makes, MakesRows, Turns, TurnsWhere};
 ghost use Rattle.reg_store_changes.specs.DerivedEffects.{with_good, with_last_listings, shifted};
-ghost use Rattle.reg_store_changes.specs.ChangeEffects.{crl_of, lost, added};
+ghost use Rattle.reg_store_changes.specs.ChangeEffects.{crl_of, newly_revoked, added};
 ghost use Rattle.reg_store_changes.specs.ChangeSteps.{Enters, Puts, Revokes};
 
 use crate::statements::{
@@ -19,11 +19,13 @@ use sqlite::{Alter, Transaction};
 
 /// The counts after `ended` good certificates expired and the change was made. `Store` if a count goes below 0 or above 2^64 - 1.
 fn counts_after(counts: Counts, ended: usize, change: &Change<'_>) -> Result<Counts, DatabaseFault>
-    ensures shifted { IfOk result (λ next. next ≡ shifted counts ended (lost change.now) (added change.now)) }
+    ensures shifted { IfOk result (λ next. next ≡ shifted counts ended (newly_revoked change.now) (added change.now)) }
 {
-    let (lost, added) = revoked_and_added(change);
+    let (newly_revoked, added) = revoked_and_added(change);
     let ended = ended as u64;
-    let no_longer_good = ended.checked_add(lost).ok_or(DatabaseFault::Store)?;
+    let no_longer_good = ended
+        .checked_add(newly_revoked)
+        .ok_or(DatabaseFault::Store)?;
     let with_added = counts.good.checked_add(added).ok_or(DatabaseFault::Store)?;
     Ok(Counts {
         good: with_added
@@ -31,7 +33,7 @@ fn counts_after(counts: Counts, ended: usize, change: &Change<'_>) -> Result<Cou
             .ok_or(DatabaseFault::Store)?,
         revoked: counts
             .revoked
-            .checked_add(lost)
+            .checked_add(newly_revoked)
             .ok_or(DatabaseFault::Store)?,
         expired: counts
             .expired
@@ -42,7 +44,7 @@ fn counts_after(counts: Counts, ended: usize, change: &Change<'_>) -> Result<Cou
 
 /// How many good certificates the change revokes, and how many it adds.
 fn revoked_and_added(change: &Change<'_>) -> (u64, u64)
-    ensures { result ≡ (lost change.now, added change.now) }
+    ensures { result ≡ (newly_revoked change.now, added change.now) }
 {
     match *change {
         Change::Certificate(_) => (0, 1),
@@ -52,7 +54,7 @@ fn revoked_and_added(change: &Change<'_>) -> (u64, u64)
 }
 
 /// Sets the counts and the last accepted moment.
-fn close<S: Alter>(
+fn set_counts_and_last<S: Alter>(
     tx: &mut Transaction<'_, S>,
     now: Moment,
     counts: Counts,
@@ -142,5 +144,5 @@ pub(crate) fn enter<S: Alter>(
     let ended = expire_ended(tx, now)?;
     put(tx, change)?;
     let next = counts_after(counts, ended, change)?;
-    close(tx, now, next)
+    set_counts_and_last(tx, now, next)
 }

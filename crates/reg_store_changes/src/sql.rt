@@ -1,7 +1,7 @@
 //! The SQL of the statements of a change. An UPDATE with a WHERE finds its rows by a key or an index, except `MARK_LISTED`,
 //! which scans the table `listed`.
 
-pub(crate) const SWEEP: &str =
+pub(crate) const EXPIRE_ENDED: &str =
     "UPDATE standing SET state = 'X' WHERE state = 'G' AND not_after < ?1";
 
 pub(crate) const MARK_REVOKED: &str =

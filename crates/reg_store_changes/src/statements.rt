@@ -6,7 +6,7 @@ ghost use Rattle.reg_core.specs.Changes.{touched, with_subscriber, with_order, w
 ghost use Rattle.reg_store_tables.specs.Stays.{Stepped};
 ghost use Rattle.reg_store_tables.specs.Steps.{Makes, MakesRows, Turns, TurnsDerivedRows, TurnsCounted, TurnsRecords, TurnsWhere, Yields};
 ghost use Rattle.reg_store_changes.specs.ChangeEffects.{crl_of};
-ghost use Rattle.reg_store_changes.specs.DerivedEffects.{with_expired, ended_by, with_revoked_letter, good_at, with_good, with_unlisted, with_last_listings};
+ghost use Rattle.reg_store_changes.specs.DerivedEffects.{with_expired, count_ended_before, with_revoked_letter, good_at, with_good, with_unlisted, with_last_listings};
 
 use crate::sql;
 use reg_core::{
@@ -24,10 +24,10 @@ pub fn expire_ended<S: Alter>(
     tx: &mut Transaction<'_, S>,
     now: Moment,
 ) -> Result<usize, DatabaseFault>
-    ensures made { Yields S.Store tx.old tx.new result (TurnsCounted (with_expired now) (ended_by now)) }
+    ensures made { Yields S.Store tx.old tx.new result (TurnsCounted (with_expired now) (count_ended_before now)) }
     ensures stepped { Stepped S.Store tx.old tx.new }
 {
-    write(tx, sql::SWEEP, &[sql_moment(now)])
+    write(tx, sql::EXPIRE_ENDED, &[sql_moment(now)])
 }
 
 /// Sets the letter of the good certificate with this serial number to revoked, and returns how many such certificates there were: 0 or 1.

@@ -11,9 +11,9 @@ use reg_core::{Change, Counts, Moment};
 use reg_store_tables::{DatabaseFault, stored_counts_at_last, write_statements};
 use sqlite::{Alter, Connection};
 
-/// Makes a change at a moment, in one transaction. Errors: `Memory`; `Store` if the database fails or refuses a row, or a number is above
-/// 2^63 - 1; `Store` too if a count is missing or too small, or the certificate to revoke is not good. An error changes nothing, unless the
-/// disk failed in the commit.
+/// Makes a change at a moment, which becomes the last accepted one, in one transaction, which also updates the derived tables. Errors: `Memory`;
+/// `Store` if the database fails or refuses a row, a number is above 2^63 - 1, a count is missing or too small, or the certificate to revoke
+/// is not good. An error changes nothing, unless the disk failed in the commit.
 pub fn apply<S: Alter>(
     conn: &mut Connection<S>,
     now: Moment,

@@ -9,8 +9,8 @@ use Rattle.reg_core.specs.declared.rows.CrlRow.{CrlRow}
 use Rattle.reg_store_migration.specs.Refilled.{last_in}
 
 -- a CRL from a number on whose thisUpdate is past a moment
-abbrev pub is_past : ℕ → ℕ → CrlRow → Bool
-is_past first not_after crl = nat_le first crl.number && nat_lt not_after crl.this_update
+abbrev pub can_be_last_listing : ℕ → ℕ → CrlRow → Bool
+can_be_last_listing first not_after crl = nat_le first crl.number && nat_lt not_after crl.this_update
 
 -- a later CRL has a greater number, and its thisUpdate is no earlier
 later_number : (from : ℕ) (crls : List CrlRow) → NumberedFrom (λ (crl : CrlRow). crl.number) from crls → (i : ℕ) (d : CrlRow) → i < length crls → (get_or crls i d).number ≡ from + i
@@ -33,7 +33,7 @@ later_update (crl ∷ crls) never (suc i) (suc j) d le within = later_update crl
 past_on : (first not_after n m u v : ℕ) → n ≤ m → u ≤ v → not (nat_le first m && nat_lt not_after v) ≡ true → not (nat_le first n && nat_lt not_after u) ≡ true
 past_on first not_after n m u v le rise h = grind (arith, nat_tests)
 
-pub past_parted : (first not_after : ℕ) (crls : List CrlRow) → NumberedFrom (λ (crl : CrlRow). crl.number) 1 crls → NeverDecreases (λ (crl : CrlRow). crl.this_update) crls → IsPartitionedBy (λ crl. not (is_past first not_after crl)) crls
+pub past_parted : (first not_after : ℕ) (crls : List CrlRow) → NumberedFrom (λ (crl : CrlRow). crl.number) 1 crls → NeverDecreases (λ (crl : CrlRow). crl.this_update) crls → IsPartitionedBy (λ crl. not (can_be_last_listing first not_after crl)) crls
 past_parted first not_after crls numbered never i j d le within h =
     let lower = later_number 1 crls numbered i d (omega arith) in
     let upper = later_number 1 crls numbered j d within in
@@ -58,10 +58,10 @@ find_there p (x ∷ xs) (suc at) within before here =
     not_true true h = absurd (cc)
     not_true false h = refl
 
-pub last_there : (first not_after : ℕ) (crls : List CrlRow) (at : ℕ) → at ≤ length crls → IsPartitionPoint (λ crl. not (is_past first not_after crl) ≡ true) (λ crl. not (is_past first not_after crl) ≡ false) crls at
+pub last_there : (first not_after : ℕ) (crls : List CrlRow) (at : ℕ) → at ≤ length crls → IsPartitionPoint (λ crl. not (can_be_last_listing first not_after crl) ≡ true) (λ crl. not (can_be_last_listing first not_after crl) ≡ false) crls at
     → option_map (λ (crl : CrlRow). crl.number) (slice_get crls at) ≡ last_in crls first not_after
 last_there first not_after crls at within point =
-    sym (ap (option_map (λ (crl : CrlRow). crl.number)) (find_there (is_past first not_after) crls at within (λ k d lower short. point.0 k d (omega arith) lower) (λ d short. point.1 at d (omega arith) short)))
+    sym (ap (option_map (λ (crl : CrlRow). crl.number)) (find_there (can_be_last_listing first not_after) crls at within (λ k d lower short. point.0 k d (omega arith) lower) (λ d short. point.1 at d (omega arith) short)))
 
 pub none_there : {A : Type 0} (xs : List A) (at : ℕ) → length xs ≤ at → slice_get xs at ≡ None
 none_there [] at past = refl

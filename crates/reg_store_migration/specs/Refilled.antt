@@ -12,7 +12,6 @@ use Rattle.reg_store_tables.specs.Kept.{Kept, standing_of, listed_of}
 use Rattle.reg_store_tables.specs.Rows.{number}
 use Rattle.reg_store_tables.specs.Shows.{AreRecordsAndDerived}
 
--- no certificate is counted
 abbrev pub no_counts : Counts
 no_counts = record { good = 0; revoked = 0; expired = 0 }
 

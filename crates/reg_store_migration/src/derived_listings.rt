@@ -9,7 +9,7 @@ ghost use Rattle.reg_store_tables.specs.Steps.{ContinuesRows, MakesRows};
 ghost use Rattle.reg_store_migration.specs.Rebuilds.{ListsOne, Relists, RelistsEach, RelistsOne};
 ghost use Rattle.reg_store_migration.specs.Refilled.{AreIssued, last_in};
 
-use crate::record_reader::{crls, end_of, revocations};
+use crate::record_reader::{crls, not_after_by_serial, revocations};
 use crate::sql;
 use reg_core::{CrlRow, Moment, RevocationRow};
 use reg_store_tables::DatabaseFault;
@@ -18,7 +18,7 @@ use sqlite::types::ValueRef;
 use sqlite::{Alter, Transaction};
 
 /// Whether the CRL's number is at least `first` and its thisUpdate is after `not_after`.
-fn is_past(crl: &CrlRow, first: u64, not_after: Moment) -> bool
+fn can_be_last_listing(crl: &CrlRow, first: u64, not_after: Moment) -> bool
     ensures { result ≡ (nat_le first crl.now.number && nat_lt not_after crl.now.this_update) }
 {
     first <= crl.number && not_after < crl.this_update
@@ -29,7 +29,7 @@ fn is_past(crl: &CrlRow, first: u64, not_after: Moment) -> bool
 fn last_listing(crls: &[CrlRow], first: u64, not_after: Moment) -> Option<u64>
     ensures { AreIssued crls.now → result ≡ last_in crls.now first not_after }
 {
-    let at = crls.partition_point(|crl| !is_past(crl, first, not_after));
+    let at = crls.partition_point(|crl| !can_be_last_listing(crl, first, not_after));
     match crls.get(at) {
         Some(crl) => Some(crl.number),
         None => None,
@@ -77,7 +77,7 @@ fn rebuild_listed_row<S: Alter>(
     ensures made { MakesRows S.Store tx.old tx.new result (RelistsOne revocation crls.now) }
     ensures stepped { Stepped S.Store tx.old tx.new }
 {
-    let not_after = end_of(tx, revocation.serial)?;
+    let not_after = not_after_by_serial(tx, revocation.serial)?;
     put_listing(tx, revocation, crls, not_after)
 }
 

@@ -68,7 +68,7 @@ fn end_in(rows: &[Row]) -> Result<Moment, DatabaseFault>
 }
 
 /// The notAfter of the certificate with a serial number. `Store` if there is none.
-pub(crate) fn end_of<S: Alter>(
+pub(crate) fn not_after_by_serial<S: Alter>(
     tx: &mut Transaction<'_, S>,
     serial: Serial,
 ) -> Result<Moment, DatabaseFault>

@@ -1,5 +1,3 @@
-//! The versions of the tables before the program's.
-
 /// A version of the tables that is older than the program's.
 #[derive(Clone, Copy, PartialEq, Eq)]
 pub enum OlderVersion {

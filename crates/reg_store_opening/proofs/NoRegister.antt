@@ -10,7 +10,7 @@ use Rattle.reg_store_tables.specs.declared.sql.TheConstants.{STEPS}
 use Rattle.reg_store_migration.specs.Older.{version_number}
 use Rattle.reg_store_migration.specs.declared.version.OlderVersion.{OlderVersion}
 use Rattle.reg_store_opening.specs.declared.sql.TheConstants.{VERSION, OFFICE, OLDER_OFFICE}
-use Rattle.reg_store_opening.specs.VersionAndOffice.{version_of, schema_of, IsRead, IsRefusedText, IsOne, KeepsTo, HasVersion, HasOfficeRow, HasOlderOffice, HasOfficeRowOf, HasNoOfficeRow, HasNoOlderOffice, IsNoRegister}
+use Rattle.reg_store_opening.specs.VersionAndOffice.{version_of, schema_of, IsRead, IsRefusedText, IsOne, HasOfficeValues, HasVersion, HasOfficeRow, HasOlderOffice, HasOfficeRowOf, HasNoOfficeRow, HasNoOlderOffice, IsNoRegister}
 use Rattle.reg_store_opening.proofs.ScheduleRows.{one_version}
 use Rattle.reg_store_opening.proofs.Resolved.{ok_one}
 use Rattle.reg_store_opening.proofs.Understood.{ReadsTable}
@@ -54,7 +54,7 @@ module _ (db : Database) (unviewed : db.schema.views ≡ []) where
       let are = says.4 in
       let keeps = are.3 in
       let rise : Ascends are.0 = subst Ascends keeps.2.1.1.1 keeps.2.1.1.0.schedule.ascending in
-      let row = one_again OFFICE.now office_names [] db (office_is db.schema unviewed) (KeepsTo are.0) says.0 h.0 says.2 h.2 keeps in
+      let row = one_again OFFICE.now office_names [] db (office_is db.schema unviewed) (HasOfficeValues are.0) says.0 h.0 says.2 h.2 keeps in
       let means = steps_is db.schema unviewed in
       let steps =
       same_steps db.schema _ _ says.3.compiled.command (means says.3.compiled says.3.is).0 db says.1 h.1 are.0
@@ -64,7 +64,7 @@ module _ (db : Database) (unviewed : db.schema.views ≡ []) where
   no_older : HasNoOlderOffice db → HasOlderOffice db → ⊥
   no_older (inl refused) says = not_refused OLDER_OFFICE.now older_names [] db (older_is db.schema unviewed) says.2.0 says.2.1 refused
   no_older (inr h) says =
-      let P : Row → Type 0 = λ row. (column row 6 ≡ number says.0) × (column row 5 ≡ number says.1) × KeepsTo (one_step says.0) row in
+      let P : Row → Type 0 = λ row. (column row 6 ≡ number says.0) × (column row 5 ≡ number says.1) × HasOfficeValues (one_step says.0) row in
       h.2 says.0 says.1 (one_again OLDER_OFFICE.now older_names [] db (older_is db.schema unviewed) P says.2.0 h.0 says.2.1 h.1 says.2.2)
 
   version_again : (n m : ℕ) → HasVersion db n → HasVersion db m → n ≡ m

@@ -10,7 +10,7 @@ use Rattle.reg_store_schema.specs.declared.versions.Version.{Version}
 use Rattle.reg_store_migration.specs.Older.{older_schema}
 use Rattle.reg_store_migration.specs.declared.version.OlderVersion.{OlderVersion}
 use Rattle.reg_store_opening.specs.Examined.{HasVersionAndOffice, IsFoundOf, found_version}
-use Rattle.reg_store_opening.specs.VersionAndOffice.{version_of, schema_of, HasVersion, HasOthers, IsOlder, IsShownAs, SchemaHasVersion, version_or_current}
+use Rattle.reg_store_opening.specs.VersionAndOffice.{version_of, schema_of, HasVersion, HasOtherSchema, IsOlder, IsShownAs, SchemaHasVersion, version_or_current}
 use Rattle.reg_store_opening.specs.declared.version_check.OlderOffice.{OlderOffice}
 
 has_found : (db : Database) (found : Option OlderOffice) → HasVersionAndOffice db found → HasVersion db (version_of (found_version found))
@@ -43,7 +43,7 @@ module _ (db : Database) (tables : Option Version) (is : SchemaHasVersion tables
     differs : db.schema ≢ schema_of (found_version found)
     differs same = other ((is (found_version found)).1 same)
 
-    pub others_there : HasVersionAndOffice db found → HasOthers db
+    pub others_there : HasVersionAndOffice db found → HasOtherSchema db
     others_there it = (found_version found, has_found db found it, differs)
 
     pub never_shown : (version : Option OlderVersion) (records : Records) → IsFoundOf version records found → IsShownAs version db records → ⊥

@@ -24,7 +24,7 @@ use Rattle.reg_store_tables.specs.declared.sql.TheConstants.{STEPS}
 use Rattle.reg_store_tables.specs.Stays.{IsDatabaseFault}
 use Rattle.reg_store_tables.specs.declared.fault.StoreFault.{StoreFault}
 use Rattle.reg_store_opening.specs.declared.sql.TheConstants.{OFFICE}
-use Rattle.reg_store_opening.specs.VersionAndOffice.{is_call_error, IsNeverRefused, IsRead, IsOne, AreSteps, KeepsTo, AreOfficeRows, InRange, Refuses}
+use Rattle.reg_store_opening.specs.VersionAndOffice.{is_call_error, IsNeverRefused, IsRead, IsOne, AreSteps, HasOfficeValues, AreOfficeRows, InRange, Refuses}
 use Rattle.reg_store_opening.proofs.TableTexts.{office_names, steps_names}
 
 -- ---- a query on one table is refused for no reason of its own
@@ -103,7 +103,7 @@ are_steps [] = tt
 are_steps (step ∷ steps) = (refl, refl, are_steps steps)
 
 module _ (db : Database) (records : Records) (shown : IsShownBy db records) (rows : List Row) where
-  office_read : InRange records → IsRead db OFFICE.now rows → IsOne (KeepsTo records.policy.schedule) rows
+  office_read : InRange records → IsRead db OFFICE.now rows → IsOne (HasOfficeValues records.policy.schedule) rows
   office_read within read =
       let rows_are = row_read register_schema OFFICE.now office_columns office_names office_reads db (stored_office shown.rows.days records.issuer records.policy records.last) shown.schema shown.rows.office rows read in (
         Blob records.issuer.name ∷ Blob records.issuer.key ∷ number records.policy.crl_life ∷ number records.policy.ocsp_life ∷ number records.policy.cap ∷ number records.last ∷ [],

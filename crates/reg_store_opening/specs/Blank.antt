@@ -14,7 +14,6 @@ use Rattle.reg_store_tables.specs.Shows.{AreRecordsAndDerived}
 use Rattle.reg_store_migration.specs.NumberedRows.{HasRows, with_rows}
 use Rattle.reg_store_migration.specs.Refilled.{no_derived_rows}
 
--- no table has a row
 abbrev pub no_rows : Trees
 no_rows = λ _. []
 

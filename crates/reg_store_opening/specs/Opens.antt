@@ -54,7 +54,7 @@ pub record IsFailedOpen {S : Type 0} (g : Ghosts S) (old new : Held S) (fault : 
   pub newer : HasCleanDisk (state g new) → fault ≡ NewVersion → IsNewer (state g old).now
   -- `NotARegister` is reported only if the tables have no version or no office, or the schema is not that of the version
   pub none : HasCleanDisk (state g new) → fault ≡ NotARegister → IsNoRegister (state g old).now
-  -- if there is no view, `NotARegister` is reported only if the database has no register of any version
+  -- `NotARegister` is reported only if the database has no register of any version (under the condition in `HoldsNoRegister`)
   pub alone : HasCleanDisk (state g new) → fault ≡ NotARegister → HoldsNoRegister (state g old).now
   -- `NotEmpty` is a fault of `create`
   pub never_empty : fault ≢ NotEmpty

@@ -141,8 +141,8 @@ abbrev pub HasIssuer : Row → Issuer → Type 0
 HasIssuer row issuer = IsIssuer issuer × (column row 0 ≡ Blob issuer.name) × (column row 1 ≡ Blob issuer.key)
 
 -- the row of an office has an issuer, a policy with this schedule, and a last accepted moment
-abbrev pub KeepsTo : List (ℕ × ℕ) → Row → Type 0
-KeepsTo schedule row =
+abbrev pub HasOfficeValues : List (ℕ × ℕ) → Row → Type 0
+HasOfficeValues schedule row =
     ((issuer : Issuer) × HasIssuer row issuer) × ((policy : Terms) × HasPolicy schedule row policy)
     × ((last : ℕ) × HasLast row last)
 
@@ -161,7 +161,7 @@ HaveSteps rows steps = AreSteps rows steps × HaveMoments steps
 -- the one row of the table `office` and the steps of the schedule, each value within its range
 abbrev pub AreOfficeRows : List Row → List Row → Type 0
 AreOfficeRows rows steps =
-    (schedule : List (ℕ × ℕ)) × HaveMoments schedule × AreSteps steps schedule × IsOne (KeepsTo schedule) rows
+    (schedule : List (ℕ × ℕ)) × HaveMoments schedule × AreSteps steps schedule × IsOne (HasOfficeValues schedule) rows
 
 -- the tables have an office, each value within its range
 abbrev pub HasOfficeRow : Database → Type 0
@@ -172,7 +172,7 @@ HasOfficeRow db =
 -- the row of an older office: its days and its last accepted moment, and a schedule of the one step
 abbrev pub IsOlderRow : ℕ → ℕ → Row → Type 0
 IsOlderRow days last row =
-    (column row 6 ≡ number days) × (column row 5 ≡ number last) × KeepsTo (one_step days) row
+    (column row 6 ≡ number days) × (column row 5 ≡ number last) × HasOfficeValues (one_step days) row
 
 -- the one row of an older office, each value within its range
 abbrev pub AreOlderOffice : ℕ → ℕ → List Row → Type 0
@@ -236,20 +236,21 @@ HasNoRegister db =
     ⊎ ((version : OlderVersion) × HasVersion db (version_number version) × HasNoOlderOffice db))
 
 -- the tables have a version up to the program's, but the schema is not that of this version
-abbrev pub HasOthers : Database → Type 0
-HasOthers db =
+abbrev pub HasOtherSchema : Database → Type 0
+HasOtherSchema db =
     (version : Option OlderVersion) × HasVersion db (version_of version) × (db.schema ≢ schema_of version)
 
 -- the database has no register: its tables have none, or its schema is not that of their version
 abbrev pub IsNoRegister : Database → Type 0
-IsNoRegister db = HasNoRegister db ⊎ HasOthers db
+IsNoRegister db = HasNoRegister db ⊎ HasOtherSchema db
 
 -- the tables have the office of a version, each value within its range
 abbrev pub HasOfficeRowOf : Option OlderVersion → Database → Type 0
 HasOfficeRowOf None db = HasOfficeRow db
 HasOfficeRowOf (Some version) db = HasOlderOffice db
 
--- if there is no view, a version that the tables have is 0, or at most the program's, and then its office is missing or the schema differs
+-- If there is no view (nor another object that the crate `sqlite` keeps as it is), and the tables have a version from 1 on, the version is at
+-- most the program's, and its office is missing or the schema is not that of the version.
 abbrev pub HoldsNoRegister : Database → Type 0
 HoldsNoRegister db =
     db.schema.views ≡ [] → (n : ℕ) → 1 ≤ n → HasVersion db n → (version : Option OlderVersion)
@@ -261,7 +262,7 @@ pub record InRange (records : Records) : Type 0 where
   pub moments : HaveMoments records.policy.schedule
   pub last : records.last < clock_end
 
--- a version; none stands for the program's
+-- a version; `None` is the program's
 abbrev pub version_or_current : Option OlderVersion → Version
 version_or_current None = version.Third
 version_or_current (Some First) = version.First

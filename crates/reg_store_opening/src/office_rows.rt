@@ -6,7 +6,7 @@ ghost use Rattle.reg_core.specs.Issuer as core;
 ghost use Rattle.reg_core.specs.Policy.{Terms};
 ghost use Rattle.reg_core.specs.Schedule.{IsSchedule, one_step};
 ghost use Rattle.reg_store_tables.specs.Rows.{number};
-ghost use Rattle.reg_store_opening.specs.VersionAndOffice.{version_of, AreVersionRows, HasPolicy, HasLast, HasIssuer, KeepsTo, AreOfficeRows, IsOlderRow, AreOlderOffice, Refuses, IsStep, HaveSteps};
+ghost use Rattle.reg_store_opening.specs.VersionAndOffice.{version_of, AreVersionRows, HasPolicy, HasLast, HasIssuer, HasOfficeValues, AreOfficeRows, IsOlderRow, AreOlderOffice, Refuses, IsStep, HaveSteps};
 
 use reg_core::{Moment, Policy, Schedule};
 use reg_der::{Issuer, IssuerFault};
@@ -116,7 +116,7 @@ fn check_issuer(alloc: Global, row: &Row) -> Result<(), StoreFault>
 }
 
 fn check_office_row(alloc: Global, row: &Row, schedule: Schedule) -> Result<(), StoreFault>
-    ensures { MatchResult result (λ _. KeepsTo schedule row.now) (Refuses (¬ KeepsTo schedule row.now)) }
+    ensures { MatchResult result (λ _. HasOfficeValues schedule row.now) (Refuses (¬ HasOfficeValues schedule row.now)) }
 {
     match policy_in(row, schedule) {
         None => Err(StoreFault::NotARegister),

@@ -74,7 +74,7 @@ fn check_older_office<S: Alter>(tx: &mut Transaction<'_, S>) -> Result<(u64, Mom
     older_office_in(&rows)
 }
 
-/// Checks the version, then the rest of the office and the schedule. Returns the values of an older version; `None` for the program's.
+/// Checks the version, then the rest of the row of `office` and the schedule. Returns the values of an older version; `None` for the program's.
 fn check_tables<S: Alter>(tx: &mut Transaction<'_, S>) -> Result<Option<OlderOffice>, StoreFault>
     ensures told { ReportsState S.Store tx.old.conn.now tx.new.conn.now result
         (λ found db. HasVersionAndOffice db found) }
@@ -104,7 +104,7 @@ fn check_tables<S: Alter>(tx: &mut Transaction<'_, S>) -> Result<Option<OlderOff
 }
 
 /// Checks the version, the row of `office` and the steps of the schedule, and returns the values of an older version; `None` if they
-/// are of the program's version. It does not check the schema, and changes nothing.
+/// are of the program's version. The call does not check the schema, and changes nothing.
 ///
 /// # Errors
 /// `NotARegister` if the row of `office` or the schedule can't be read, or a value is out of range; `NewVersion` if the version
@@ -153,13 +153,13 @@ fn check_schema(tables: Option<Version>, found: Option<OlderOffice>) -> Result<(
     Err(StoreFault::NotARegister)
 }
 
-/// Checks that the schema, the version, the office and the schedule are a register's. If the version is the program's, the call changes
+/// Checks that the schema, the row of `office` and the schedule are a register's. If the version is the program's, the call changes
 /// nothing. Tables of version 1 or 2 are migrated to the program's version in one transaction: the records stay, and the derived tables
 /// are rebuilt from them. The schema is read before the office, and nothing is written in between.
 ///
 /// # Errors
-/// Those of [`examine`]; `NotARegister` too if the schema (tables with their columns and keys, indexes, views) is not that of
-/// the version; `Store` too if [`migrate`] fails. An error changes nothing, unless the disk failed in the commit.
+/// Those of [`examine`] and, for an older version, of [`migrate`]; `NotARegister` too if the schema (tables with their columns and keys,
+/// indexes, views) is not that of the version. An error changes nothing, unless the disk failed in the commit.
 pub fn open<S: Alter>(alloc: Global, conn: &mut Connection<S>) -> Result<(), StoreFault>
     requires { conn.old.in_transaction ≡ false }
     ensures opens { OnOk result (Opens S.Store conn.old conn.new) }

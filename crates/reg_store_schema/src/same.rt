@@ -121,7 +121,7 @@ fn have_same_keys(left: &Table, right: &Table) -> bool
         && left.orders.is_same(&right.orders)
 }
 
-/// Whether two tables have the same CHECKs, references and computed defaults.
+/// Whether two tables have the same CHECKs, references, computed defaults, and defaults that read the time.
 fn have_same_rules(left: &Table, right: &Table) -> bool
     ensures { IsTrue result
         ↔ ((left.now.checks ≡ right.now.checks) × (left.now.references ≡ right.now.references)

@@ -1,5 +1,3 @@
-//! The versions of a register's tables.
-
 /// A version of a register's tables.
 #[derive(Clone, Copy, PartialEq, Eq)]
 pub enum Version {

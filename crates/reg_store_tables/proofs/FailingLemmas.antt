@@ -28,7 +28,7 @@ use Rattle.reg_store_tables.specs.Faults.{database_fault_of}
 use Rattle.reg_store_tables.specs.declared.fault.DatabaseFault.{DatabaseFault}
 use Rattle.reg_store_tables.specs.declared.fault.DatabaseFault.TheVariants as call
 use Rattle.reg_store_tables.specs.declared.fault.DatabaseFault.TheVariants.{Store}
-use Rattle.reg_store_tables.specs.Failing.{HasFailed, ShowsWritten, IsTaken, IsAsked}
+use Rattle.reg_store_tables.specs.Failing.{HasFailed, ShowsWritten, IsOneStatement, FailsOnlyByLimit}
 use Rattle.reg_store_tables.specs.ReadStatements.{IsReading, NeverReturns, command_of}
 use Rattle.reg_store_tables.specs.ShownRows.{IsRowOf}
 use Rattle.reg_store_tables.specs.Shows.{Shows}
@@ -38,9 +38,9 @@ use Rattle.reg_store_tables.proofs.Staying.{kept_shows, shows_register, stays_ke
 
 -- ---- why a query fails
 
-module _ (text : List ℕ) (params : Row) (reading : IsReading text) (asked : IsAsked text params) (old new : State) (e : Error) (register : IsTrue old.is_open → old.now.schema ≡ register_schema) (store : database_fault_of e ≡ Store) where
-  taken_is : IsTrue old.is_open → IsTaken (understood old.now.schema text) text params
-  taken_is up = subst (λ s. IsTaken (understood s text) text params) (sym (register up)) asked.taken
+module _ (text : List ℕ) (params : Row) (reading : IsReading text) (asked : FailsOnlyByLimit text params) (old new : State) (e : Error) (register : IsTrue old.is_open → old.now.schema ≡ register_schema) (store : database_fault_of e ≡ Store) where
+  taken_is : IsTrue old.is_open → IsOneStatement (understood old.now.schema text) text params
+  taken_is up = subst (λ s. IsOneStatement (understood s text) text params) (sym (register up)) asked.taken
 
   plain_is : IsTrue old.is_open → IsPlain (understood old.now.schema text)
   plain_is up = subst (λ s. IsPlain (understood s text)) (sym (register up)) reading.plain
@@ -48,7 +48,7 @@ module _ (text : List ℕ) (params : Row) (reading : IsReading text) (asked : Is
   no_statement : IsTrue old.is_open → IsNoStatement old text params e → ⊥
   no_statement up (inl h) = absurd (subst IsPlain h.1 (plain_is up))
   no_statement up (inr h) =
-      let taken : IsTaken (Ok h.0) text params = subst (λ r. IsTaken r text params) h.1 (taken_is up) in
+      let taken : IsOneStatement (Ok h.0) text params = subst (λ r. IsOneStatement r text params) h.1 (taken_is up) in
       let plain = subst IsPlain h.1 (plain_is up) in
       elim h.2 [
         | inl longer ↦ absurd (longer.0 taken.0)
@@ -100,8 +100,8 @@ refused_limit q names params limit db e sure accepts (inl h) = absurd (let no = 
 refused_limit q names params limit db e sure accepts (inr (inl h)) = absurd (sure h.1)
 refused_limit q names params limit db e sure accepts (inr (inr h)) = h.1
 
-pub asked_of : (text : List ℕ) (q : Query) (names : List (List ℕ)) (params : Row) → ((db : Trees) → QueryOverflows q db params → ⊥) → IsTaken (understood register_schema text) text params
-    → command_of (understood register_schema text) ≡ as_command q names → accepts_program register_schema [] q params ≡ true → IsAsked text params
+pub asked_of : (text : List ℕ) (q : Query) (names : List (List ℕ)) (params : Row) → ((db : Trees) → QueryOverflows q db params → ⊥) → IsOneStatement (understood register_schema text) text params
+    → command_of (understood register_schema text) ≡ as_command q names → accepts_program register_schema [] q params ≡ true → FailsOnlyByLimit text params
 asked_of text q names params sure taken means accepts = record {
   taken = taken;
   never = λ limit db e schema refuses.
@@ -117,12 +117,12 @@ never_overflows tree terms project order most params db (inr any) = any.4
 pub record IsSelect {K : Type 0} (text : List ℕ) (q : Query) (names : List (List ℕ)) (params : K → Row) : Type 0 where
   pub means : command_of (understood register_schema text) ≡ as_command q names
   pub reading : IsReading text
-  pub asked : (k : K) → IsAsked text (params k)
+  pub asked : (k : K) → FailsOnlyByLimit text (params k)
 
 -- from one table
 pub select : {K : Type 0} (text : List ℕ) (tree : ℕ) (terms project : List Term) (order : List (Term × Key)) (most : Term) (names : List (List ℕ)) (params : K → Row)
     → command_of (understood register_schema text) ≡ as_command (selects tree terms project order most) names → IsPlain (understood register_schema text) → reads_listing register_schema text ≡ false → NeverReturns text
-    → ((k : K) → IsTaken (understood register_schema text) text (params k)) → ((k : K) → accepts_program register_schema [] (selects tree terms project order most) (params k) ≡ true)
+    → ((k : K) → IsOneStatement (understood register_schema text) text (params k)) → ((k : K) → accepts_program register_schema [] (selects tree terms project order most) (params k) ≡ true)
     → IsSelect text (selects tree terms project order most) names params
 select text tree terms project order most names params means plain unlisted never taken accepts = record {
   means = means;

@@ -8,7 +8,7 @@ use Rattle.sqlite_trees.specs.declared.store.Store.{Ghosts}
 use Rattle.sqlite.specs.Held.{Held, state}
 use Rattle.sqlite.specs.State.{State, HasCleanDisk}
 use Rattle.reg_core.specs.Records.{Records}
-use Rattle.reg_store_tables.specs.Failing.{HasFailed, IsAsked, ShowsWritten}
+use Rattle.reg_store_tables.specs.Failing.{HasFailed, FailsOnlyByLimit, ShowsWritten}
 use Rattle.reg_store_tables.specs.LookUps.{Finds, FindsIf, Queries, ReadsBy, ReadsOne, ReadsRow}
 use Rattle.reg_store_tables.specs.ReadStatements.{Answers}
 use Rattle.reg_store_tables.specs.Shows.{IsShownBy, Shows}
@@ -41,7 +41,7 @@ asked_with {g = g} {old = old} {new = new} {text = text} {result = result} {view
     subst (λ (p : Row). ReadsBy g old new text p result view Shown ShownWell) is reads
 
 module _ {C T W : Type 0} {g : Ghosts C} {old new : Held C} {text : List ℕ} {given params : Row} {result : Result T DatabaseFault} {view : T → W} {Shown ShownWell : State → List ℕ → Row → W → Type 0}
-    (reads : ReadsBy g old new text given result view Shown ShownWell) (is : given ≡ params) (asked : IsAsked text params) (wanted : Records → W)
+    (reads : ReadsBy g old new text given result view Shown ShownWell) (is : given ≡ params) (asked : FailsOnlyByLimit text params) (wanted : Records → W)
     (well : (records : Records) → ShowsWritten g old records → HasCleanDisk (state g old) → ShownWell (state g old) text params (wanted records)) where
   it : ReadsBy g old new text params result view Shown ShownWell
   it = asked_with reads is
@@ -152,11 +152,11 @@ module _ {C T U : Type 0} {g : Ghosts C} {a b : Held C} (fault : DatabaseFault) 
 
 -- and a query
 pub unasked : {C T U : Type 0} {g : Ghosts C} {a b : Held C} {text : List ℕ} {given params : Row} {rows : U → List Row} {May : Records → Type 0} {IsSo : Records → T → Type 0} (fault : DatabaseFault) (result : Result T DatabaseFault) → IsErrAnd result (λ told. told ≡ fault)
-    → Queries g a b text given (Err fault) rows → given ≡ params → IsAsked text params → FindsIf May g a b result IsSo
+    → Queries g a b text given (Err fault) rows → given ≡ params → FailsOnlyByLimit text params → FindsIf May g a b result IsSo
 unasked {g = g} {a = a} {text = text} fault result told asked is may_ask = record {
   looked = asked.looked;
   found = λ records shows clean. no_result _ result fault told;
-  fails = λ records may written clean. same_failure result fault told (asked.fails (subst (λ (p : Row). IsAsked text p) (sym is) may_ask) (written_register g a records written) clean);
+  fails = λ records may written clean. same_failure result fault told (asked.fails (subst (λ (p : Row). FailsOnlyByLimit text p) (sym is) may_ask) (written_register g a records written) clean);
 }
 
 -- and one that is to show a row, where it shows one at most

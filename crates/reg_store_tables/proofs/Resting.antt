@@ -11,7 +11,7 @@ use Rattle.reg_store_tables.specs.Kept.{Kept}
 use Rattle.reg_store_tables.specs.Schema.{register_schema}
 use Rattle.reg_store_tables.specs.Shows.{AreRecordsAndDerived}
 use Rattle.reg_store_tables.specs.Stays.{LeavesNothing}
-use Rattle.reg_store_tables.specs.AfterStop.{AreARegisters, ShowsDerivedAfterStop}
+use Rattle.reg_store_tables.specs.AfterStop.{HaveRegisterSchema, ShowsDerivedAfterStop}
 
 -- what a database shows its rows show
 pub resting : (db : Database) (trees : Trees) (records : Records) (columns : DerivedRows) → trees ≡ db.trees → AreRecordsAndDerived db records columns → AreRecordsAndDerived (record { schema = register_schema; trees = trees }) records columns
@@ -19,7 +19,7 @@ resting db trees records columns is both =
     subst (λ t. AreRecordsAndDerived (record { schema = register_schema; trees = t }) records columns) (sym is) (record { shown = record { schema = refl; rows = both.shown.rows }; kept = both.kept })
 
 -- and what it obeys they obey
-pub rests_sound : (db : Database) (trees : Trees) → trees ≡ db.trees → db.schema ≡ register_schema → IsDatabase db → AreARegisters trees
+pub rests_sound : (db : Database) (trees : Trees) → trees ≡ db.trees → db.schema ≡ register_schema → IsDatabase db → HaveRegisterSchema trees
 rests_sound db trees is schema sound = subst (λ t. IsSound register_schema t) (sym is) (subst (λ s. IsSound s db.trees) schema sound)
 
 -- what is kept stands for the records, and so they are at rest

@@ -13,10 +13,10 @@ AreRowsOf records columns trees =
     AreRecordsAndDerived (record { schema = register_schema; trees = trees }) records columns
 
 -- the rows include the list of a register's tables and indexes, and obey that schema
-abbrev pub AreARegisters : Trees → Type 0
-AreARegisters trees = IsSound register_schema trees
+abbrev pub HaveRegisterSchema : Trees → Type 0
+HaveRegisterSchema trees = IsSound register_schema trees
 
 -- as the rows of a register's tables, these show the records, with derived tables that match them; they include the list of its tables
 abbrev pub ShowsDerivedAfterStop : Records → Trees → Type 0
 ShowsDerivedAfterStop records trees =
-    (columns : DerivedRows) × AreRowsOf records columns trees × Kept columns records × AreARegisters trees
+    (columns : DerivedRows) × AreRowsOf records columns trees × Kept columns records × HaveRegisterSchema trees

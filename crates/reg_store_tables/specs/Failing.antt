@@ -40,12 +40,12 @@ pub record ShowsWritten {S : Type 0} (g : Ghosts S) (h : Held S) (records : Reco
   pub steps : AllByRecursion (λ step. IsMoment step.0) records.policy.schedule
 
 -- the text is one statement, with as many parameters as `params` has values
-abbrev pub IsTaken : Result Compiled CompileError → List ℕ → Row → Type 0
-IsTaken (Ok compiled) text params = (length text ≤ compiled.tail) × (length params ≡ length compiled.names)
-IsTaken (Err error) text params = ⊥
+abbrev pub IsOneStatement : Result Compiled CompileError → List ℕ → Row → Type 0
+IsOneStatement (Ok compiled) text params = (length text ≤ compiled.tail) × (length params ≡ length compiled.names)
+IsOneStatement (Err error) text params = ⊥
 
 -- over a register's tables, the text is one statement with as many parameters as these, and fails only by a limit on its steps
-pub record IsAsked (text : List ℕ) (params : Row) : Type 0 where
-  pub taken : IsTaken (understood register_schema text) text params
+pub record FailsOnlyByLimit (text : List ℕ) (params : Row) : Type 0 where
+  pub taken : IsOneStatement (understood register_schema text) text params
   pub never : (limit : Option ℕ) (db : Database) (error : Error) → db.schema ≡ register_schema
       → RefusesToRead limit (command_of (understood register_schema text)) db params error → IsSome limit

@@ -25,9 +25,9 @@ issuer_fault_of issuer.BadName = call.Store
 issuer_fault_of issuer.BadKey = call.Store
 
 -- the fault of a call if memory ran out, or a row has an invalid value
-abbrev pub unshown_fault_of : RowFault → DatabaseFault
-unshown_fault_of rows.Memory = call.Memory
-unshown_fault_of (rows.At place) = call.Store
+abbrev pub row_fault_of : RowFault → DatabaseFault
+row_fault_of rows.Memory = call.Memory
+row_fault_of (rows.At place) = call.Store
 
 -- the fault of a call on an open register, as one of the store
 abbrev pub store_fault_of : DatabaseFault → StoreFault

@@ -6,7 +6,7 @@ use Rattle.sqlite.specs.Held.{Held, state}
 use Rattle.sqlite.specs.State.{State, HasCleanDisk}
 use Rattle.reg_core.specs.Records.{Records}
 use Rattle.reg_core.specs.Sound.{SoundRows}
-use Rattle.reg_store_tables.specs.Failing.{FailsWith, IsAsked, ShowsWritten}
+use Rattle.reg_store_tables.specs.Failing.{FailsWith, FailsOnlyByLimit, ShowsWritten}
 use Rattle.reg_store_tables.specs.Kept.{ShowsKept}
 use Rattle.reg_store_tables.specs.ReadStatements.{Answers}
 use Rattle.reg_store_tables.specs.ShownRows.{ShowsRow, ShowsOneRow, ShowsOnly}
@@ -23,7 +23,7 @@ pub record Queries {C T : Type 0} (g : Ghosts C) (old new : Held C) (text : List
   pub looked : Looked g old new
   pub rows : IsRegister (state g old) → HasCleanDisk (state g new)
       → IfOk result (λ found. Answers (state g old) text params (view found))
-  pub fails : IsAsked text params → IsRegister (state g old)
+  pub fails : FailsOnlyByLimit text params → IsRegister (state g old)
       → FailsWith Store (state g old) (state g new) result
 
 -- A statement that reads: it changes nothing, and `view` of its result is the value that its rows show (`Shown`). If they show one by
@@ -37,7 +37,7 @@ pub record ReadsBy {C T W : Type 0} (g : Ghosts C) (old new : Held C) (text : Li
   pub found : (wanted : W) → IsRegister (state g old) → HasCleanDisk (state g new)
       → Shown (state g old) text params wanted
       → IfOk result (λ found. view found ≡ wanted)
-  pub fails : (wanted : W) → IsAsked text params → IsRegister (state g old)
+  pub fails : (wanted : W) → FailsOnlyByLimit text params → IsRegister (state g old)
       → ShownWell (state g old) text params wanted
       → FailsWith Store (state g old) (state g new) result
 

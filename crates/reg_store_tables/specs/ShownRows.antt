@@ -55,9 +55,9 @@ shown_number n = number n ∷ []
 abbrev pub shown_terms : ℕ × ℕ × ℕ → Row
 shown_terms terms = number terms.0 ∷ number terms.1 ∷ number terms.2 ∷ []
 
--- the last accepted moment, the issuer, and the life of OCSP answers
-abbrev pub shown_responding : ℕ → Issuer → ℕ → Row
-shown_responding last issuer life = number last ∷ Blob issuer.name ∷ Blob issuer.key ∷ number life ∷ []
+-- the last accepted moment, the issuer, and the life of OCSP responses
+abbrev pub shown_ocsp_head : ℕ → Issuer → ℕ → Row
+shown_ocsp_head last issuer life = number last ∷ Blob issuer.name ∷ Blob issuer.key ∷ number life ∷ []
 
 abbrev pub shown_counts : Counts → Row
 shown_counts counts = number counts.good ∷ number counts.revoked ∷ number counts.expired ∷ []

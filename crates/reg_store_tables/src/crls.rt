@@ -23,7 +23,7 @@ impl<S: Alter> Tables<S> {
         look_up::<S, CrlRow>(&mut self.connection, LATEST_CRL, &[])
     }
 
-    /// The DER of a CRL, by its number; `None` if there is no such CRL.
+    /// The DER of a CRL (RFC 5280 5.1), by its number (5.2.3); `None` if there is no such CRL.
     pub fn crl(&mut self, number: u64) -> Result<Option<Vec<u8>>, DatabaseFault>
         ensures { Finds S.Store self.old self.new result (λ records der.
             option_map (λ bytes. bytes.items) der

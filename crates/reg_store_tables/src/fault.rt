@@ -12,7 +12,7 @@ use std::alloc::{AllocError, AllocFailed};
 pub enum DatabaseFault {
     /// Out of memory.
     Memory,
-    /// The database failed, its rows are not those of a register, or a number is above 2^63 - 1, the greatest SQL INTEGER.
+    /// The database failed, its rows are not those of a register, a change does not fit them, or a number is above 2^63 - 1 (SQL's INTEGER).
     Store,
 }
 
@@ -25,7 +25,7 @@ pub enum StoreFault {
     Store,
     /// The database is not empty: it has a table, an index or a view.
     NotEmpty,
-    /// The schema, the version, the office or the schedule is not that of a register.
+    /// The schema, the row of `office` or the schedule is not that of a register of any version up to the program's.
     NotARegister,
     /// The version in the row of `office` is newer than the program's.
     NewVersion,
@@ -51,9 +51,9 @@ impl<T: Drop> From<AllocFailed<T>> for RowFault {
 }
 
 impl From<RowFault> for DatabaseFault {
-    ghost use Rattle.reg_store_tables.specs.Faults.{unshown_fault_of};
+    ghost use Rattle.reg_store_tables.specs.Faults.{row_fault_of};
 
-    ghost from_gives = { λ why fault. fault ≡ unshown_fault_of why };
+    ghost from_gives = { λ why fault. fault ≡ row_fault_of why };
 
     fn from(why: RowFault) -> DatabaseFault {
         match why {

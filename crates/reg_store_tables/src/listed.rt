@@ -51,7 +51,7 @@ fn entries_of(rows: &Vec<Row>) -> Result<Vec<Entry>, DatabaseFault>
 
 impl<S: Alter> Tables<S> {
     /// The entries of an issued CRL or of the next one, by its number, in ascending order of serial number: at most 1,000,000.
-    /// `Store` too if there are more, and for a number above 2^63 - 1. It scans the table `listed`.
+    /// `Store` too if there are more, and for a number above 2^63 - 1. The call scans the table `listed`.
     pub fn entries(&mut self, number: u64) -> Result<Vec<Entry>, DatabaseFault>
         ensures finds { FindsIf (λ _. number < 2 ^ 63) S.Store self.old self.new result (λ records found.
             ShowsKept S.Store self.old records → found.items ≡ entries records number) }
@@ -63,8 +63,8 @@ impl<S: Alter> Tables<S> {
         entries_of(&found)
     }
 
-    /// The numbers of the first CRL (perhaps the next one) and of the last CRL, if that has been issued, that list a revoked serial number.
-    /// `None` if the serial number is not revoked.
+    /// The number of the first CRL that lists a revoked serial number, which may not be issued yet, and that of the last one, if that has been
+    /// issued. `None` if the serial number is not revoked.
     pub fn listing(&mut self, serial: Serial) -> Result<Option<Listing>, DatabaseFault>
         ensures { Finds S.Store self.old self.new result (λ records found.
             ShowsKept S.Store self.old records → found ≡ listing records serial) }

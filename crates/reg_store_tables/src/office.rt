@@ -7,7 +7,7 @@ ghost use Rattle.reg_core.specs.Calendar.{clock_end};
 ghost use Rattle.reg_core.specs.Issuer.{Issuer as Kept};
 ghost use Rattle.reg_der.specs.Authority.{IsIssuer};
 ghost use Rattle.reg_store_tables.specs.LookUps.{Finds};
-ghost use Rattle.reg_store_tables.specs.ShownRows.{shown_responding};
+ghost use Rattle.reg_store_tables.specs.ShownRows.{shown_ocsp_head};
 
 use crate::fault::DatabaseFault;
 use crate::read_statements::{look_up_all, look_up_one, only, read};
@@ -28,28 +28,28 @@ impl<S: Alter> Tables<S> {
         look_up_one::<S, ClockMoment>(&mut self.connection, LAST, &[])
     }
 
-    /// The issuer.
+    /// The issuer: its Name (RFC 5280 5.1.2.3), the key identifiers that were set for it (5.2.1), and its public key.
     pub fn issuer(&mut self) -> Result<Issuer, DatabaseFault>
         ensures { Finds S.Store self.old self.new result (λ records issuer. issuer ≡ records.issuer) }
     {
         issuer(&mut self.connection)
     }
 
-    /// The policy.
+    /// The policy: the schedule of longest validities, the lives of CRLs and OCSP responses, and the cap (the most rows of a table).
     pub fn policy(&mut self) -> Result<Policy, DatabaseFault>
         ensures { Finds S.Store self.old self.new result (λ records policy. policy ≡ records.policy) }
     {
         policy(&mut self.connection)
     }
 
-    /// The last accepted moment, the issuer, and the life of OCSP answers in seconds, read by one statement.
+    /// The last accepted moment, the issuer, and the life of OCSP responses (thisUpdate to nextUpdate) in seconds, read by one statement.
     pub fn ocsp_head(&mut self) -> Result<(Moment, Issuer, u64), DatabaseFault>
         ensures finds { Finds S.Store self.old self.new result (λ records it.
             (it.0 ≡ records.last) × (it.1 ≡ records.issuer) × (it.2 ≡ records.policy.ocsp_life)) }
         ensures short { IfOk result (λ it. it.2 ≤ 863999) }
     {
         let found = read(&mut self.connection, OCSP_HEAD, &[])?;
-        responding_in(*found.allocator(), only(&found)?)
+        ocsp_head_in(*found.allocator(), only(&found)?)
     }
 }
 
@@ -89,10 +89,10 @@ pub fn issuer<S: Alter>(conn: &mut Connection<S>) -> Result<Issuer, DatabaseFaul
     issuer_of(&found)
 }
 
-fn responding_in(alloc: Global, row: &Row) -> Result<(Moment, Issuer, u64), DatabaseFault>
-    ensures read { (last life : ℕ) → (issuer : Kept) → row.now ≡ shown_responding last issuer life
+fn ocsp_head_in(alloc: Global, row: &Row) -> Result<(Moment, Issuer, u64), DatabaseFault>
+    ensures read { (last life : ℕ) → (issuer : Kept) → row.now ≡ shown_ocsp_head last issuer life
         → IfOk result (λ it. (it.0 ≡ last) × (it.1 ≡ issuer) × (it.2 ≡ life)) }
-    ensures has { (last life : ℕ) → (issuer : Kept) → row.now ≡ shown_responding last issuer life
+    ensures has { (last life : ℕ) → (issuer : Kept) → row.now ≡ shown_ocsp_head last issuer life
         → last < clock_end
         → IsIssuer issuer → life ≤ 863999 → IfErr result (λ fault. fault ≡ DatabaseFault.Memory) }
     ensures short { IfOk result (λ it. it.2 ≤ 863999) }
@@ -106,7 +106,7 @@ fn responding_in(alloc: Global, row: &Row) -> Result<(Moment, Issuer, u64), Data
     }
 }
 
-/// The lives of CRLs and of OCSP responses in seconds, and the cap (the most rows of a table).
+/// The lives of CRLs and of OCSP responses in seconds, and the cap.
 fn terms<S: Alter>(conn: &mut Connection<S>) -> Result<(u64, u64, u64), DatabaseFault>
     ensures { Finds S.Store conn.old conn.new result (λ records terms.
         (terms.0 ≡ records.policy.crl_life) × (terms.1 ≡ records.policy.ocsp_life)

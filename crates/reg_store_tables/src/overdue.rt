@@ -87,8 +87,8 @@ impl<S: Alter> Tables<S> {
         Ok(is_good && is_past)
     }
 
-    /// How many requests are overdue at a moment, and the least id of them; `None` if there are none. It scans the table `request`, and looks up the
-    /// certificate and the revocation of each request that is not declined.
+    /// How many requests are overdue at a moment, and the least id of them; `None` if there are none. The call scans the table `request`, and
+    /// looks up the certificate and the revocation of each request that is not declined.
     pub fn open_past_due(&mut self, now: Moment) -> Result<Option<Overdue>, DatabaseFault>
         ensures { Finds S.Store self.old self.new result (λ records report.
             report ≡ overdue_report (overdue records now)) }
@@ -103,8 +103,8 @@ impl<S: Alter> Tables<S> {
         Ok(report)
     }
 
-    /// How many requests are open at a moment. It scans the table `request`, and looks up the certificate and the revocation of each request that
-    /// is not declined.
+    /// How many requests are open at a moment. The call scans the table `request`, and looks up the certificate and the revocation of each
+    /// request that is not declined.
     pub fn open_count(&mut self, now: Moment) -> Result<u64, DatabaseFault>
         ensures { Finds S.Store self.old self.new result (λ records count.
             count ≡ length (filter (is_open records now) records.requests)) }
@@ -119,8 +119,8 @@ impl<S: Alter> Tables<S> {
         Ok(count)
     }
 
-    /// How many requests for a serial number are open at a moment, counted up to `most`. If the certificate is good, it scans the table
-    /// `request` back from its last row, until `most` are found. `Store` too for a `most` above 2^63 - 1.
+    /// How many requests for a serial number are open at a moment, counted up to `most`. If the certificate is good, the call scans the table
+    /// `request` back from its last row, until `most` are found; then `Store` too for a `most` above 2^63 - 1.
     pub fn open_of(&mut self, serial: Serial, now: Moment, most: u64) -> Result<u64, DatabaseFault>
         ensures { FindsIf (λ _. most < 2 ^ 63) S.Store self.old self.new result (λ records count.
             count ≡ min most (length

@@ -29,7 +29,7 @@ impl<S: Alter> Tables<S> {
         )
     }
 
-    /// The moment of the earliest revocation whose first CRL has not been issued yet. It scans the table `revocation`.
+    /// The moment of the earliest revocation whose first CRL has not been issued yet. The call scans the table `revocation`.
     pub fn earliest_unlisted(&mut self) -> Result<Option<Moment>, DatabaseFault>
         ensures { Finds S.Store self.old self.new result (λ records at. at ≡ earliest (unlisted records)) }
     {

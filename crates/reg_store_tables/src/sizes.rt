@@ -14,7 +14,7 @@ use crate::sql::{LAST_CERT, LAST_CRL, LAST_ORDER, LAST_REQUEST, LAST_SUBSCRIBER}
 use crate::tables::Tables;
 use sqlite::{Alter, Connection};
 
-/// The tables of the records whose rows are compared with the policy's cap. There are no more revocations than certificates.
+/// The tables whose rows are compared with the policy's cap. `revocation` is not among them: it has no more rows than `cert`.
 #[derive(Clone, Copy, PartialEq, Eq)]
 pub enum Table {
     Subscribers,
@@ -38,7 +38,7 @@ fn last_row(table: Table) -> &'static str
 }
 
 impl<S: Alter> Tables<S> {
-    /// How many rows a table has. It reads only the last row.
+    /// How many rows a table has. The call reads only the last row.
     pub fn held(&mut self, table: Table) -> Result<u64, DatabaseFault>
         ensures { Finds S.Store self.old self.new result (λ records rows. rows ≡ rows_of records table) }
     {
@@ -55,7 +55,7 @@ pub(crate) fn held<S: Alter>(conn: &mut Connection<S>, table: Table) -> Result<u
     Ok(last.unwrap_or(0))
 }
 
-/// The look-up of a number above 2^63 - 1, which SQL doesn't have. It finds nothing, since the number of the last row is lower.
+/// The look-up of a number above 2^63 - 1, the greatest SQL INTEGER. It finds nothing, since the number of the last row is lower.
 pub(crate) fn none_above_range<S: Alter, T>(
     conn: &mut Connection<S>,
     table: Table,

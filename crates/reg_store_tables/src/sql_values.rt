@@ -1,5 +1,5 @@
-//! Reads the columns of a row, counted from 0, as values of the register. Clause `read`: a value that a register writes is read back. Clause
-//! `told`: a value that is read is the column's. The result is `None` if the column has another type or an invalid value.
+//! Converts numbers to SQL INTEGERs, and reads the columns of a row, counted from 0, as values of the register; `None` for a column of another
+//! type or with an invalid value. Clause `read`: a value that a register writes is read back. Clause `told`: the column has the value that is read.
 
 ghost use Rattle.std.specs.Prelude.{◌≡◌, ◌≢◌, ◌<◌, ◌≤◌, ◌^◌, ℕ, Bool, List, Option, cond, length, Some, OnOk, IfOk, IfErr, IfSome, IsSomeAnd, MatchOption};
 ghost use Rattle.sqlite_value.specs.declared.value.Value.TheVariants.{Text, Blob};
@@ -25,7 +25,7 @@ pub(crate) fn sql_key(n: u64) -> Option<Value>
     }
 }
 
-/// The longest life of a CRL or an OCSP answer, in seconds: one second less than ten days.
+/// The longest life of a CRL or an OCSP response, from thisUpdate to nextUpdate, in seconds: one second less than ten days.
 const LONGEST_LIFE: u64 = 863_999;
 
 /// As [`sql_key`], with `Store` for `None`.

@@ -1,4 +1,4 @@
-//! The counts of certificates by their status, from the derived table `kept`.
+//! The counts of certificates by their status, from the derived tables `kept` and `standing`.
 
 ghost use Rattle.std.specs.Prelude.{◌≡◌, ◌≤◌, length, filter, IsTrue};
 ghost use Rattle.sqlite.specs.Held.{state};
@@ -19,7 +19,7 @@ use reg_core::{Counts, Moment};
 use sqlite::{Alter, Connection, params};
 
 impl<S: Alter> Tables<S> {
-    /// How many registered certificates are good, revoked and expired at a moment. Before the last accepted one the result is unspecified.
+    /// How many registered certificates are good, revoked and expired at a moment; unspecified for a moment before the last accepted one.
     pub fn counts(&mut self, now: Moment) -> Result<Counts, DatabaseFault>
         ensures { Finds S.Store self.old self.new result (λ records found.
             ShowsKept S.Store self.old records → SoundRows records → records.last ≤ now
@@ -35,7 +35,7 @@ impl<S: Alter> Tables<S> {
     }
 }
 
-/// The counts in the table `kept`, as of the last accepted moment. It reads one row. Errors: those of the methods of [`Tables`].
+/// The counts in the table `kept`, as of the last accepted moment. The call reads one row. Errors: those of the methods of [`Tables`].
 pub fn stored_counts_at_last<S: Alter>(conn: &mut Connection<S>) -> Result<Counts, DatabaseFault>
     ensures { Finds S.Store conn.old conn.new result (λ records counts.
         (kept : DerivedRows) → ShowsBoth S.Store conn.old records kept → counts ≡ kept.counts) }

@@ -68,7 +68,7 @@ pub fn sql_ground(ground: Ground) -> ValueRef<'static>
     })
 }
 
-/// Runs a statement inside the transaction, and returns how many rows it wrote. `Store` if the database fails or refuses a row.
+/// Runs a statement inside the transaction, and returns how many rows it wrote. Errors: `Memory`; `Store` if the database fails or refuses a row.
 pub fn write<S: Alter>(
     tx: &mut Transaction<'_, S>,
     sql: &str,
@@ -81,14 +81,14 @@ pub fn write<S: Alter>(
     Ok(tx.execute(sql, params)?)
 }
 
-/// Commits the transaction. If that fails, the transaction is rolled back, unless the disk failed.
+/// Commits the transaction. Errors: `Memory`; `Store` if the database fails. After an error the transaction is rolled back, unless the disk failed.
 pub fn commit<S: Alter>(tx: Transaction<'_, S>) -> Result<(), DatabaseFault>
     ensures { Ends S.Store tx.entry.conn.now tx.exit.0.now result }
 {
     Ok(tx.commit()?)
 }
 
-/// Sets the counts in the table `kept`. `Store` too for a count above 2^63 - 1.
+/// Sets the counts in the table `kept`. Errors: those of [`write`]; `Store` too for a count above 2^63 - 1.
 pub fn set_counts<S: Alter>(
     tx: &mut Transaction<'_, S>,
     counts: Counts,

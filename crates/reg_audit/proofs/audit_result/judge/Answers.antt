@@ -45,28 +45,28 @@ returns g c =
     let clean_first = c.examine.ensures.survives.clean in
     let first = c.examine.ensures.same in
     let looked = c.audit.ensures.looked in
-    let told = c.said.ensures.is in
+    let told = c.audit_result_or_fault.ensures.is in
     let register = stays_register (state s old) (state s mid) clean_first first (register_by (state s old) is.schema is.saved) in
     record {
       sound = λ records columns shows clean.
-          sound_said _ c.audit.result c.said.result told (c.audit.ensures.sound records columns (stays_both s old mid records columns clean_first first shows) clean);
+          sound_said _ c.audit.result c.audit_result_or_fault.result told (c.audit.ensures.sound records columns (stays_both s old mid records columns clean_first first shows) clean);
       shown = λ up presumed clean.
           let mid_clean : HasCleanDisk (state s mid) = omega (arith, looked.survives.clean) in
           let old_clean : HasCleanDisk (state s old) = omega (arith, clean_first) in
           let tables = tables_are s old (g.met.S.Store.ordered old.store) (g.met.S.Alter.listed old.store) is presumed (up old_clean) in
           let there = stays_holds s old mid (λ now. now ≡ db) clean_first first (record { saved = λ was still. is.saved still; tables = λ was still. refl }) in
-          sound_said (ShowsSound db) c.audit.result c.said.result told (c.audit.ensures.shown db there tables clean);
+          sound_said (ShowsSound db) c.audit.result c.audit_result_or_fault.result told (c.audit.ensures.shown db there tables clean);
       counted = λ records columns shows clean.
-          counted_said records c.audit.result c.said.result told (c.audit.ensures.counted records columns (stays_both s old mid records columns clean_first first shows) clean);
+          counted_said records c.audit.result c.audit_result_or_fault.result told (c.audit.ensures.counted records columns (stays_both s old mid records columns clean_first first shows) clean);
       broken = λ records columns shows clean.
-          denied_said records columns c.audit.result c.said.result told (c.audit.ensures.broken records columns (stays_both s old mid records columns clean_first first shows) clean);
+          denied_said records columns c.audit.result c.audit_result_or_fault.result told (c.audit.ensures.broken records columns (stays_both s old mid records columns clean_first first shows) clean);
       tells = λ clean.
           let mid_clean : HasCleanDisk (state s mid) = omega (arith, looked.survives.clean) in
-          tells_said db c.audit.result c.said.result told (says_third db c.in_ok-older.older third (c.in_ok-older.ensures.ok mid_clean), is.schema);
+          tells_said db c.audit.result c.audit_result_or_fault.result told (says_third db c.in_ok-older.older third (c.in_ok-older.ensures.ok mid_clean), is.schema);
       newer = λ clean e. never_newer c.audit.result (sym told ∙ e);
       none = λ clean e. never_none c.audit.result (sym told ∙ e);
-      register = always_said _ c.said.result (stays_register (state s mid) (state s new) looked.survives.clean (looked.same register) register);
+      register = always_said _ c.audit_result_or_fault.result (stays_register (state s mid) (state s new) looked.survives.clean (looked.same register) register);
       same = stays_then (state s old) (state s mid) (state s new) looked.survives.clean first (looked.same register);
       idle = looked.idle c.examine.ensures.idle;
-      faults = c.said.ensures.faults;
+      faults = c.audit_result_or_fault.ensures.faults;
     }

@@ -13,12 +13,12 @@ pub returns-in-ToLimits-clause-moves : goal.returns-in-ToLimits-clause-moves
 returns-in-ToLimits-clause-moves g c =
     let to = ap (dispatch c.args.is_open) (sym c.requires) ∙ sym c.dispatch_of.ensures ∙ c.in-ToLimits.is in
     follows g.M.Office.Office.is_clean g.M.Office.Office.stands
-    (λ signatory before after. BeginsAdmitted c.args.admission.now g.M.Office.Office.signs c.args.now signatory before
+    (λ signers before after. BeginsAdmitted c.args.admission.now g.M.Office.Office.signs c.args.now signers before
     (asked c.args.method.now c.args.target.now c.args.body.now) c.begin_admitted.result after)
-    (λ signatory before after. BeginsAt c.args.is_open g.M.Office.Office.signs c.args.now c.args.admission.now signatory before c.args.method.now c.args.target.now c.args.body.now
+    (λ signers before after. BeginsAt c.args.is_open g.M.Office.Office.signs c.args.now c.args.admission.now signers before c.args.method.now c.args.target.now c.args.body.now
     c.begin_admitted.result after)
-    (λ signatory before after begun.
-    limited_begins c.args.admission.now c.args.is_open g.M.Office.Office.signs c.args.now signatory before c.args.method.now c.args.target.now c.args.body.now
+    (λ signers before after begun.
+    limited_begins c.args.admission.now c.args.is_open g.M.Office.Office.signs c.args.now signers before c.args.method.now c.args.target.now c.args.body.now
     c.begin_admitted.result after to begun)
     _
     _

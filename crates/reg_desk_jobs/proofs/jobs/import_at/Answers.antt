@@ -18,7 +18,7 @@ returns-then-refuses_import g c = inl (
       last = c.refuses_import.new.office;
       between = c.open_unsigned.new.machine;
       opened = rw c.as_str-path.ensures at c.in_ok-office.ensures.ok;
-      moves = follows g.M.Office.Office.is_clean g.M.Office.Office.stands _ _ (λ signatory before after seen. (seen.0 c.if-refuses_import.true, seen.1)) _ _
+      moves = follows g.M.Office.Office.is_clean g.M.Office.Office.stands _ _ (λ signers before after seen. (seen.0 c.if-refuses_import.true, seen.1)) _ _
           c.refuses_import.ensures.looks;
       closed = rw c.as_str-path.ensures at c.close.ensures;
     },
@@ -35,7 +35,7 @@ returns-then-rows g c = rw c.if-rows.true (inr (inr (
     between = c.open_unsigned.new.machine;
     opened = rw c.as_str-path.ensures at c.in_ok-office.ensures.ok;
     moves = still_then g.M.Office.Office.is_clean g.M.Office.Office.stands _ _ _ _
-        (follows g.M.Office.Office.is_clean g.M.Office.Office.stands _ (λ signatory before after. after ≡ before) (λ signatory before after seen. seen.1) _ _ c.refuses_import.ensures.looks)
+        (follows g.M.Office.Office.is_clean g.M.Office.Office.stands _ (λ signers before after. after ≡ before) (λ signers before after seen. seen.1) _ _ c.refuses_import.ensures.looks)
         c.import_strict_rows-imported.ensures;
     closed = rw c.as_str-path.ensures at c.close-then-rows.ensures;
   },
@@ -51,7 +51,7 @@ returns g c = rw c.if-rows.false (inr (inr (
     between = c.open_unsigned.new.machine;
     opened = rw c.as_str-path.ensures at c.in_ok-office.ensures.ok;
     moves = still_then g.M.Office.Office.is_clean g.M.Office.Office.stands _ _ _ _
-        (follows g.M.Office.Office.is_clean g.M.Office.Office.stands _ (λ signatory before after. after ≡ before) (λ signatory before after seen. seen.1) _ _ c.refuses_import.ensures.looks)
+        (follows g.M.Office.Office.is_clean g.M.Office.Office.stands _ (λ signers before after. after ≡ before) (λ signers before after seen. seen.1) _ _ c.refuses_import.ensures.looks)
         c.import-imported.ensures.ends;
     closed = rw c.as_str-path.ensures at c.close-2.ensures;
   },

@@ -18,7 +18,7 @@ returns-then-refuses_clock g c = inl (
     last = c.refuses_clock.new.office;
     between = c.open_signed.new.machine;
     opened = rw c.as_str-path.ensures at c.in_ok-office.ensures.ok;
-    moves = follows g.M.Office.Office.is_clean g.M.Office.Office.stands _ _ (λ signatory before after seen. (seen.0 c.if-refuses_clock.true, seen.1)) _ _
+    moves = follows g.M.Office.Office.is_clean g.M.Office.Office.stands _ _ (λ signers before after seen. (seen.0 c.if-refuses_clock.true, seen.1)) _ _
         c.refuses_clock.ensures;
     closed = rw c.as_str-path.ensures at c.close.ensures;
   },
@@ -34,7 +34,7 @@ returns g c = inr (inr (
     between = c.open_signed.new.machine;
     opened = rw c.as_str-path.ensures at c.in_ok-office.ensures.ok;
     moves = still_then g.M.Office.Office.is_clean g.M.Office.Office.stands _ _ _ _
-        (follows g.M.Office.Office.is_clean g.M.Office.Office.stands _ (λ signatory before after. after ≡ before) (λ signatory before after seen. seen.1) _ _ c.refuses_clock.ensures)
+        (follows g.M.Office.Office.is_clean g.M.Office.Office.stands _ (λ signers before after. after ≡ before) (λ signers before after seen. seen.1) _ _ c.refuses_clock.ensures)
         (then_still g.M.Office.Office.is_clean g.M.Office.Office.stands _ _ _ _ c.run_over-ran.ensures c.keep_reason.ensures);
     closed = rw c.as_str-path.ensures at c.close-2.ensures;
   },

@@ -13,7 +13,7 @@ returns-in-Err g c = (
   [],
   [],
   follows g.M.Office.Office.is_clean g.M.Office.Office.stands _ _
-      (λ signatory before after same. (first_admission, ap (λ (records : Records). (records, first_admission)) same)) _ _
+      (λ signers before after same. (first_admission, ap (λ (records : Records). (records, first_admission)) same)) _ _
       (stays g.M.Office.Office.is_clean g.M.Office.Office.stands _ _ refl),
   inl (unbound c.in-Err.why c.in-Err.ensures.err, refl),
 )
@@ -25,7 +25,7 @@ returns g c =
       ran.1,
       desk_moves
           (λ desk. g.M.Office.Office.is_clean desk.office)
-          (λ signatory desk records. g.M.Office.Office.stands signatory desk.office records)
+          (λ signers desk records. g.M.Office.Office.stands signers desk.office records)
           (λ desk. desk.is_open)
           (λ desk. desk.admission)
           g.M.Office.Office.signs

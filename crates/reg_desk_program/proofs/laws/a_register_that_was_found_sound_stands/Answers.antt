@@ -21,7 +21,7 @@ returns g c = λ found.
     record {
       shown = some;
       counted = says.counted some.records some.columns (by_connection found some.records some.columns some.both) found.clean;
-      stand = λ records columns shown register signatory opens since reached signed.
+      stand = λ records columns shown register signers opens since reached signed.
           let opened = opens.opened in
           let it = says.sound records columns (by_connection found records columns shown) found.clean found.sound in
           let there = subst (λ db. AreRecordsAndDerived db records columns) (sym opens.same) shown in

@@ -16,6 +16,6 @@ returns g c = record {
   );
   call = only_itself over_files g.S.Signer.signs;
   calls = one_of_them over_files g.S.Signer.signs;
-  leaves = λ office signatory records interrupted stands.
-      opens_told over_files g.S.Signer.signs office.0 signatory.crls records interrupted stands.1.sound stands.2;
+  leaves = λ office signers records interrupted stands.
+      opens_told over_files g.S.Signer.signs office.0 signers.crls records interrupted stands.1.sound stands.2;
 }

@@ -6,7 +6,7 @@ use Rattle.reg_desk_program.proofs.laws.without_a_key_only_digests_are_made.Goal
 pub returns : goal.returns
 returns g c = record {
   algorithm = refl;
-  seals = λ message signature signed. elim signed [
+  signature_is_sha1 = λ message signature signed. elim signed [
     | inl has_placeholder_digest ↦ has_placeholder_digest.1
     | inr keyed ↦ absurd (no_key keyed.1.algorithm keyed.1.named)
   ];

@@ -2,7 +2,7 @@ use Rattle.std.proofs.Common.{None, ap, inr}
 use Rattle.reg_desk_jobs.specs.Digest.{digest_alone}
 use Rattle.reg_desk_jobs.specs.Sample.{sample_records}
 use Rattle.reg_crl_signer.specs.KeyOrDigestSignatures.{digest}
-use Rattle.reg_office.specs.Answering.{signatory_of}
+use Rattle.reg_office.specs.Answering.{signers_of}
 use Rattle.reg_desk_program.proofs.Clean.{always_clean}
 use Rattle.reg_desk_program.proofs.memory.script_in_memory.Goals as goal
 
@@ -10,6 +10,6 @@ pub returns : goal.returns
 returns g c =
     let fresh = c.in_ok-fresh.ensures in
     let clean = always_clean c.run_script.new.office.store in
-    let alone = ap (signatory_of (λ seal. digest) digest) fresh.alone in
+    let alone = ap (signers_of (λ seal. digest) digest) fresh.alone in
     let (after, ran, stands) = c.run_script.ensures.ends.1 digest_alone sample_records (None, (alone, fresh.ok, fresh.leaves)) clean in
     inr (c.run_script.result, c.ended.ensures, (after, ran))

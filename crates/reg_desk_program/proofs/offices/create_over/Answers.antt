@@ -9,14 +9,14 @@ pub returns-in-Ok-clause-made : goal.returns-in-Ok-clause-made
 returns-in-Ok-clause-made g c =
     let store = g.C.Store in
     let signs = g.S.Signer.signs in
-    let signatory = g.S.Signer.identity c.new.result.signer in
+    let signers = g.S.Signer.identity c.new.result.signer in
     let records = no_records c.args.issuer c.args.policy in
     let made = c.in-Ok.ensures.creates in
-    subst (λ held. MakesOver store c.args.connection signs held signatory records) (sym c.new.ensures.store) (record {
-      stands = record { shown = made.kept; sound = created_sound_for signs signatory c.args.issuer c.args.policy };
+    subst (λ held. MakesOver store c.args.connection signs held signers records) (sym c.new.ensures.store) (record {
+      stands = record { shown = made.kept; sound = created_sound_for signs signers c.args.issuer c.args.policy };
       leaves = λ whole.
           leaves_made store c.args.connection c.in-Ok.store records _ (λ held trees is_open leaves. g.met.C.Store.settled held.store trees is_open leaves)
-          whole made.survives signs signatory made.empty (λ trees created. created.1);
+          whole made.survives signs signers made.empty (λ trees created. created.1);
       empty = made.empty;
       clean = made.survives.clean;
     })

@@ -10,8 +10,8 @@ pub returns-in-Ok-clause-ends : goal.returns-in-Ok-clause-ends
 returns-in-Ok-clause-ends g c =
     rw c.in-Valid.is
     (follows g.O.Office.is_clean g.O.Office.stands _ _
-    (λ signatory before after made. (
-      reply_ends (Runs g.O.Office.signs signatory) Asks (AnswersOcsp g.O.Office.signs signatory) GivesCrl c.args.now before after
+    (λ signers before after made. (
+      reply_ends (Runs g.O.Office.signs signers) Asks (AnswersOcsp g.O.Office.signs signers) GivesCrl c.args.now before after
           c.in-Valid.method (string_bytes c.in-Valid.target) c.in-Valid.body.items (shown c.in-Ok.answer) _ _ c.send.result
           made.0 c.send.ensures.ok c.send.ensures.err,
       made.1,

@@ -1,16 +1,16 @@
 use Rattle.reg_office_api.specs.CallSteps.{Runs, Asks, AnswersOcsp, GivesCrl}
 use Rattle.reg_office_api.specs.Calls.{RunsIn, AsksIn, AnswersOcspIn, GivesCrlIn}
 use Rattle.reg_office_api.proofs.PublicLaws.{follows}
-use Rattle.reg_http_head.specs.Frame.{part_of}
+use Rattle.reg_http_head.specs.Frame.{request_meaning}
 use Rattle.reg_http.proofs.Replying.{serving_ends}
 use Rattle.reg_http.proofs.serve.serve_one.Goals as goal
 
 pub returns-in-Ok-read_request-clause-ends : goal.returns-in-Ok-read_request-clause-ends
 returns-in-Ok-read_request-clause-ends g c =
     follows g.O.Office.is_clean g.O.Office.stands _ _
-    (λ signatory before after made. (
-      serving_ends (Runs g.O.Office.signs signatory) Asks (AnswersOcsp g.O.Office.signs signatory) GivesCrl c.args.now before after
-          (part_of c.in-Ok-read_request.request) _ _ _ _ c.reply.result c.in-Ok-read_request.ensures.ok made.0,
+    (λ signers before after made. (
+      serving_ends (Runs g.O.Office.signs signers) Asks (AnswersOcsp g.O.Office.signs signers) GivesCrl c.args.now before after
+          (request_meaning c.in-Ok-read_request.request) _ _ _ _ c.reply.result c.in-Ok-read_request.ensures.ok made.0,
       made.1,
     ))
     _ _ c.reply.ensures.ends
@@ -18,4 +18,4 @@ returns-in-Ok-read_request-clause-ends g c =
 pub returns-in-Ok-read_request-clause-calls : goal.returns-in-Ok-read_request-clause-calls
 returns-in-Ok-read_request-clause-calls g c =
     serving_ends (RunsIn g.O.Office) (AsksIn g.O.Office) (AnswersOcspIn g.O.Office) (GivesCrlIn g.O.Office) c.args.now c.args.office.now c.reply.new.office
-    (part_of c.in-Ok-read_request.request) _ _ _ _ c.reply.result c.in-Ok-read_request.ensures.ok c.reply.ensures.calls
+    (request_meaning c.in-Ok-read_request.request) _ _ _ _ c.reply.result c.in-Ok-read_request.ensures.ok c.reply.ensures.calls

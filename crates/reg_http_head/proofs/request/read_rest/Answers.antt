@@ -1,7 +1,7 @@
 use Rattle.std.proofs.Common.{◌++◌, [], sym, subst, inl, inr, arith}
 use Rattle.std.proofs.KnownBytes.{Consumes-nil}
 use Rattle.std.proofs.lemmas.Result.{IfOk-weaker}
-use Rattle.reg_http_head.specs.Frame.{Part, Framed}
+use Rattle.reg_http_head.specs.Frame.{RequestMeaning, Framed}
 use Rattle.reg_http_head.proofs.FrameLemmas.{asks_from, unfinished_from, refused_from}
 use Rattle.reg_http_head.proofs.request.read_rest.Goals as goal
 
@@ -11,7 +11,7 @@ returns-in-Ok-read_body-clause-ok g c =
     let (took, consumed, few, long, body_is) = c.in-Ok-read_body.ensures.ok in
     let most = c.in-Ok.ensures.small in
     let asks = asks_from c.args.buffered.now took _ c.args.end c.in-Ok.head.size h _ _ c.requires.head stands.reads stands.method_is stands.target_is stands.size_is long body_is in
-    let P : Part → Type 0 = λ part. Framed (c.args.buffered.now ++ took) part in
+    let P : RequestMeaning → Type 0 = λ part. Framed (c.args.buffered.now ++ took) part in
     IfOk-weaker c.owned.result _ _ (λ request is. (took, consumed, omega (arith, few, most), subst P (sym is) asks)) c.owned.ensures.ok
 
 pub returns-in-Err-read_body-clause-err : goal.returns-in-Err-read_body-clause-err

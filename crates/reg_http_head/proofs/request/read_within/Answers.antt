@@ -1,7 +1,7 @@
 use Rattle.std.proofs.Common.{◌≡◌, ℕ, List, ◌++◌, ◌≤◌, length, subst, refl, inl, inr, arith, length-append}
 use Rattle.std.proofs.KnownBytes.{Consumes-trans}
 use Rattle.std.proofs.lemmas.Result.{IfOk-weaker, IfErr-weaker}
-use Rattle.reg_http_head.specs.Frame.{Framed, part_of, IsUnfinished}
+use Rattle.reg_http_head.specs.Frame.{Framed, request_meaning, IsUnfinished}
 use Rattle.reg_http_head.proofs.FrameLemmas.{taken_at_mark, head_at_mark, too_long_at_full, unfinished_at_end, unfinished_at_fault}
 use Rattle.reg_http_head.proofs.request.read_within.Goals as goal
 
@@ -21,7 +21,7 @@ returns-in-Ok-Delimiter-clause-ok g c =
       to.took ++ more.0,
       Consumes-trans _ _ _ _ _ to.fills.consumed more.1,
       omega (arith, length-append to.took more.0, few, more.2),
-      (let P : List ℕ → Type 0 = λ bytes. Framed (bytes ++ more.0) (part_of request) in subst P same more.3),
+      (let P : List ℕ → Type 0 = λ bytes. Framed (bytes ++ more.0) (request_meaning request) in subst P same more.3),
     ))
     c.read_rest.ensures.ok
 

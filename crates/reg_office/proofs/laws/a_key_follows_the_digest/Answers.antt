@@ -1,4 +1,4 @@
--- What the digest sealed is older than the next CRL.
+-- Each CRL with the placeholder digest is older than the next CRL.
 use Rattle.reg_office.proofs.Following.{follows_seal}
 use Rattle.reg_office.proofs.laws.a_key_follows_the_digest.Goals as goal
 

@@ -4,7 +4,7 @@ use Rattle.reg_core.specs.Checks.{clock_checks, first_refusal}
 use Rattle.reg_ocsp.specs.Response.{refusal_response}
 use Rattle.reg_ocsp.specs.Views.{ids_model}
 use Rattle.reg_ocsp.specs.declared.response.RefusalStatus.TheVariants as status
-use Rattle.reg_office_api.specs.Ocsp.{HasNoReading}
+use Rattle.reg_office_api.specs.Ocsp.{IsNoOcspRequest}
 use Rattle.reg_office_api.specs.declared.response.ResponseKind.TheVariants.{Malformed, TryLater, StoreFailure}
 use Rattle.reg_office.specs.Answering.{responder_named}
 use Rattle.reg_store_tables.proofs.PublicLaws.{by_none, looked_none, so}
@@ -45,7 +45,7 @@ returns-in-Err-Clock-clause-looks g c =
 
 pub returns-in-Err-Clock-clause-refuses : goal.returns-in-Err-Clock-clause-refuses
 returns-in-Err-Clock-clause-refuses g c =
-    let read : ¬ (HasNoReading c.args.request.now) = λ unread. unread (ids_model c.in-Ok.asked.ids.items) (option_copied c.in-Ok.asked.nonce) c.in-Ok.ensures.found in
+    let read : ¬ (IsNoOcspRequest c.args.request.now) = λ unread. unread (ids_model c.in-Ok.asked.ids.items) (option_copied c.in-Ok.asked.nonce) c.in-Ok.ensures.found in
     ready_refuses c.args.request.now TryLater _ c.refused-in-Err-Clock.result (no_malformed c.args.request.now _ read try_later_apart) (λ failed. absurd (late_apart failed)) c.refused-in-Err-Clock.ensures
 
 pub returns-in-Err-Clock-clause-counts : goal.returns-in-Err-Clock-clause-counts
@@ -59,7 +59,7 @@ returns-in-Err-Store-clause-looks g c =
 
 pub returns-in-Err-Store-clause-refuses : goal.returns-in-Err-Store-clause-refuses
 returns-in-Err-Store-clause-refuses g c =
-    let read : ¬ (HasNoReading c.args.request.now) = λ unread. unread (ids_model c.in-Ok.asked.ids.items) (option_copied c.in-Ok.asked.nonce) c.in-Ok.ensures.found in
+    let read : ¬ (IsNoOcspRequest c.args.request.now) = λ unread. unread (ids_model c.in-Ok.asked.ids.items) (option_copied c.in-Ok.asked.nonce) c.in-Ok.ensures.found in
     ready_refuses c.args.request.now StoreFailure _ c.refused-in-Err-Store.result (no_malformed c.args.request.now _ read internal_apart) (λ failed. refl) c.refused-in-Err-Store.ensures
 
 pub returns-in-Err-Store-clause-counts : goal.returns-in-Err-Store-clause-counts

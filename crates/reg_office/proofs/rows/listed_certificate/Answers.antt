@@ -18,4 +18,4 @@ pub returns : goal.returns
 returns g c =
     so (and_so (and_so (by_finding c.in_ok-revocation.ensures) c.in_ok-subscriber.ensures) c.in_ok-listing.ensures)
     (λ records sound it.
-    line_is records c.args.now c.args.certificate c.certificate_line_from.result c.in_ok-revocation.revocation c.in_ok-subscriber.subscriber c.in_ok-listing.listing c.certificate_line_from.ensures it.0.1 (it.1 it.0.0) it.0.0)
+    line_is records c.args.now c.args.certificate c.listed_certificate_from.result c.in_ok-revocation.revocation c.in_ok-subscriber.subscriber c.in_ok-listing.listing c.listed_certificate_from.ensures it.0.1 (it.1 it.0.0) it.0.0)

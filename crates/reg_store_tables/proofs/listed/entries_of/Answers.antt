@@ -1,6 +1,6 @@
 use Rattle.std.proofs.Common.{◌≡◌, ◌∙◌, length, refl, sym, ap, subst, arith, rules}
 use Rattle.reg_core.specs.Crls.{EntriesAscend}
-use Rattle.reg_store_tables.specs.Faults.{unshown_fault_of}
+use Rattle.reg_store_tables.specs.Faults.{row_fault_of}
 use Rattle.reg_store_tables.specs.declared.fault.DatabaseFault.TheVariants.{Memory}
 use Rattle.reg_store_tables.proofs.listed.entries_of.Goals as goal
 
@@ -15,7 +15,7 @@ returns-clause-at_most c = omega arith
 
 pub returns-in_err-entries-clause-has : goal.returns-in_err-entries-clause-has
 returns-in_err-entries-clause-has c shown serials is values ascend few =
-    let told : unshown_fault_of c.in_err-entries.field-0.0 ≡ Memory = ap unshown_fault_of (c.in_err-entries.ensures.has shown serials values (c.deref.ensures.value ∙ is)) in
+    let told : row_fault_of c.in_err-entries.field-0.0 ≡ Memory = ap row_fault_of (c.in_err-entries.ensures.has shown serials values (c.deref.ensures.value ∙ is)) in
     search rules
 
 pub returns-then-len-gt-MOST_ENTRIES-clause-has : goal.returns-then-len-gt-MOST_ENTRIES-clause-has

@@ -11,5 +11,5 @@ returns-in-Some-clause-signing g c =
     let given : P c.args.message.now = subst P c.in-Some.ensures.1 (c.requires c.args.preset_signature refl c.in-Some.answer c.in-Some.ensures.0) in
     let form = rw c.deref.ensures.value at c.if-is_signature.ensures in
     gives (device_identity g.D.Device) (SignsByDevice g.D.Device) (λ it. it.failures) _ _ c.args.message.now _
-    (g.D.Device.others_answers_count key device_path c.args.message.now c.in-Some.answer.items given, record { algorithm = c.args.self.now.algorithm; named = refl; form = form.0 })
+    (g.D.Device.others_answers_are_answers key device_path c.args.message.now c.in-Some.answer.items given, record { algorithm = c.args.self.now.algorithm; named = refl; form = form.0 })
     (omega (arith, form.1)) refl refl

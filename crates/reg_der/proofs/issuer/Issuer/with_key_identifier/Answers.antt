@@ -2,16 +2,16 @@ use Rattle.std.proofs.Common.{◌≡◌, ◌++◌, List, ℕ, ap, arith, sym, su
 use Rattle.std.proofs.lemmas.List.{append_assoc}
 use Rattle.reg_core.specs.Issuer as core
 use Rattle.reg_core.specs.Label.{IsLabel}
-use Rattle.reg_der.specs.Authority.{IsIssuer, after_name, identifier_value, name_in, others_than, with_identifier}
+use Rattle.reg_der.specs.Authority.{IsIssuer, after_name, identifier_value, name_in, earlier_identifiers, with_identifier}
 use Rattle.reg_der.proofs.KeyIdentifiers.{identifiers_follow}
 use Rattle.reg_der.proofs.issuer.Issuer.with_key_identifier.Goals as goal
 
 -- what is kept with one key identifier more, over the same text, in the order of its definition
-named : (made kept octets was : List ℕ) (own : List ℕ) (first : ℕ) → made ≡ (name_in kept ++ identifier_value first octets) ++ others_than first (after_name kept) → kept ≡ was → octets ≡ own
-    → made ≡ name_in was ++ (identifier_value first own ++ others_than first (after_name was))
+named : (made kept octets was : List ℕ) (own : List ℕ) (first : ℕ) → made ≡ (name_in kept ++ identifier_value first octets) ++ earlier_identifiers first (after_name kept) → kept ≡ was → octets ≡ own
+    → made ≡ name_in was ++ (identifier_value first own ++ earlier_identifiers first (after_name was))
 named made kept octets was own first is same octets_are =
-    is ∙ (λ i. (name_in (same i) ++ identifier_value first (octets_are i)) ++ others_than first (after_name (same i)))
-    ∙ append_assoc (name_in was) (identifier_value first own) (others_than first (after_name was))
+    is ∙ (λ i. (name_in (same i) ++ identifier_value first (octets_are i)) ++ earlier_identifiers first (after_name (same i)))
+    ∙ append_assoc (name_in was) (identifier_value first own) (earlier_identifiers first (after_name was))
 
 pub returns-in_err-name-clause-follows : goal.returns-in_err-name-clause-follows
 returns-in_err-name-clause-follows c =

@@ -22,7 +22,7 @@ pub loop-now-preserved : goal.loop-now-preserved
 loop-now-preserved g c =
     let s = g.C.Store in
     let signs = g.S.Signer.signs in
-    let signatory = g.S.Signer.identity c.args.self.now.signer in
+    let signers = g.S.Signer.identity c.args.self.now.signer in
     let commands = c.args.commands.now in
     let i = c.loop-now.now-index in
     let timed = c.loop-now-item.result in
@@ -30,7 +30,7 @@ loop-now-preserved g c =
     let new = ran.new.self.store in
     let all : take (i + 1) commands ≡ take i commands ++ timed ∷ [] =
     take_more commands i timed c.loop-now-test.true ∙ ap (λ (x : ℕ × Command). take i commands ++ x ∷ []) (sym c.loop-now-item.is) in
-    let one : IsRunOne s signs signatory c.loop-now.self.store new timed.0 timed.1 ran.result =
+    let one : IsRunOne s signs signers c.loop-now.self.store new timed.0 timed.1 ran.result =
     subst
     (λ (w : Identity). IsRunOne s signs w c.loop-now.self.store new timed.0 timed.1 ran.result)
     c.loop-now.invariant.same_identity
@@ -50,22 +50,22 @@ loop-now-preserved g c =
         c.in-Ok-push.ensures.items
             ∙ (ap (λ (l : List (Result Reply Fault)). l ++ ran.result ∷ []) earlier.1 ∙ append_assoc c.args.outcomes.now.items earlier.0 (ran.result ∷ [])),
         subst
-            (λ (l : List (ℕ × Command)). AreRunByOne s signs signatory c.args.self.now.store l (earlier.0 ++ ran.result ∷ []) new)
+            (λ (l : List (ℕ × Command)). AreRunByOne s signs signers c.args.self.now.store l (earlier.0 ++ ran.result ∷ []) new)
             (sym all)
-            (one_more s signs signatory c.args.self.now.store c.loop-now.self.store new (take i commands) earlier.0 timed ran.result earlier.2 one),
+            (one_more s signs signers c.args.self.now.store c.loop-now.self.store new (take i commands) earlier.0 timed ran.result earlier.2 one),
       );
     }
 
 pub returns-clause-each : goal.returns-clause-each
 returns-clause-each g c =
-    let signatory = g.S.Signer.identity c.args.self.now.signer in
+    let signers = g.S.Signer.identity c.args.self.now.signer in
     let came = c.loop-now.invariant.came in
     let all = take_all c.loop-now.now-index c.args.commands.now c.loop-now-test.false in
-    (came.0, came.1, run_length g.C.Store g.S.Signer.signs signatory c.args.self.now.store c.loop-now.self.store _ came.0 came.2 ∙ ap length all)
+    (came.0, came.1, run_length g.C.Store g.S.Signer.signs signers c.args.self.now.store c.loop-now.self.store _ came.0 came.2 ∙ ap length all)
 
 pub returns-clause-ran : goal.returns-clause-ran
 returns-clause-ran g c records stands clean =
-    let signatory = g.S.Signer.identity c.args.self.now.signer in
+    let signers = g.S.Signer.identity c.args.self.now.signer in
     let came = c.loop-now.invariant.came in
     let all = take_all c.loop-now.now-index c.args.commands.now c.loop-now-test.false in
     let done = c.loop-now.self in (
@@ -74,28 +74,28 @@ returns-clause-ran g c records stands clean =
       subst
           (λ (w : Identity). HasRun g.C.Store g.S.Signer.signs done.store w records c.args.commands.now came.0)
           (sym c.loop-now.invariant.same_identity)
-          (ran_all g.C.Store g.S.Signer.signs signatory c.args.self.now.store done.store records c.args.commands.now came.0
-          (subst (λ (l : List (ℕ × Command)). AreRunByOne g.C.Store g.S.Signer.signs signatory c.args.self.now.store l came.0 done.store) all came.2) stands clean),
+          (ran_all g.C.Store g.S.Signer.signs signers c.args.self.now.store done.store records c.args.commands.now came.0
+          (subst (λ (l : List (ℕ × Command)). AreRunByOne g.C.Store g.S.Signer.signs signers c.args.self.now.store l came.0 done.store) all came.2) stands clean),
     )
 
 pub returns-clause-survives : goal.returns-clause-survives
 returns-clause-survives g c records stands up live clean =
-    let signatory = g.S.Signer.identity c.args.self.now.signer in
+    let signers = g.S.Signer.identity c.args.self.now.signer in
     let came = c.loop-now.invariant.came in
     let all = take_all c.loop-now.now-index c.args.commands.now c.loop-now-test.false in
     let done = c.loop-now.self in (
       came.0,
       came.1,
-      λ trees may. partly_run g.C.Store g.S.Signer.signs signatory c.args.self.now.store done.store records c.args.commands.now came.0 trees
+      λ trees may. partly_run g.C.Store g.S.Signer.signs signers c.args.self.now.store done.store records c.args.commands.now came.0 trees
           (λ held trees is_open leaves. g.met.C.Store.settled held.store trees is_open leaves) stands up live
-          (subst (λ (l : List (ℕ × Command)). AreRunByOne g.C.Store g.S.Signer.signs signatory c.args.self.now.store l came.0 done.store) all came.2) clean may,
+          (subst (λ (l : List (ℕ × Command)). AreRunByOne g.C.Store g.S.Signer.signs signers c.args.self.now.store l came.0 done.store) all came.2) clean may,
     )
 
 pub returns-clause-clean : goal.returns-clause-clean
 returns-clause-clean g c =
-    let signatory = g.S.Signer.identity c.args.self.now.signer in
+    let signers = g.S.Signer.identity c.args.self.now.signer in
     let came = c.loop-now.invariant.came in
-    run_clean g.C.Store g.S.Signer.signs signatory c.args.self.now.store c.loop-now.self.store _ came.0 came.2
+    run_clean g.C.Store g.S.Signer.signs signers c.args.self.now.store c.loop-now.self.store _ came.0 came.2
 
 pub returns-in_default-push-clause-none_ran : goal.returns-in_default-push-clause-none_ran
 returns-in_default-push-clause-none_ran g c =

@@ -21,7 +21,7 @@ returns-clause-looks g c = record {
 
 pub returns-clause-asks : goal.returns-clause-asks
 returns-clause-asks g c =
-    office_leads g.C.Store g.S.Signer _ _ _ (λ signatory before after. Asks before c.args.now c.args.query.now (Err (Refused ClockEnd)) after)
+    office_leads g.C.Store g.S.Signer _ _ _ (λ signers before after. Asks before c.args.now c.args.query.now (Err (Refused ClockEnd)) after)
     (returns-clause-looks g c) (λ records answered. (answered, refl))
 
 pub returns-then-lt-clause-looks : goal.returns-then-lt-clause-looks
@@ -33,7 +33,7 @@ returns-then-lt-clause-looks g c =
 
 pub returns-then-lt-clause-asks : goal.returns-then-lt-clause-asks
 returns-then-lt-clause-asks g c =
-    office_leads g.C.Store g.S.Signer _ _ _ (λ signatory before after. Asks before c.args.now c.args.query.now c.answer.result after)
+    office_leads g.C.Store g.S.Signer _ _ _ (λ signers before after. Asks before c.args.now c.args.query.now c.answer.result after)
     (returns-then-lt-clause-looks g c) (λ records answered. (answered, refl))
 
 pub returns-then-lt-clause-unsigned : goal.returns-then-lt-clause-unsigned

@@ -13,4 +13,4 @@ returns-clause-looked g c =
 pub returns-clause-looks : goal.returns-clause-looks
 returns-clause-looks g c =
     let Told : Records → Type 0 = λ records. HasLongest records c.args.order c.args.not_before c.longest_in.result in
-    office_leads g.C.Store g.S.Signer _ _ Told (λ signatory before after. Told before × (after ≡ before)) (returns-clause-looked g c) (λ records told. (told, refl))
+    office_leads g.C.Store g.S.Signer _ _ Told (λ signers before after. Told before × (after ≡ before)) (returns-clause-looked g c) (λ records told. (told, refl))

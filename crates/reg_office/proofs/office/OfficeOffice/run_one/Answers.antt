@@ -18,8 +18,8 @@ use Rattle.reg_office.proofs.office.OfficeOffice.run_one.Goals as goal
 pub returns-then-ge-clause-stops : goal.returns-then-ge-clause-stops
 returns-then-ge-clause-stops g c = (
   (λ clean. clean),
-  (λ signatory before first stands clean.
-      let refused : Runs g.S.Signer.signs signatory before c.args.now c.args.command.now (Err (Refused ClockEnd)) before = search rules in
+  (λ signers before first stands clean.
+      let refused : Runs g.S.Signer.signs signers before c.args.now c.args.command.now (Err (Refused ClockEnd)) before = search rules in
       (before, first, refused, stands, by_refusal Reply first (command_call c.args.now c.args.command.now) ClockEnd)),
 )
 
@@ -37,14 +37,14 @@ returns-in-Crl-clause-counts g c failed = (c.issue_crl.ensures.device failed).1
 
 pub returns-in-Err-clause-ran : goal.returns-in-Err-clause-ran
 returns-in-Err-clause-ran g c =
-    let signatory = g.S.Signer in
+    let signers = g.S.Signer in
     let fault = c.in-Err.fault in
     let below : c.args.now < clock_end = search rules in
     let decides = c.in-Err.ensures in
     let looks = lent c.deref_mut.ensures.shows decides.looks in
-    not_run g.C.Store signatory.signs signatory.identity signatory.failure_count c.args.self.now.store c.args.self.now.signer c.args.now c.args.command.now
+    not_run g.C.Store signers.signs signers.identity signers.failure_count c.args.self.now.store c.args.self.now.signer c.args.now c.args.command.now
     _ fault refl refl looks.looked
-    (λ records kept sound clean. fault_happens (IsAcceptance c.args.now c.args.command.now records) (signed_by signatory.signs (signatory.identity c.args.self.now.signer)) records c.args.now c.args.command.now fault below decides.faults (looks.found records kept sound clean))
+    (λ records kept sound clean. fault_happens (IsAcceptance c.args.now c.args.command.now records) (signed_by signers.signs (signers.identity c.args.self.now.signer)) records c.args.now c.args.command.now fault below decides.faults (looks.found records kept sound clean))
     (office_fault fault decides.faults) (never_signer fault decides.faults)
 
 pub returns-in-Err-clause-stops : goal.returns-in-Err-clause-stops
@@ -58,11 +58,11 @@ returns-in-Err-clause-counts g c failed = ((returns-in-Err-clause-ran g c).devic
 
 pub returns-in_err-apply-in-Ok-clause-ran : goal.returns-in_err-apply-in-Ok-clause-ran
 returns-in_err-apply-in-Ok-clause-ran g c =
-    let signatory = g.S.Signer in
+    let signers = g.S.Signer in
     let below : c.args.now < clock_end = search rules in
     let looks = lent c.deref_mut.ensures.shows c.in-Ok.ensures.looks in
     let decided : Reply × Change = (c.in-Ok.reply, c.in-Ok.change) in
-    not_carried_out g.C.Store signatory.signs signatory.identity signatory.failure_count c.args.self.now.store c.args.self.now.signer c.args.now c.args.command.now
+    not_carried_out g.C.Store signers.signs signers.identity signers.failure_count c.args.self.now.store c.args.self.now.signer c.args.now c.args.command.now
     _ _ _ decided.0 decided.1 refl looks.looked
     (λ records kept sound clean. may_change records c.args.now c.args.command.now decided c.in_default.not-Crl (looks.found records kept sound clean))
     c.apply.ensures.changed.survives.clean
@@ -79,10 +79,10 @@ returns-in_err-apply-in-Ok-clause-counts g c failed = ((returns-in_err-apply-in-
 
 pub returns-in_ok-apply-in-Ok-clause-ran : goal.returns-in_ok-apply-in-Ok-clause-ran
 returns-in_ok-apply-in-Ok-clause-ran g c =
-    let signatory = g.S.Signer in
+    let signers = g.S.Signer in
     let looks = lent c.deref_mut.ensures.shows c.in-Ok.ensures.looks in
     let decided : Reply × Change = (c.in-Ok.reply, c.in-Ok.change) in
-    carried_out g.C.Store signatory.signs signatory.identity signatory.failure_count c.args.self.now.store c.args.self.now.signer c.args.now c.args.command.now
+    carried_out g.C.Store signers.signs signers.identity signers.failure_count c.args.self.now.store c.args.self.now.signer c.args.now c.args.command.now
     _ _ _ decided.0 decided.1 refl looks.looked
     (λ records kept sound clean. may_change records c.args.now c.args.command.now decided c.in_default.not-Crl (looks.found records kept sound clean))
     c.apply.ensures.changed.survives.clean c.in_ok-apply-in-Ok.ensures.ok c.in_ok-apply-in-Ok.ensures.changed

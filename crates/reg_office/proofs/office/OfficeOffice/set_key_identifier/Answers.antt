@@ -27,7 +27,7 @@ returns-in-Ok-clause-stops g c =
 
 pub returns-in-Ok-clause-sets : goal.returns-in-Ok-clause-sets
 returns-in-Ok-clause-sets g c =
-    stops_lead g.C.Store g.S.Signer.signs (identifier_call c.args.octets) _ (λ signatory. SetsKeyIdentifier c.args.octets (Ok tt)) _ _
+    stops_lead g.C.Store g.S.Signer.signs (identifier_call c.args.octets) _ (λ signers. SetsKeyIdentifier c.args.octets (Ok tt)) _ _
     (returns-in-Ok-clause-stops g c)
 
 pub returns-in-Err-clause-stops : goal.returns-in-Err-clause-stops
@@ -42,5 +42,5 @@ returns-in-Err-clause-stops g c =
 
 pub returns-in-Err-clause-sets : goal.returns-in-Err-clause-sets
 returns-in-Err-clause-sets g c =
-    stops_lead g.C.Store g.S.Signer.signs (identifier_call c.args.octets) _ (λ signatory. SetsKeyIdentifier c.args.octets (Err c.from.result)) _ _
+    stops_lead g.C.Store g.S.Signer.signs (identifier_call c.args.octets) _ (λ signers. SetsKeyIdentifier c.args.octets (Err c.from.result)) _ _
     (returns-in-Err-clause-stops g c)

@@ -28,7 +28,7 @@ returns-in-Ok-clause-stops g c =
 
 pub returns-in-Ok-clause-sets : goal.returns-in-Ok-clause-sets
 returns-in-Ok-clause-sets g c =
-    stops_lead g.C.Store g.S.Signer.signs (schedule_call c.args.schedule) _ (λ signatory. ReplacesSchedule c.args.schedule (Ok tt)) _ _
+    stops_lead g.C.Store g.S.Signer.signs (schedule_call c.args.schedule) _ (λ signers. ReplacesSchedule c.args.schedule (Ok tt)) _ _
     (returns-in-Ok-clause-stops g c)
 
 pub returns-in-Err-clause-stops : goal.returns-in-Err-clause-stops
@@ -43,5 +43,5 @@ returns-in-Err-clause-stops g c =
 
 pub returns-in-Err-clause-sets : goal.returns-in-Err-clause-sets
 returns-in-Err-clause-sets g c =
-    stops_lead g.C.Store g.S.Signer.signs (schedule_call c.args.schedule) _ (λ signatory. ReplacesSchedule c.args.schedule (Err c.from.result)) _ _
+    stops_lead g.C.Store g.S.Signer.signs (schedule_call c.args.schedule) _ (λ signers. ReplacesSchedule c.args.schedule (Err c.from.result)) _ _
     (returns-in-Err-clause-stops g c)

@@ -7,10 +7,10 @@ use Rattle.reg_office.proofs.office.OfficeOffice.summary.Goals as goal
 
 pub returns-clause-looked : goal.returns-clause-looked
 returns-clause-looked g c =
-    let Told : Records → Type 0 = λ records. HasSummary records c.standing_in.result in
-    office_looks g.C.Store g.S.Signer _ _ Told Told (lent c.deref_mut.ensures.shows c.standing_in.ensures.looks) refl (λ records sound told. told)
+    let Told : Records → Type 0 = λ records. HasSummary records c.summary_in.result in
+    office_looks g.C.Store g.S.Signer _ _ Told Told (lent c.deref_mut.ensures.shows c.summary_in.ensures.looks) refl (λ records sound told. told)
 
 pub returns-clause-looks : goal.returns-clause-looks
 returns-clause-looks g c =
-    let Told : Records → Type 0 = λ records. HasSummary records c.standing_in.result in
-    office_leads g.C.Store g.S.Signer _ _ Told (λ signatory before after. Told before × (after ≡ before)) (returns-clause-looked g c) (λ records told. (told, refl))
+    let Told : Records → Type 0 = λ records. HasSummary records c.summary_in.result in
+    office_leads g.C.Store g.S.Signer _ _ Told (λ signers before after. Told before × (after ≡ before)) (returns-clause-looked g c) (λ records told. (told, refl))

@@ -17,12 +17,12 @@ returns-in_err-only-clause-finds g c =
 
 pub returns-clause-finds : goal.returns-clause-finds
 returns-clause-finds g c =
-    rw (← c.self.view_is) (by_rows (c.in_ok-found.ensures.reads responding_text.reading) refl c.responding_in.result
+    rw (← c.self.view_is) (by_rows (c.in_ok-found.ensures.reads responding_text.reading) refl c.ocsp_head_in.result
     (λ records shows clean answers.
     let row = same_row (sym c.deref.ensures.value ∙ c.in_ok-only.ensures.found) (responding_rows _ records (shows.tables clean answers.is_open) _ answers.reads) in
-    c.responding_in.ensures.read records.last records.policy.ocsp_life records.issuer row)
+    c.ocsp_head_in.ensures.read records.last records.policy.ocsp_life records.issuer row)
     (λ records may written clean answers.
     let rows = responding_rows _ records ((written_shows g.S.Store _ records written).tables clean answers.is_open) _ answers.reads in
     let row = same_row (sym c.deref.ensures.value ∙ c.in_ok-only.ensures.found) rows in
-    memory_alone ⊥ c.responding_in.result
-    (c.responding_in.ensures.has records.last records.policy.ocsp_life records.issuer row written.sound.before_clock_end written.issuer (let life = written.policy.ocsp_life.1 in omega arith))))
+    memory_alone ⊥ c.ocsp_head_in.result
+    (c.ocsp_head_in.ensures.has records.last records.policy.ocsp_life records.issuer row written.sound.before_clock_end written.issuer (let life = written.policy.ocsp_life.1 in omega arith))))

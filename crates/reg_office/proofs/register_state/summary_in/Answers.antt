@@ -1,7 +1,7 @@
 use Rattle.std.proofs.Common.{ap, ◌∙◌}
 use Rattle.reg_core.specs.Policy.{Terms}
 use Rattle.reg_store_tables.proofs.PublicLaws.{and_so, by_finding, looked_then, not_found, so}
-use Rattle.reg_office.proofs.register_state.standing_in.Goals as goal
+use Rattle.reg_office.proofs.register_state.summary_in.Goals as goal
 
 pub returns-in_err-latest-clause-looks : goal.returns-in_err-latest-clause-looks
 returns-in_err-latest-clause-looks g c =

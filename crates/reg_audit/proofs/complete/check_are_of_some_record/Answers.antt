@@ -1,7 +1,7 @@
 use Rattle.std.proofs.Common.{rules}
 use Rattle.reg_audit.specs.Cells.{IsOfSomeRecord}
 use Rattle.reg_audit.proofs.Signed.{all_more}
-use Rattle.reg_audit.proofs.complete.each_stands.Goals as goal
+use Rattle.reg_audit.proofs.complete.check_are_of_some_record.Goals as goal
 
 pub loop-row-preserved : goal.loop-row-preserved
 loop-row-preserved g c =

@@ -19,12 +19,12 @@ abbrev pub responder_key : Responder → Records → List ℕ
 responder_key responder records = unwrap_or responder.own_key records.issuer.key
 
 -- the signers of an office: of its CRLs, and of its OCSP answers
-pub record Signatory : Type 0 where
+pub record OfficeSigners : Type 0 where
   pub crls : Identity
   pub answers : Responder
 
 -- one identity signs both, and responses include no certificate
-abbrev pub signs_both : Identity → Signatory
+abbrev pub signs_both : Identity → OfficeSigners
 signs_both identity = record {
   crls = identity;
   answers = record { identity = identity; own_key = None; certificate = None };

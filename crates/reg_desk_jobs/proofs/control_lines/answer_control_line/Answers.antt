@@ -2,7 +2,7 @@ use Rattle.std.proofs.Common.{refl}
 use Rattle.reg_core.specs.declared.refusal.Fault.TheVariants.{Memory, Read}
 use Rattle.reg_desk_jobs.specs.ControlWords.{decides}
 use Rattle.reg_desk_jobs.proofs.ControlLines.{copied, entered, fault_came, told_word}
-use Rattle.reg_desk_jobs.proofs.control_lines.answer_word.Goals as goal
+use Rattle.reg_desk_jobs.proofs.control_lines.answer_control_line.Goals as goal
 
 pub returns-in-Ok-Copy-clause-moves : goal.returns-in-Ok-Copy-clause-moves
 returns-in-Ok-Copy-clause-moves g c =

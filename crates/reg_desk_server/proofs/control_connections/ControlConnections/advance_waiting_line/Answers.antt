@@ -1,5 +1,5 @@
 use Rattle.reg_desk_server.proofs.Exchanges.{handled_told_later}
-use Rattle.reg_desk_server.proofs.control_connections.ControlConnections.go_on.Goals as goal
+use Rattle.reg_desk_server.proofs.control_connections.ControlConnections.advance_waiting_line.Goals as goal
 
 pub returns-then-is_due-clause-lines : goal.returns-then-is_due-clause-lines
 returns-then-is_due-clause-lines g c answered =

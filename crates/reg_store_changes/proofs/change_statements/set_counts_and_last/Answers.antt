@@ -1,6 +1,6 @@
 use Rattle.reg_store_tables.specs.DerivedRows.{with_counts}
 use Rattle.reg_store_tables.proofs.PublicLaws.{writes_on, then_moves, stepped_clean}
-use Rattle.reg_store_changes.proofs.change_statements.close.Goals as goal
+use Rattle.reg_store_changes.proofs.change_statements.set_counts_and_last.Goals as goal
 
 pub returns-clause-made : goal.returns-clause-made
 returns-clause-made g c clean =

@@ -5,7 +5,7 @@ use Rattle.reg_core.specs.Serial.{IsSerial}
 use Rattle.reg_core.specs.declared.rows.CertRow.{CertRow}
 use Rattle.reg_core_laws.proofs.PublicLaws.{some_and_here}
 use Rattle.reg_store_tables.proofs.PublicLaws.{ok_then, by_serial_text, by_serial_row}
-use Rattle.reg_store_migration.proofs.record_reader.end_of.Goals as goal
+use Rattle.reg_store_migration.proofs.record_reader.not_after_by_serial.Goals as goal
 
 pub ask-requires : goal.ask-requires
 ask-requires g c = by_serial_text.reading

@@ -41,7 +41,7 @@ def commands_are_refused_until_the_operator_accepts_the_clock(t):
         t.clock(now)
         for line in ("subscriber other", "order 1 30", f"register 3 07 {now} {now}", "request 06 asked", "decline 1", "revoke 1", "revoke 1 05", "decline 1 05", "crl"):
             t.same(control.ask(line), BAD, line)
-        t.same(control.ask("why"), f"why the clock is more than 30 days past {last}")
+        t.same(control.ask("why"), f"why the clock is more than 30 days past the last command, {last}")
         t.same(post(desk)[::2], (503, b'{"error":"503"}'))
         t.same(health(desk), (503, now))
         # Queries are answered, and lines that are no commands are refused as before.

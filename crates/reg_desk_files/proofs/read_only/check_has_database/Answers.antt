@@ -1,4 +1,4 @@
-use Rattle.reg_desk_files.proofs.read_only.check_begun.Goals as goal
+use Rattle.reg_desk_files.proofs.read_only.check_has_database.Goals as goal
 
 pub returns-in-PossibleDatabase-clause-begun : goal.returns-in-PossibleDatabase-clause-begun
 returns-in-PossibleDatabase-clause-begun g c clean nothing =
