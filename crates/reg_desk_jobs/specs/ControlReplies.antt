@@ -72,7 +72,8 @@ kind_of (Failed (failure.Fault why)) = kind_of_fault why
 kind_of (Failed other) = kind.Refused
 kind_of (CopyFault why) = kind_of_fault why
 kind_of Silent = kind.Fault
-kind_of other = kind.Accepted
+kind_of (Response refuses) = kind.Accepted
+kind_of Done = kind.Accepted
 
 -- the outcome without a signature: it failed, or was not requested
 abbrev pub failed_if : Bool → SignatureOutcome

@@ -29,6 +29,7 @@ use reg_desk_files::{
     claim_file, copy_closed, copy_open, open_file, open_sources, read_at, remove_file,
 };
 use reg_desk_jobs::{CopyFault, CrlSigner, FailureCause, Location, Machine, SignatureKind};
+use reg_desk_server::as_would_block;
 use reg_io::write_whole;
 use reg_office::Responder;
 use sqlite_disk::{Disk, Unknown};
@@ -44,11 +45,6 @@ use std::time::{Clock, Duration};
 use std::{fs, io, thread};
 
 const OWNER_ONLY: u32 = 0o600;
-
-/// Too many open files: in this process, and in the system.
-const EMFILE: i32 = 24;
-
-const ENFILE: i32 = 23;
 
 /// The most attempts to lock a folder, and the pause after each: ten seconds in all.
 const MOST_LOCK_TRIES: u32 = 2_000;
@@ -501,15 +497,6 @@ fn lock_once_free(rt: &HostRuntime, folder: &File) -> io::Result<()> {
         }
     }
     Err(io::Error::from(ErrorKind::AddrInUse))
-}
-
-/// The error of a connection to a signer. The errors for too many open files become `WouldBlock`, since the request can be sent once another file is
-/// closed.
-fn as_would_block(error: io::Error) -> io::Error {
-    match error.raw_os_error() {
-        Some(EMFILE | ENFILE) => io::Error::from(ErrorKind::WouldBlock),
-        _ => error,
-    }
 }
 
 /// Appends a line to the log file, which is opened anew for each line. So once the file is renamed, the next line goes to a new file at the path. A

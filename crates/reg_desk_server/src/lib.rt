@@ -25,3 +25,4 @@ pub use handler::{ConnectionCounts, ConnectionFault, Deferred, EventLoopFault, H
 pub use http_connection::{HttpConnection, Next};
 pub use http_connections::MOST_HTTP_CONNECTIONS;
 pub use link::Link;
+pub use poller::as_would_block;

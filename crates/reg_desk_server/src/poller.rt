@@ -1,6 +1,7 @@
 //! The poller, which reports the connections that are ready.
 
 ghost use Rattle.std.specs.Prelude.{◌≡◌, ◌+◌, ℕ, [], IfOk, MatchBool, OnErr, OnOk, true};
+ghost use Rattle.std.specs.IoError.{error_kind};
 ghost use Rattle.reg_desk_server.specs.Failures.{IsOutOfDescriptors};
 
 use crate::handler::{EventLoopFault, Handler};
@@ -8,6 +9,7 @@ use mio::event::Source;
 use mio::{Events, Interest, Poll, Token};
 use std::alloc::AllocGlobal;
 use std::io;
+use std::io::ErrorKind;
 use std::net::Net;
 use std::time::Duration;
 
@@ -136,4 +138,16 @@ pub(crate) fn is_out_of_descriptors(error: &io::Error) -> bool
         Some(EMFILE | ENFILE) => true,
         _ => false,
     }
+}
+
+/// The error of a call that opens a descriptor. It is `WouldBlock` if none is left, because the call can succeed once another file is closed.
+/// Every other error stays.
+pub fn as_would_block(error: io::Error) -> io::Error
+    ensures none_left { IsOutOfDescriptors error → error_kind result ≡ ErrorKind.WouldBlock }
+    ensures other { (IsOutOfDescriptors error → ⊥) → result ≡ error }
+{
+    if is_out_of_descriptors(&error) {
+        return io::Error::from(ErrorKind::WouldBlock);
+    }
+    error
 }
