@@ -1,26 +1,27 @@
-/* Loaded before `desk` (LD_PRELOAD), puts faults into it from outside. What it does is told by variables, which are read once:
+/* A library for LD_PRELOAD that injects faults into `desk` from outside. These environment variables control it. They are read once:
 
-   FAULTS_CLOCK=PATH       the machine's clock is what the file PATH has: decimal seconds since 1970. The real one where there is none.
-   FAULTS_PASSED=PATH      the time that passes, by which waiting ends, is what the file PATH has: milliseconds, in 8 bytes.
-   FAULTS_TICK=N           each time that this time is read, N milliseconds more have passed.
-   FAULTS_FAIL=KIND:N ..   the Nth call of KIND fails, parted by commas; `KIND:N+` all from the Nth on, `KIND:N-M` those up to the Mth,
-                           `KIND:N=EIO` by that error, and a read or write by `=0` moves nothing. Kinds: see `names` below. Allocations count
-                           from `main` on.
-   FAULTS_SHORT=N          reads and writes move N bytes at most.
-   FAULTS_STOP=N           the process stops, as by SIGKILL, in place of its Nth write, cut or sync of a file, or of what gives or takes a file's name.
-   FAULTS_TORN=1           the write in whose place it stops is done to its half.
-   FAULTS_LOSE=SEED        at that stop, and without FAULTS_STOP at the end of the program, what was written to files and not synced is lost:
-                           all of it where SEED is 1, else writes that are drawn by SEED, as a machine may lose them.
-   FAULTS_LOSE_FILES=1     so are files that were made since their folder was last synced.
-   FAULTS_ONLY=WHAT ..     limits all this, but the clock and allocations, to descriptors and paths: `stdin`, `stdout`, `stderr`, `socket`,
-                           `file`, or how the path ends (`ca.db-wal`), parted by commas.
-   FAULTS_SLOW_CHMOD=PATH  chmod(2) waits until the file PATH is there, for a minute at most.
-   FAULTS_SLOW_OPEN=PATH   so does open(2) of what FAULTS_ONLY names. It creates the file PATH.waits before.
-   FAULTS_AWAKE=1          the process never sleeps: nanosleep(2) ends at once.
-   FAULTS_SAME=1           what the system draws at random is the same at each run, and so are the bytes of files.
-   FAULTS_QUICK=1          a sync is told as done without waiting for the disk.
-   FAULTS_COUNT=PATH       keeps in PATH how many calls of each kind there were, in the order of `names`, the steps that FAULTS_STOP counts,
-                           and how many faults were met: numbers of 8 bytes, that stand whatever ends the process. */
+   FAULTS_CLOCK=PATH       The wall clock shows the number in the file PATH: decimal seconds since 1970. Without the file, it shows the real time.
+   FAULTS_PASSED=PATH      The monotonic clock, by which timeouts end, shows the number in the file PATH: milliseconds, in 8 bytes.
+   FAULTS_TICK=N           The monotonic clock advances by N milliseconds each time that it is read.
+   FAULTS_FAIL=KIND:N ..   The Nth call of KIND fails; more such rules follow after commas. `KIND:N+` fails all calls from the Nth on, `KIND:N-M` those
+                           from N to M. `KIND:N=EIO` sets the error; a read or write with `=0` moves no byte and reports no error. `names` below has
+                           the kinds. Allocations are counted from `main` on.
+   FAULTS_SHORT=N          A read or write moves at most N bytes.
+   FAULTS_STOP=N           The process is killed (SIGKILL) in place of its Nth write, truncation or sync of a file, or its Nth call that creates, links,
+                           renames or removes a file name.
+   FAULTS_TORN=1           Half of the write is done in whose place FAULTS_STOP kills the process.
+   FAULTS_LOSE=SEED        When FAULTS_STOP kills the process, or without it when the program ends, bytes that were written to files and not synced
+                           are lost, as in a power failure: all of them if SEED is 1, else writes chosen by SEED.
+   FAULTS_LOSE_FILES=1     Files are lost too that were created after the last sync of their folder.
+   FAULTS_ONLY=WHAT ..     All this, except the clocks and allocations, concerns only these descriptors and paths: `stdin`, `stdout`, `stderr`, `socket`,
+                           `file`, or the end of a path (`ca.db-wal`), separated by commas.
+   FAULTS_SLOW_CHMOD=PATH  chmod(2) waits until the file PATH exists, for at most a minute.
+   FAULTS_SLOW_OPEN=PATH   open(2) of a path that FAULTS_ONLY names creates the file PATH.waits, and then waits in the same way.
+   FAULTS_AWAKE=1          The process never sleeps: nanosleep(2) returns at once.
+   FAULTS_SAME=1           The system's random numbers are the same in each run, and so are the bytes of files.
+   FAULTS_QUICK=1          A sync reports success without waiting for the disk.
+   FAULTS_COUNT=PATH       The file PATH receives how many calls of each kind there were, in the order of `names`, the number of steps that FAULTS_STOP
+                           counts, and the number of injected faults. Each is a number of 8 bytes. They stay, however the process ends. */
 #define _GNU_SOURCE
 #include <dlfcn.h>
 #include <errno.h>
@@ -63,7 +64,7 @@ static uint64_t stop_at, most, lose, tick, ticks;
 static int torn, lose_files, same, quick, awake;
 static const char *only, *slow_chmod, *slow_open;
 
-/* What is told. */
+/* The environment variables. */
 
 static int error_called(const char *name, int usual) {
     static const struct { const char *name; int error; } all[] = {
@@ -78,7 +79,7 @@ static int error_called(const char *name, int usual) {
     return usual;
 }
 
-/* A word that is not understood ends the program at once, so that no test passes by a fault that never was. */
+/* A rule that can't be read ends the program at once, so that no test passes without its fault. */
 static void not_understood(const char *word) {
     fprintf(stderr, "faults.c: FAULTS_FAIL=%s is not understood\n", word);
     _exit(99);
@@ -105,7 +106,7 @@ static void read_fails(const char *text) {
     }
 }
 
-/* The numbers that a file has, without a descriptor: what is written to either is in the other. */
+/* Maps a file of numbers into memory, shared with other processes, and leaves no descriptor open. */
 static uint64_t *numbers_of(const char *path, int how, size_t size) {
     int file = syscall(SYS_openat, AT_FDCWD, path, O_RDWR | O_CLOEXEC | how, 0600);
     if (file < 0 || syscall(SYS_ftruncate, file, size))
@@ -144,7 +145,7 @@ static int is_kind_of_file(int file, mode_t kind) {
     return !syscall(SYS_newfstatat, file, "", &it, AT_EMPTY_PATH) && (it.st_mode & S_IFMT) == kind;
 }
 
-/* The path of a descriptor; empty where it has none. */
+/* The path of a descriptor; empty if it has none. */
 static void path_of(int file, char *path, size_t size) {
     char link[40];
     snprintf(link, sizeof link, "/proc/self/fd/%d", file);
@@ -152,7 +153,7 @@ static void path_of(int file, char *path, size_t size) {
     path[got > 0 ? got : 0] = 0;
 }
 
-/* Whether FAULTS_ONLY has a word that this file or this path is called by. */
+/* Whether FAULTS_ONLY names this descriptor or this path. */
 static int is_meant(int file, const char *path) {
     if (!ready)
         return 0;
@@ -180,7 +181,7 @@ static int is_meant(int file, const char *path) {
     return found;
 }
 
-/* Counts a call; whether it is to fail, by what `errno` is then. */
+/* Counts a call. Returns whether it must fail, and then sets `errno`. */
 static int fails_now(enum kind kind) {
     uint64_t now = __atomic_add_fetch(&counts[kind], 1, __ATOMIC_RELAXED);
     if (!fails[kind].from || now < fails[kind].from || now > fails[kind].to)
@@ -190,12 +191,12 @@ static int fails_now(enum kind kind) {
     return 1;
 }
 
-/* What a call returns that fails: 0 where it is to move nothing. */
+/* The result of a call that fails: 0 if the rule says `=0`. */
 static ssize_t failed(enum kind kind) { return fails[kind].error ? -1 : 0; }
 
 static size_t shortened(size_t size) { return most && size > most ? most : size; }
 
-/* What is not synced yet. */
+/* Changes that are not synced yet. */
 
 struct change {
     dev_t device;
@@ -234,7 +235,7 @@ static void remember(int file, const char *bytes, size_t length, off_t at, int i
     if (at < it.st_size) {
         size_t old = (end < it.st_size ? end : it.st_size) - at;
         now->before = __libc_malloc(old + 1);
-        /* The descriptor may be one for writing alone. */
+        /* The descriptor may be open only for writing. */
         int again = syscall(SYS_openat, AT_FDCWD, path, O_RDONLY | O_CLOEXEC);
         long got = syscall(SYS_pread64, again, now->before, old, at);
         syscall(SYS_close, again);
@@ -255,7 +256,7 @@ static void forget(int file) {
     change_count = left;
 }
 
-/* The files of a folder stand once it is synced. */
+/* Once a folder is synced, its new files are not lost any more. */
 static void keep_files_of(int folder) {
     char path[4096];
     size_t left = 0;
@@ -297,13 +298,13 @@ static void lose_what_was_not_synced(void) {
         syscall(SYS_unlinkat, AT_FDCWD, made[i], 0);
 }
 
-/* The machine may stop just when the program has ended. */
+/* The machine may stop right after the program ended. */
 __attribute__((destructor)) static void at_last(void) {
     if (lose && !stop_at)
         lose_what_was_not_synced();
 }
 
-/* Counts a step; whether the process is to stop in its place. */
+/* Counts a step. Returns whether the process must stop in its place. */
 static int stops_now(void) {
     if (__atomic_add_fetch(&counts[STEPS], 1, __ATOMIC_RELAXED) != stop_at)
         return 0;
@@ -319,7 +320,7 @@ static void stop(void) {
         pause();
 }
 
-/* A write, a cut or a sync of a file: the process may stop in its place. `size` bytes, where it is a write. */
+/* A write, truncation or sync of a file, in whose place the process may stop. A write has `size` bytes. */
 static void step(int file, const char *bytes, size_t size, off_t at) {
     if (file <= 2 || !is_kind_of_file(file, S_IFREG) || !stops_now())
         return;
@@ -349,7 +350,7 @@ int posix_memalign(void **made, size_t to, size_t size) {
     return *made ? 0 : ENOMEM;
 }
 
-/* The loader's and the runtime's own allocations come before `main`. */
+/* The loader and the runtime allocate before `main`; these calls don't count. */
 static int (*own_main)(int, char **, char **);
 
 static int counted_main(int count, char **words, char **environment) {
@@ -451,7 +452,7 @@ int fdatasync(int file) { return synced(file, SYS_fdatasync); }
 
 /* Paths. */
 
-/* Waits until a file is there, for a minute at most. */
+/* Waits until a file exists, for at most a minute. */
 static void wait_for(const char *path) {
     for (int at = 0; path && at < 6000 && syscall(SYS_faccessat, AT_FDCWD, path, F_OK); at++)
         syscall(SYS_nanosleep, &(struct timespec){0, 10000000}, NULL);
@@ -483,7 +484,7 @@ int open(const char *path, int how, ...) {
     return file;
 }
 
-/* Whether a name is not given or taken, since that is to fail; the process may stop in place of it. */
+/* Whether a call that creates or removes a file name must fail. The process may stop in its place. */
 static int stays(enum kind kind, const char *path) {
     if (!is_meant(-1, path))
         return 0;
@@ -553,7 +554,7 @@ int epoll_ctl(int file, int what, int other, struct epoll_event *event) {
 
 int nanosleep(const struct timespec *wanted, struct timespec *left) { return awake ? 0 : syscall(SYS_nanosleep, wanted, left); }
 
-/* The seconds that the file of the clock has. Who writes it empties it first: then it is what it was before. */
+/* The seconds in the clock's file. The writer of that file empties it first; if it is empty, the last number stays. */
 static int seconds_told(time_t *seconds) {
     static const char *path;
     static time_t last;
