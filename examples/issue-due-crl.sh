@@ -6,17 +6,18 @@
 # A CRL is also due at once if the latest one has a placeholder digest and a signer was added since: the desk's reply to `why` after `next-crl` says so.
 #
 # With --at-once a CRL is due at once if a certificate was revoked on one of these grounds (docs/RULES.md) and no CRL lists it yet. Without it such a CRL
-# may wait for a day. The script reads the list of revocations at the desk's port (8080 without --port), and only if a revocation may wait for its CRL.
+# may wait for a day. The script reads the list of revocations at the desk's port (8080 without --port) of 127.0.0.1 (or of --address, such as [::1]),
+# and only if a revocation may wait for its CRL.
 # It needs curl. If the desk does not answer at the port, the exit status is 1.
 #
-# Usage: issue-due-crl.sh [--at-once GROUND,..] [--port PORT] SOCKET
+# Usage: issue-due-crl.sh [--at-once GROUND,..] [--address ADDRESS] [--port PORT] SOCKET
 # DESK names the program, if it is not the `desk` of PATH.
 set -euo pipefail
 export LC_ALL=C
 desk=${DESK:-desk}
-port=8080 grounds=
+address=127.0.0.1 port=8080 grounds=
 
-usage() { echo "usage: $0 [--at-once GROUND,..] [--port PORT] SOCKET" >&2; exit 2; }
+usage() { echo "usage: $0 [--at-once GROUND,..] [--address ADDRESS] [--port PORT] SOCKET" >&2; exit 2; }
 
 add_ground() {
     case $1 in
@@ -34,6 +35,7 @@ while [ $# -gt 1 ]; do
         done
         [ -n "$grounds" ] || usage
         ;;
+    --address) address=$2 ;;
     --port) port=$2 ;;
     *) usage ;;
     esac
@@ -52,7 +54,7 @@ reply_to() {
     echo "$reply"
 }
 
-get() { curl -sSf --noproxy '*' --max-time 60 "http://127.0.0.1:$port$1" || fail "the desk does not answer $1 at port $port"; }
+get() { curl -sSf --noproxy '*' --max-time 60 "http://$address:$port$1" || fail "the desk does not answer $1 at port $port"; }
 
 # Whether a revocation on one of the grounds is on no CRL yet: its first CRL is not issued. Pages are in the order of serial numbers.
 waits_for_a_crl() {

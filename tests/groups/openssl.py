@@ -8,7 +8,7 @@ from pathlib import Path
 
 from lib import authority, program
 from lib.authority import DAY, EXAMPLES, MALFORMED, Authority, body_of, first_day, first_day_replies, moment_of
-from lib.trial import Failed, each, test
+from lib.trial import Failed, Skipped, each, test
 
 GREATEST = "7fffffffffffffffffffffffffffffffffffffff"
 JSON_TYPE, OCSP_TYPE, CRL_TYPE = "application/json", "application/ocsp-response", "application/pkix-crl"
@@ -318,6 +318,27 @@ def issue_due_crl_at_once(t, ground):
         t.same(play(t, *issues).stdout.decode(), "crl 2 entries 1\n" if AT_ONCE[ground] else "", f"{ago} seconds behind the CRL before")
         t.same(play(t, *issues).stdout, b"", "and no other")
         desk.end()
+
+
+@test(seconds=3)
+def a_crl_is_issued_at_once_and_published_at_the_ipv6_loopback_address(t):
+    """The lines of the package's units with ADDRESS=[::1], for a desk with --listen [::1]."""
+    if "00000000000000000000000000000001" not in Path("/proc/net/if_inet6").read_text():
+        raise Skipped("this system has no IPv6 loopback address")
+    it = Authority(t)
+    it.register()
+    it.signer()
+    begins, ends = moment_of(authority.now()), moment_of(authority.now() + 90 * DAY)
+    desk = t.open("ca.db", "--listen", "[::1]", *it.signing())
+    control = t.control()
+    for line in ("subscriber acme", "order 1 398", f"register 1 05 {begins} {ends}", "crl", "request 05 key-compromise", "revoke 1"):
+        t.true(control.ask(line)[0] not in "EF", line)
+    issues = ("bash", EXAMPLES / "issue-due-crl.sh", "--at-once", "key-compromise", "--address", "[::1]", "--port", desk.port, "counter")
+    t.same(play(t, *issues).stdout, b"crl 2 entries 1\n")
+    (t.room / "www").mkdir()
+    t.same(play(t, "bash", EXAMPLES / "publish-crl.sh", f"http://[::1]:{desk.port}/crl", "www", "ca.pem").stdout, b"crl 2 published in www\n")
+    units = [(EXAMPLES.parent / f"packaging/desk-{it}@.service").read_text() for it in ("crl", "publish")]
+    t.same([it.count("${ADDRESS}") for it in units], [1, 1], "the units use ADDRESS")
 
 
 @test(seconds=5)

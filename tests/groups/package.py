@@ -124,8 +124,8 @@ ASKS_THE_DESK = ["PrivateNetwork=no", "IPAddressDeny=any", "IPAddressAllow=local
 HAS_A_KEY = ["PrivateNetwork=yes", "RestrictAddressFamilies=AF_UNIX", "InaccessiblePaths=-/var/lib/durshavon", "LimitCORE=0", "UMask=0077", "User=durshavon-signer"]
 SERVICES = {
     "desk@": [*ASKS_THE_DESK, "RestrictAddressFamilies=AF_INET AF_INET6 AF_UNIX", "UMask=0077", "User=durshavon", "StateDirectoryMode=0700", "RuntimeDirectoryMode=0700"],
-    "desk-crl@": [*ASKS_THE_DESK, "RestrictAddressFamilies=AF_INET AF_UNIX", "UMask=0077", "User=durshavon"],
-    "desk-publish@": [*ASKS_THE_DESK, "RestrictAddressFamilies=AF_INET AF_UNIX", "UMask=0022", "User=durshavon"],
+    "desk-crl@": [*ASKS_THE_DESK, "RestrictAddressFamilies=AF_INET AF_INET6 AF_UNIX", "UMask=0077", "User=durshavon"],
+    "desk-publish@": [*ASKS_THE_DESK, "RestrictAddressFamilies=AF_INET AF_INET6 AF_UNIX", "UMask=0022", "User=durshavon"],
     "desk-signer@": HAS_A_KEY,
     "desk-responder@": HAS_A_KEY,
 }
@@ -290,9 +290,9 @@ class Units:
 
     def words(self, unit, setting="ExecStart"):
         """The words of a service, with the variables of its register's file."""
-        said = {"OPTIONS": "", "RESPONDER": ""}
+        said = {"ADDRESS": "127.0.0.1", "OPTIONS": "", "RESPONDER": ""}
         said |= dict(line.split("=", 1) for line in (self.root.path / "etc/durshavon/ca.conf").read_text().splitlines())
-        words = self.setting(unit, setting).replace("${PORT}", said["PORT"])
+        words = self.setting(unit, setting).replace("${ADDRESS}", said["ADDRESS"]).replace("${PORT}", said["PORT"])
         for name in ("OPTIONS", "RESPONDER"):
             words = words.replace(f"${name}", said[name].strip('"'))
         return shlex.split(words)
