@@ -187,6 +187,16 @@ def no_copy_at_the_control_socket(t):
 
 
 @test
+def an_open_register_whose_files_were_emptied_is_damaged(t):
+    t.register(lines=ENTERED)
+    t.open()
+    for name in ("ca.db", "ca.db-wal"):
+        os.truncate(t.room / name, 0)
+    refused(t, "counter", "copy.db", "damaged, or not a database: check the path and the disk")
+    t.same(left(t), [], "what is left")
+
+
+@test
 def no_right(t):
     t.register(lines=ENTERED)
     for name in {"ca.db", "ca.db-wal"} & {it.name for it in t.room.iterdir()}:

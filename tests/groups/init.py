@@ -102,3 +102,21 @@ def a_log_that_is_a_link_to_nowhere_is_left_alone(t):
     ran = t.desk("init", "ca.db", *WORDS)
     t.same((ran.status, ran.out, ran.err), (1, b"", b"F2 store\n"))
     t.same([(it.name, os.readlink(it)) for it in t.room.iterdir()], [("ca.db-wal", "nowhere")], "what is left")
+
+
+@test
+def a_journal_without_its_register_is_left_alone(t):
+    """Only SQLite can play it back. No cause is reported, since nothing is damaged."""
+    journal = bytes.fromhex("d9d505f920a163d7 00000001 00000000 00000001 00000200 00001000".replace(" ", "")) + bytes(484)
+    (t.room / "ca.db-journal").write_bytes(journal)
+    ran = t.desk("init", "ca.db", *WORDS, "--why")
+    t.same((ran.status, ran.out, ran.err), (1, b"", b"F2 store\n"))
+    t.same([(it.name, it.read_bytes()) for it in t.room.iterdir()], [("ca.db-journal", journal)], "what is left")
+
+
+@each({"a URI": "file:ca.db", "a name of SQLite's own": ":memory:"})
+def no_register_gets_a_name_that_sqlite_reads_otherwise(t, name):
+    """No command could open it later."""
+    ran = t.desk("init", name, *WORDS)
+    t.same((ran.status, ran.out, ran.err), (1, b"", b"F2 store\n"))
+    t.same([it.name for it in t.room.iterdir()], [], "what is left")

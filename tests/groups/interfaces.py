@@ -15,7 +15,7 @@ from pathlib import Path
 from lib import faults
 from lib.authority import until
 from lib.program import LONGEST, Control, Opened, environment, free_port, moment_of, parted, program, read_all, seconds_of
-from lib.trial import Skipped, each, test
+from lib.trial import Skipped, each, need, test
 
 DAY = "2026-01-01T00:00:00Z"
 ENTERED = f"{DAY} subscriber acme\n{DAY} order 1 398\n{DAY} register 1 05 {DAY} 2026-12-31T00:00:00Z\n"
@@ -77,6 +77,28 @@ def a_log_in_the_place_of_that_of_a_register_behind_a_link(t):
     (t.room / "ca.db").symlink_to("registers/ca.db")
     ran = t.desk("open", "ca.db", "--unsigned", "--control", "counter", "--port", free_port(), "--log-file", "registers/ca.db-wal", "--why")
     t.same((ran.status, ran.out, ran.err), (1, b"", b"F5 write\n  the path already exists: give another one (--log-file)\n"))
+
+
+@test
+def a_log_on_another_file_system_is_no_file_of_the_register(t):
+    """Although it has the number there that the register's file has on its own one."""
+    if os.geteuid():
+        raise Skipped("file systems of their own want root")
+    need("mount")
+    for name in ("registers", "logs"):
+        (t.room / name).mkdir()
+        if subprocess.run(["mount", "-t", "tmpfs", "-o", "size=4m", "tmpfs", t.room / name], capture_output=True).returncode:
+            raise Skipped("no file system can be mounted here")
+        t.callback(subprocess.run, ["umount", t.room / name], check=True)
+    (t.room / "logs/ca.log").touch()
+    t.register("registers/ca.db")
+    number, other = (os.stat(t.room / it).st_ino for it in ("registers/ca.db", "logs/ca.log"))
+    if number != other:
+        raise Skipped(f"the first files of two file systems have other numbers here: {number}, {other}")
+    desk = t.open("registers/ca.db", "--log-file", "logs/ca.log")
+    t.same(t.done("at", "counter", given="counts\n"), "good 0 revoked 0 expired 0\n")
+    desk.end()
+    t.has((t.room / "logs/ca.log").read_text(), '"counts"', "the log")
 
 
 @test
@@ -171,6 +193,22 @@ def no_connection_gets_the_number_of_a_closed_standard_stream(t, closed, told, l
     ran = t.tried(*words, given="subscriber acme\nsubscriber beta\n", timeout=60, env=environment())
     t.same((ran.returncode, ran.stderr), (1, told))
     t.same(t.control().ask("subscriber last"), f"subscriber {lines + 1}", "a line behind it")
+
+
+@test
+def no_file_of_a_register_gets_the_number_of_closed_standard_error(t):
+    """Else the log would be written into that file."""
+    t.register()
+    port = free_port()
+    words = ["open", "ca.db", "--port", str(port), "--control", "counter", "--unsigned", "--log"]
+    it = subprocess.Popen(
+        ["bash", "-c", 'exec "$@" 2>&-', "-", program(), *words], cwd=t.room, stdin=subprocess.DEVNULL, stdout=subprocess.PIPE, env=environment()
+    )
+    t.callback(it.wait, LONGEST)
+    t.callback(it.kill)
+    with it.stdout:
+        t.same(it.stdout.readline(), b"listening %d\n" % port)
+    t.same(os.readlink(f"/proc/{it.pid}/fd/2"), "/dev/null", "the file with the number of standard error")
 
 
 @test

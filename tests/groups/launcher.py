@@ -178,6 +178,48 @@ def a_build_is_trimmed_unless_it_is_to_be_kept(t, words):
 
 
 @test
+def a_build_takes_none_of_the_input_and_prints_nothing_among_the_replies(t):
+    it = Repository(t)
+    build = BUILD.replace("#!/bin/sh\n", "#!/bin/sh\ncat >/dev/null\necho building\n", 1).replace('echo proved "$@"', "cat")
+    put(it.top / "tools/build.py", build, is_program=True)
+    ran = t.tried(it.top / "desk", "script", "ca.db", given=b"a line\n", env=it.env)
+    t.same((ran.returncode, ran.stdout), (0, b"a line\n"), "status, and the input that the program got")
+    t.has(ran.stderr, b"building", "standard error")
+
+
+@test
+def a_build_that_finds_nothing_to_do_is_tried_once(t):
+    """As after an edit of a comment, which leaves the program older than its source."""
+    it = Repository(t)
+    t.same(it.desk("build")[0], 0)
+    put(it.top / "tools/build.py", '#!/bin/sh\necho "build $*" >>"$(dirname "$0")/../ran"\n', is_program=True)
+    os.utime(it.top / "crates/reg_desk/out/reg_desk", (1, 1))
+    (it.top / "ran").unlink()
+    for _ in range(2):
+        t.same(it.desk("script", "ca.db")[:2], (0, "proved script ca.db\n"), "status and standard output")
+    t.same((it.top / "ran").read_text().splitlines(), BUILDS["script ca.db"], "what was run")
+
+
+@test
+def a_link_to_the_launcher_runs_the_program_of_its_repository(t):
+    it = Repository(t)
+    t.same(it.desk("build")[0], 0)
+    (t.room / "bin").mkdir()
+    (t.room / "bin/desk").symlink_to(it.top / "desk")
+    t.same(it.run(t.room / "bin/desk", "script", "ca.db"), (0, "proved script ca.db\n", ""), "status, standard output and standard error")
+
+
+@test
+def tunables_that_are_set_already_come_behind_that_of_large_pages(t):
+    it = Repository(t)
+    put(it.top / "crates/reg_desk/out/reg_desk", '#!/bin/sh\necho "$GLIBC_TUNABLES"\n', is_program=True)
+    it.env.pop("GLIBC_TUNABLES", None)
+    t.same(it.desk("script", "ca.db"), (0, "glibc.malloc.hugetlb=1\n", ""), "none are set")
+    it.env["GLIBC_TUNABLES"] = "glibc.malloc.arena_max=1"
+    t.same(it.desk("script", "ca.db"), (0, "glibc.malloc.hugetlb=1:glibc.malloc.arena_max=1\n", ""), "one is set")
+
+
+@test
 def the_words_of_a_build(t):
     it = Repository(t)
     status, out, _ = it.desk("build", "--help")

@@ -99,6 +99,35 @@ def a_link_to_a_socket_is_not_taken_over(t):
     t.same((os.readlink(t.room / "counter"), (t.room / "stale").is_socket()), ("stale", True), "the link and the socket")
 
 
+@test
+def a_control_socket_that_may_not_be_used_is_not_taken_over(t):
+    """Its desk may be another user's, to which this one may not connect."""
+    t.register()
+    t.register("other.db")
+    t.open()
+    before = (t.room / "counter").stat().st_ino
+    words = ["open", "other.db", "--control", "counter", "--unsigned"]
+    desk = t.enter_context(program.Opened(words, cwd=t.room, faults=faults.environment(count=t.room / "count", fail="connect:1=EACCES")))
+    t.same(desk.listens, False, "whether the second desk listens")
+    ended = desk.wait()
+    t.same((ended.status, ended.err, faults.counted(t.room / "count")["met"]), (1, b"F4 read\n", 1), "the second desk")
+    t.same((t.room / "counter").stat().st_ino, before, "the socket")
+    t.same(t.control().ask("counts"), "good 0 revoked 0 expired 0", "the first desk")
+
+
+@test
+def a_desk_that_can_not_lock_the_folder_of_its_control_socket_does_not_listen(t):
+    """Without the lock, two desks could take over one stale socket."""
+    t.register()
+    words = ["open", "ca.db", "--control", "counter", "--unsigned"]
+    fault = faults.environment(count=t.room / "count", fail="lock:1=EIO", only=t.room.name)
+    desk = t.enter_context(program.Opened(words, cwd=t.room, faults=fault))
+    t.same(desk.listens, False, "whether it listens")
+    ended = desk.wait()
+    t.same((ended.status, ended.err, faults.counted(t.room / "count")["met"]), (1, b"F4 read\n", 1))
+    t.same((t.room / "counter").exists(), False, "whether there is a socket")
+
+
 WHY_NONE = {"in no folder": ("nowhere/counter", "  no such file (--control)\n"), "where a desk listens": ("counter", "  in use by another program (--control)\n"), "where a file lies": ("ca.db", "")}
 
 
@@ -712,6 +741,14 @@ def a_terminal_shows_the_rows_and_crls_of_an_audit(t):
     t.same(t.desk("audit", "ca.db", faults=faults.environment(tick=1_000)).err, b"", "where standard error is no terminal")
     (t.room / "passed").write_bytes(bytes(8))
     t.same(on_a_terminal(t, "audit", "ca.db", passed=t.room / "passed"), [], "what it shows in less than a second")
+
+
+@each({"a script": (["script", "ca.db"], f"{DAY} counts\n"), "an audit": (["audit", "ca.db"], "")})
+def a_terminal_shows_nothing_in_the_first_second(t, words, given):
+    """However long the machine has run before."""
+    t.register(lines=f"{DAY} subscriber acme\n{DAY} crl\n")
+    have_passed(t, 5_000)
+    t.same(on_a_terminal(t, *words, given=given.encode(), passed=t.room / "passed"), [])
 
 
 @test

@@ -152,6 +152,26 @@ def the_timer_runs_every_five_minutes(t):
     t.same(re.findall(r"(?:Next elapse|Iteration #\d|Iter\. #\d): \S+ (.*)", told), [f"2026-01-01 00:{minute}:00 UTC" for minute in ("05", "10", "15")], told)
 
 
+@test
+def the_timer_s_crl_does_not_wait_after_a_lost_key(t):
+    [script] = re.findall(r"^ExecStart=(.*)$", units("service")["desk-crl@.service"], re.MULTILINE)
+    t.has(f"{script} ", " --at-once key-compromise,control-lost ")
+
+
+@test
+def a_desk_that_ends_is_started_again_unless_its_command_line_is_wrong(t):
+    found = units("service")["desk@.service"].splitlines()
+    t.same([it for it in ("Restart=always", "RestartSec=2", "RestartPreventExitStatus=2", "StartLimitIntervalSec=0") if it not in found], [], "what desk@.service lacks")
+    t.same(t.desk("open", "ca.db", "--port", "8080", "--control", "control").status, 2, "the status of `desk open` without a signer")
+
+
+@test
+def every_user_can_read_what_is_published(t):
+    """Such as that of the web server."""
+    found = units("service")["desk-publish@.service"].splitlines()
+    t.same([it for it in ("StateDirectory=durshavon-crl/%i", "StateDirectoryMode=0755", "UMask=0022") if it not in found], [], "what desk-publish@.service lacks")
+
+
 def maintained(t, script, *words):
     """What a script of the package has systemctl do, where systemd runs; nothing else of the machine is changed."""
     (t.room / "bin").mkdir(exist_ok=True)

@@ -262,6 +262,20 @@ def a_token_that_does_not_sign(t):
     t.same(list((t.room / "left").iterdir()), [], "digests that are left")
 
 
+@test
+def the_pin_of_a_token_is_in_no_command_line(t):
+    """Other users of the machine see the words of each process."""
+    (t.room / "bin").mkdir()
+    (t.room / "bin/pkcs11-tool").write_text(f'#!/bin/sh\necho "$@" >"{t.room}/words"\nprintf %s "$PIN" >"{t.room}/pin"\n')
+    (t.room / "bin/pkcs11-tool").chmod(0o755)
+    (t.room / "ca.pin").write_text("271828\n")
+    env = {**os.environ, "PATH": f"{t.room}/bin:{os.environ['PATH']}"}
+    t.tool("sh", authority.EXAMPLES / "pkcs11-signer.sh", "ecdsa-sha256", "module.so", "ca", "01", "ca.pin", given=b"x", env=env)
+    words = (t.room / "words").read_text().split()
+    t.same([it for it in words if "271828" in it], [], f"words that have the PIN, of {words}")
+    t.same((t.room / "pin").read_text(), "271828", "the PIN in the environment of pkcs11-tool")
+
+
 @test(seconds=6)
 def coming_from_openssl_ca(t):
     need("bash", "curl")

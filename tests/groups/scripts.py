@@ -5,6 +5,8 @@ import hashlib
 import os
 import re
 import shutil
+import signal
+import socket
 import subprocess
 import threading
 import time
@@ -298,6 +300,70 @@ def a_reader_gets_the_old_one_or_the_new_one(t):
     t.same((len(crls), seen <= crls), (5, True), "CRLs, and whether nothing else was read")
 
 
+def played_by_curl(t, does):
+    """The environment in which these lines of a shell script are `curl`."""
+    (t.room / "bin").mkdir()
+    (t.room / "bin/curl").write_text(f"#!/bin/sh\n{does}\n")
+    (t.room / "bin/curl").chmod(0o755)
+    return {"PATH": f"{t.room}/bin:{os.environ['PATH']}"}
+
+
+def issue_at_once(t, desk, **how):
+    """Issues a CRL of a revocation that waits for one."""
+    now = authority.now()
+    registers = f"register 1 05 {moment_of(now)} {moment_of(now + DAY)}"
+    at_control(t, "subscriber acme", "order 1 30", registers, "request 05 key-compromise", "revoke 1")
+    return played(t, "issue-due-crl.sh", "--at-once", "key-compromise", "--port", desk.port, "counter", **how)
+
+
+@each({"publish-crl.sh": (publish, ["/crl"]), "issue-due-crl.sh": (issue_at_once, ["/metrics", "/list/revoked?limit=250"])}, seconds=2)
+def each_request_to_a_desk_ends_after_a_minute(t, script, paths):
+    """Else one run would wait forever for a desk that hangs, and no later one could begin."""
+    _, desk = open_desk(t, "crl")
+    more = played_by_curl(t, f'echo "$@" >>"{t.room}/asked" && exec {shutil.which("curl")} "$@"')
+    t.same(script(t, desk, more=more)[0], 0, "its status")
+    asked = (t.room / "asked").read_text().splitlines()
+    t.same([it for it in asked if " --max-time 60 " not in it], [], "calls of curl that may take longer")
+    t.same([it.partition(f"127.0.0.1:{desk.port}")[2] for it in asked], paths, "what is asked")
+
+
+@test
+def what_a_server_says_is_told_in_one_line_of_plain_characters(t):
+    """It may be a proxy's page, and goes to a terminal or into a mail."""
+    (t.room / "www").mkdir()
+    (t.room / "ca.pem").write_text("")
+    body = b"one\n\x1b[31mtwo\x07\r\n"
+    with socket.create_server(("127.0.0.1", 0)) as server, ThreadPoolExecutor(1) as pool:
+        server.settimeout(60)
+
+        def answer():
+            peer, _ = server.accept()
+            with peer:
+                peer.recv(65_536)
+                peer.sendall(b"HTTP/1.1 502 Bad Gateway\r\nContent-Length: %d\r\nConnection: close\r\n\r\n" % len(body) + body)
+
+        pool.submit(answer)
+        url = f"http://127.0.0.1:{server.getsockname()[1]}/crl"
+        fails(t, played(t, "publish-crl.sh", url, "www", "ca.pem"), f"publish-crl: {url}: 502 one[31mtwo")
+
+
+@test
+def a_run_that_is_ended_leaves_nothing_beside_what_is_published(t):
+    """As a unit of systemd is stopped. Else what was fetched and not yet checked would stay in the folder of the web server."""
+    (t.room / "www").mkdir()
+    (t.room / "ca.pem").write_text("")
+    env = {**os.environ, **played_by_curl(t, f'touch "{t.room}/asked"\nexec sleep 60')}
+    words = [EXAMPLES / "publish-crl.sh", "http://127.0.0.1:1/crl", "www", "ca.pem"]
+    run = subprocess.Popen(words, cwd=t.room, env=env, stdin=subprocess.DEVNULL, stderr=subprocess.DEVNULL, start_new_session=True)
+    t.callback(run.wait, program.LONGEST)
+    t.callback(run.kill)
+    authority.until((t.room / "asked").exists, "that it asks")
+    t.same(len(names(t.room / "www")), 1, "what it has in the folder")
+    os.killpg(run.pid, signal.SIGTERM)
+    run.wait(program.LONGEST)
+    t.same(names(t.room / "www"), [], "what is left")
+
+
 # register-pem.sh
 
 
@@ -440,6 +506,20 @@ def refused_certificates_are_reported_and_the_others_registered(t):
     t.same(register_pem(t, "-c", "counter", "-s", "a+b", "nameless.pem"), (3, "", ["nameless.pem: subscriber a+b: E04 bad-name"]))
     desk.end()
     t.same((len(rows(t, "orders")), len(rows(t, "cert"))), (1, 1), "orders and certificates")
+
+
+@test(seconds=2)
+def a_certificate_of_another_ca_that_the_machine_trusts_is_refused(t):
+    """The CA that is named counts alone: a serial number that was registered can't be taken back."""
+    unsigned_desk(t)
+    other = Authority(t, name="other", subject="/CN=U")
+    issued(t, other, "strange", "15")
+    (t.room / "trusted").mkdir()
+    shutil.copy(other.pem, t.room / "trusted")
+    t.tool("openssl", "rehash", "trusted")
+    ran = register_pem(t, "-c", "counter", "-a", "ca.pem", "strange.pem", more={"SSL_CERT_DIR": str(t.room / "trusted")})
+    t.same(ran, (3, "", ["strange.pem: not signed by ca.pem"]))
+    t.same(at_control(t, "status 15"), ["unknown"])
 
 
 @test(seconds=2)
