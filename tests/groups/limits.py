@@ -88,6 +88,31 @@ def clients_that_connect_before_the_mode_is_set_are_disconnected(t):
         t.same(control.ask("subscriber owner"), "subscriber 1", "the owner's line")
 
 
+@test(seconds=4)
+def a_thousand_clients_that_connect_before_the_mode_is_set_are_disconnected(t):
+    """Or as many as the socket's queue takes."""
+    _, hard = resource.getrlimit(resource.RLIMIT_NOFILE)
+    if hard < 2_000 and hard != resource.RLIM_INFINITY:
+        raise Skipped("the system has no descriptors for 1,000 connections: ulimit -n 2000")
+    resource.setrlimit(resource.RLIMIT_NOFILE, (2_000, hard))
+    t.register()
+    with ThreadPoolExecutor(1) as pool, contextlib.ExitStack() as clients:
+        opening, early = pool.submit(t.open, faults=faults.environment(slow_chmod=t.room / "connected")), []
+        authority.until(lambda: (t.room / "counter").is_socket(), "the socket")
+        with contextlib.suppress(BlockingIOError):
+            while len(early) < 1_000:
+                client = clients.enter_context(socket.socket(socket.AF_UNIX))
+                client.setblocking(False)
+                client.connect(str(t.room / "counter"))
+                early.append(client)
+        t.true(oct((t.room / "counter").stat().st_mode & 0o777) != "0o600", "the mode was set before the clients came")
+        (t.room / "connected").touch()
+        opening.result()
+        for it in reversed(early):
+            it.settimeout(20)
+            t.same(it.recv(1), b"", f"what one of {len(early)} clients hears that came before the mode was set")
+
+
 @test
 def a_link_to_a_socket_is_not_taken_over(t):
     t.register()
@@ -232,6 +257,18 @@ def as_many_replies_as_lines_and_rows(t):
     t.same((ran.status, ran.lines.count("E08 no-order")), (0, MANY), "replies of `desk import`")
 
 
+@test
+def a_reply_of_more_than_8_kib_is_written_whole(t):
+    """`desk at` writes the reply to an OCSP request of 60 CertIDs as it comes from the control socket."""
+    t.register()
+    t.clock(DAY)
+    t.open()
+    line = f"ocsp {asks(60).hex()}"
+    reply = t.control().ask(line)
+    t.true(len(reply) > 8_192, f"it has {len(reply)} characters")
+    t.same(t.done("at", "counter", given=f"{line}\ncounts\n"), f"{reply}\ngood 0 revoked 0 expired 0\n")
+
+
 @test(seconds=10)
 def a_desk_answers_more_than_a_million_lines(t):
     """At one control connection, of which the event loop takes one line in each iteration. So it has more than a million iterations."""
@@ -280,6 +317,32 @@ def a_log_of_more_than_a_hundred_thousand_lines(t):
     t.open()
     (t.room / "ca.log").write_text(f'{DAY} control "counts" "good 0 revoked 0 expired 0" 27 9\n' * MANY + f'{DAY} control "subscriber acme" "subscriber 1" 13 9\n')
     t.same(t.done("replay", "counter", "ca.log"), "subscriber 1\n")
+
+
+@test(seconds=5)
+def a_log_of_more_than_a_million_lines(t):
+    """As of a desk that was asked by many clients. Its last line has the only command."""
+    t.register()
+    t.clock(DAY)
+    t.open()
+    with open(t.room / "ca.log", "w") as log:
+        for _ in range(11):
+            log.write(f"{DAY} 127.0.0.1:50000 lost late\n" * MANY)
+        log.write(f'{DAY} control "subscriber acme" "subscriber 1" 13 9\n')
+    t.same(t.done("replay", "counter", "ca.log"), "subscriber 1\n")
+
+
+@test(seconds=2)
+def the_last_answer_is_sent_whole_in_forty_thousand_writes(t):
+    """Each takes a byte. `desk serve` has answered its last request."""
+    size = 40_000
+    t.register(lines=f"{DAY} crl\n{DAY} crl\n")
+    t.sql("ca.db", f"UPDATE crl SET der = zeroblob({size}) WHERE number = 1")
+    t.clock(DAY)
+    desk = t.open("ca.db", "--requests", 1, command="serve", faults=faults.environment(short=1, only="socket"))
+    status, _, body = parted(desk.send(b"GET /crl/1 HTTP/1.1\r\n\r\n"))
+    t.same((status, len(body)), (200, size), "its status, and how many bytes of the CRL came")
+    t.same(desk.wait().status, 0, "the status of `serve`")
 
 
 @test(seconds=3)
@@ -438,10 +501,24 @@ def a_signer_that_had_no_room(t, desk):
         t.true(ANY_SIGNATURE in answer.result(), "the answer has no signature")
 
 
+def descriptors_that_ran_out_for_a_time(t, desk):
+    pid, counted = desk.process.pid, lambda kind: faults.counted(t.room / "count")[kind]
+    # The second poll is behind the calls of accept(2) at the start.
+    authority.until(lambda: counted("poll") >= 2, "that the desk waits for clients")
+    before, usual = counted("accept"), resource.prlimit(pid, resource.RLIMIT_NOFILE)
+    resource.prlimit(pid, resource.RLIMIT_NOFILE, (len(os.listdir(f"/proc/{pid}/fd")), usual[1]))
+    client = t.enter_context(desk.connect())
+    client.sendall(COUNTS)
+    authority.until(lambda: counted("accept") >= before + 2, "that accept(2) has failed")
+    resource.prlimit(pid, resource.RLIMIT_NOFILE, usual)
+    t.same(parted(read_all(client))[0], 200, "the answer, once there is a descriptor")
+
+
 # How often the desk may wake up in a second.
 IDLE = {"nobody": (lambda t, desk: None, 1), "eight control connections": (eight_control_connections, 1), "a silent client": (a_silent_client, 8),
         "a client that closed its side": (a_client_that_closed_its_side, 8),
-        "a signer that had no room": (a_signer_that_had_no_room, 1)}
+        "a signer that had no room": (a_signer_that_had_no_room, 1),
+        "descriptors that ran out for a time": (descriptors_that_ran_out_for_a_time, 1)}
 
 
 @each(IDLE, seconds=3)
@@ -451,6 +528,10 @@ def a_desk_that_waits_seldom_wakes_up(t, begin, most):
     t.register(key=P256_KEY)
     desk = t.open("ca.db", *SIGNING, faults=faults.environment(count=t.room / "count"))
     begin(t, desk)
+    seldom_wakes_up(t, most)
+
+
+def seldom_wakes_up(t, most):
     polls = lambda: faults.counted(t.room / "count")["poll"]
     found = []
     # On a slow machine it may still have something to do in the first of these seconds.
@@ -459,6 +540,19 @@ def a_desk_that_waits_seldom_wakes_up(t, begin, most):
         time.sleep(1)
         found.append(polls() - before)
     t.true(min(found) <= most, f"so often in each second: {found}")
+
+
+@test(seconds=3)
+def a_desk_seldom_wakes_up_once_a_signer_without_room_has_had_its_ten_seconds(t):
+    t.register(key=P256_KEY)
+    have_passed(t, 0)
+    with ThreadPoolExecutor(1) as pool, full_queue(t):
+        desk = t.open("ca.db", *SIGNING, faults=faults.environment(passed=t.room / "passed", count=t.room / "count"))
+        answer = pool.submit(desk.ask, "POST", "/ocsp", asks(1))
+        authority.until(lambda: faults.counted(t.room / "count")["connect"], "that it is asked")
+        have_passed(t, 10_000)
+        t.true(answer.result(20).endswith(authority.INTERNAL), "the answer is signed")
+        seldom_wakes_up(t, 1)
 
 
 @test(seconds=5)
@@ -545,6 +639,18 @@ def a_signed_answer_has_a_second_to_be_read_if_its_client_sends_on(t):
     authority.until(lambda: desk.files == desk.before + 1, "that it has its connection, and no other client has one", seconds=10)
     desk.advance(1_000)
     authority.until(lambda: desk.files == desk.before, "that its connection is closed", seconds=10)
+
+
+@test(seconds=2)
+def all_that_follows_a_request_is_read_before_its_connection_is_closed(t):
+    """If the desk closed the connection with unread bytes, the client could lose its answer. The desk takes a byte with each read. No time passes."""
+    t.register()
+    have_passed(t, 0)
+    desk = t.open("ca.db", faults=faults.environment(passed=t.room / "passed", short=1, only="socket"))
+    with desk.connect() as client:
+        client.sendall(COUNTS + b"x" * 1_000)
+        t.same(parted(read_all(client))[0], 200, "its answer")
+        authority.until(lambda: program.is_read(client), "that the desk has read all that followed", seconds=10)
 
 
 @test(seconds=2)
@@ -648,6 +754,25 @@ def the_log_has_the_time_between_two_readings(t):
 def a_copy_reports_the_time_between_two_readings(t):
     t.register()
     t.same(t.done("copy", "ca.db", "copy.db", faults=faults.environment(tick=TICK)).split(" in ")[1], f"{TICK} ms\n")
+
+
+@each({"a job": "job", "a line": "line"}, seconds=2)
+def a_copy_reports_the_time_that_passes_during_it(t, what):
+    """A second and a half, while its folder is opened."""
+    t.register()
+    (t.room / "copies").mkdir()
+    have_passed(t, 0)
+    told = faults.environment(passed=t.room / "passed", slow_open=t.room / "goes-on", only="copies")
+    with ThreadPoolExecutor(1) as pool:
+        if what == "job":
+            reply = pool.submit(t.done, "copy", "ca.db", "copies/copy.db", faults=told)
+        else:
+            t.open(faults=told)
+            reply = pool.submit(t.control().ask, "copy copies/copy.db")
+        authority.until(lambda: (t.room / "goes-on.waits").exists(), "that the desk opens the folder")
+        have_passed(t, 1_500)
+        (t.room / "goes-on").touch()
+        t.same(reply.result().rstrip("\n").split(" in ")[1], "1500 ms")
 
 
 @test(seconds=3)
@@ -823,6 +948,35 @@ def late_and_evicted_connections_are_counted(t):
     t.tool("prlimit", "--pid", desk.desk.process.pid, f"--nofile={desk.before + 1}:{desk.before + 1}")
     desk.comes(COUNTS[:9])
     authority.until(lambda: lost_by(desk.desk) == {"broken": 0, "late": 1, "crowded": 1, "memory": 0}, "the one that was evicted in the metrics")
+
+
+@test(seconds=3)
+def a_lost_control_connection_is_counted(t):
+    """It closes with replies that it has not read."""
+    t.register()
+    desk = t.open()
+    with Control(t.room / "counter") as control, contextlib.suppress(TimeoutError):
+        control.peer.settimeout(1)
+        while True:
+            control.peer.sendall(b"counts\n")
+    wanted = {"broken": 1, "late": 0, "crowded": 0, "memory": 0}
+    authority.until(lambda: lost_by(desk) == wanted, "the lost connection in the metrics", seconds=20)
+
+
+@test(seconds=2)
+def a_connection_that_the_kernel_does_not_watch_is_lost_as_broken(t):
+    t.register()
+    usual = t.open("ca.db", faults=faults.environment(count=t.room / "usual"))
+    before = faults.counted(t.room / "usual")["watch"]
+    usual.end()
+    os.remove(t.room / "counter")
+    desk = t.open("ca.db", "--log", faults=faults.environment(count=t.room / "count", fail=f"watch:{before + 1}"))
+    with desk.connect() as client:
+        t.same(read_all(client), b"", "what the client hears")
+    lost = lambda: [it.rsplit(" lost ", 1)[1] for it in desk.log if " lost " in it]
+    authority.until(lost, "a line of the log for the lost connection", seconds=20)
+    t.same((lost(), lost_by(desk)), (["broken"], {"broken": 1, "late": 0, "crowded": 0, "memory": 0}), "why it was lost, in the log and in the metrics")
+    t.same(faults.counted(t.room / "count")["met"], 1, "faults that were met")
 
 
 @test

@@ -12,6 +12,7 @@ from lib.authority import EXAMPLES, Authority, body_of, moment_of
 from lib.documents import blocks
 from lib.program import Control, seconds_of
 from lib.trial import each, test
+from model import der
 
 BEGUN = "2026-01-01T00:00:00Z"
 NEXT = "2026-01-02T00:00:00Z"
@@ -101,6 +102,16 @@ def an_entry_with_a_number_that_is_not_higher(t):
     run(t, "ca.db", LISTED_06)
     t.done("script", "copy.db", given=f"{NEXT} crl\n")
     t.same(compared(t), (1, [f"missing revocation {serial('06')}"], ["behind-crl"]))
+
+
+@test(seconds=2)
+def a_crl_of_more_than_16_mib_is_compared(t):
+    """Its signature is so long, and is not verified."""
+    begun(t)
+    run(t, "ca.db", "")
+    part, algorithm, _ = authority.values_of(authority.inside((t.room / "published.crl").read_bytes())[1])
+    (t.room / "long.crl").write_bytes(der.value(0x30, part[2], algorithm[2], der.value(0x03, bytes(17_000_000))))
+    serves(t, crl="long.crl")
 
 
 NOT_BEHIND = {

@@ -128,6 +128,17 @@ def a_subscriber_behind_the_first_page_is_found(t):
     t.same(replies_to(t, "show subscriber s260"), ["E06 no-subscriber"])
 
 
+@test(seconds=3)
+def a_subscriber_behind_a_hundred_thousand_others_is_found(t):
+    count = 100_001
+    t.register()
+    rows = "WITH RECURSIVE row (id) AS (SELECT 1 UNION ALL SELECT id + 1 FROM row WHERE id < ?) SELECT id, 's' || id FROM row"
+    t.sql("ca.db", f"INSERT INTO subscriber {rows}", count)
+    t.clock(DAY)
+    t.open()
+    t.same(shown(t, f"subscriber s{count}"), {"subscriber": count, "name": f"s{count}"})
+
+
 @test
 def nothing_is_shown_while_the_clock_is_back(t):
     opened(t)

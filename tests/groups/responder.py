@@ -309,6 +309,27 @@ def a_signer_of_crls_that_hangs_holds_up_no_answer(t):
 
 
 @test(seconds=4)
+def a_crl_that_is_signed_ends_no_back_off_of_a_responder(t):
+    """The CA's signer signs it. The responder hangs: a line has waited for it, and the next line does not."""
+    it = Authority(t)
+    responder = Responder(it)
+    it.signer()
+    a_day(t, it, *it.signing())
+    hanging = t.signer("responder.sign", lambda message, call: "hang")
+    desk, line, unsigned = Passing(t, *it.signing(), *responder.words()), f"ocsp {it.asks('05').hex()}", f"ocsp {INTERNAL.hex()}"
+    with ThreadPoolExecutor(1) as pool, t.control() as control:
+        control.peer.settimeout(20)
+        waits = pool.submit(control.ask, line)
+        authority.until(lambda: hanging.asked, "that the responder is asked")
+        desk.advance(10_000)
+        t.same(waits.result(), unsigned, "the line that waited")
+        t.same(control.ask("crl"), "crl 2 entries 1", "a CRL")
+        with t.at_once("a line behind it"):
+            t.same(control.ask(line), unsigned, "a line behind it")
+    t.same(len(hanging.asked), 1, "how often the responder was asked")
+
+
+@test(seconds=4)
 def the_log_s_last_word_is_about_either_key(t):
     """The word `signer` marks a missing signature: of the responder's key for an answer, of the CA's for a CRL; and no other line has it."""
     it = Authority(t)

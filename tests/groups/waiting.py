@@ -233,6 +233,24 @@ def a_client_that_half_closes_after_its_request_is_answered(t):
         t.true(is_signed(program.parted(program.read_all(half))[2]), "its answer")
 
 
+@test(seconds=3)
+def a_client_that_half_closes_while_its_signature_is_made_is_answered(t):
+    held = Held(t)
+    t.register(key=P256_KEY)
+    desk, body = Passing(t, *SIGNING), asked_for(0x1100)
+    # It is accepted before its request comes, and so it is polled.
+    half = t.enter_context(desk.desk.connect())
+    authority.until(lambda: program.is_read(half), "that it is accepted")
+    half.sendall(b"POST /ocsp HTTP/1.1\r\nContent-Length: %d\r\n\r\n" % len(body) + body)
+    t.true(held.signers.until(1), "its signature is requested")
+    half.shutdown(socket.SHUT_WR)
+    # The desk has noticed the end when it has answered two other clients.
+    desk.advance(0)
+    held.release.set()
+    t.true(is_signed(program.parted(program.read_all(half))[2]), "its answer")
+    desk.loses()
+
+
 @test(seconds=14)
 def only_the_requester_waits_ten_seconds(t):
     """The signer hangs for one of them."""
@@ -599,3 +617,24 @@ def a_crl_of_more_than_a_socket_takes_at_once(t):
         t.same(crl.result(), f"crl 1 entries {count}")
     t.true(len(message) > 250_000, f"{len(message)} bytes")
     t.has(authority.body_of(t, desk.ask("GET", "/crl"), "application/pkix-crl"), message, "what was signed")
+
+
+@test(seconds=4)
+def a_signer_that_ends_before_it_has_read_a_long_crl_holds_up_no_line(t):
+    """The message is more than a socket takes at once, and the signer reads a byte of it. No time passes."""
+    registers.make_revoked(t.room / "ca.db", 6_000, P256_KEY)
+    server = t.enter_context(socket.socket(socket.AF_UNIX))
+    server.bind(str(t.room / "ca.sign"))
+    server.listen(4)
+    Passing(t, *SIGNING)
+    with ThreadPoolExecutor(1) as pool, t.control() as control:
+        control.peer.settimeout(20)
+        t.same(control.ask(f"accept-clock {program.moment_of(authority.now())}"), "clock accepted")
+        crl = pool.submit(control.ask, "crl")
+        peer, _ = server.accept()
+        with peer:
+            t.same(len(peer.recv(1)), 1, "the beginning of the message")
+            # Time in which the desk fills the socket's buffers.
+            time.sleep(0.3)
+        with t.at_once("the line"):
+            t.same(crl.result(), "F3 signer")
