@@ -1,5 +1,5 @@
 #!/usr/bin/env python3
-"""Builds the script that enters again what a register lost that was restored from a backup, with the original moments.
+"""Builds the script that enters again the changes that a register lost when it was restored from a backup, with the original moments.
 
     examples/after-a-backup.py ca.db --published ca.crl --log ca.log > again.txt
     desk script ca.db --strict --signer SOCKET --algorithm NAME < again.txt

@@ -1,5 +1,5 @@
-/* What signer/only_ours.c accepts, called without a signer: by a fuzzer, or for messages on standard input, each behind its length in four octets; then
- * it prints a 1 for each that is accepted and a 0 for each that is refused. CA and RESPONDER in the environment name the certificates. */
+/* Calls signer/only_ours.c without a signer: for a fuzzer, or for messages on standard input, each after its length in four octets. For each of these
+ * it prints 1 if the message is accepted, and 0 if it is refused. CA and RESPONDER in the environment name the files of the certificates. */
 #include <stdint.h>
 #include <stdio.h>
 #include <stdlib.h>

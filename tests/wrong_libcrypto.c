@@ -1,5 +1,5 @@
-/* Loaded before desk-signer (LD_PRELOAD): the last octet of each signature of libcrypto is another one, and the process ends where a nonce is drawn before
-   its message comes. */
+/* Loaded before desk-signer (LD_PRELOAD). It changes the last octet of each signature of libcrypto, and ends the process if it computes a nonce
+   before a message comes. */
 #define _GNU_SOURCE
 #include <dlfcn.h>
 #include <stdlib.h>

@@ -16,13 +16,13 @@ PICTURE = "docs/architecture.svg"
 ROWS = (("The program",), ("Jobs",), ("Front ends",), ("The office", "An audit"), ("CRLs, OCSP, signers", "The store"), ("Bytes", "The model"))
 LEVELS = {"CRLs, OCSP, signers": 2, "The store": 3, "The model": 2}  # lines of boxes in a layer, if not one
 COLUMNS = {"The office": 3}  # the width of a layer, if it is not that of its longest line
-# Below which row, at which x, on which side of the arrows the text is; what flows down, and what up.
+# For each pair of arrows the row above it, its x, on which side its text is, what flows down, and what flows up.
 FLOWS = (
     (2, 470, "right", "commands, queries, OCSP requests", "replies, CRLs, OCSP answers"),
     (3, 488, "left", "changes", "rows"),
     (4, 812, "left", "SQL", "rows"),
 )
-# Beside which row; a title; what flows into the row, and what comes from it.
+# For each box beside a row the row, a title, what flows into the row, and what flows out of it.
 OUTSIDE = (
     (0, "Operator", "command line", "exit status"),
     (2, "Clients", "HTTP requests, lines", "responses, replies"),
@@ -31,7 +31,7 @@ OUTSIDE = (
 WIDTH, MARGIN, LEFT, RIGHT = 900, 12, 186, 888
 BOX, BOX_HEIGHT, STEP, TITLE, PAD = 130, 24, 46, 19, 11
 GAP, NARROW_GAP = 48, 34
-# Of classes with one letter: middle, end, bold, heading, name; flow, layer, crate, outside; use, what flows.
+# The classes are the first letters of middle, end, bold, heading, name; flow, layer, crate, outside; use, what flows.
 STYLES = (
     "text{font:12.5px Arial,Helvetica,'Liberation Sans',sans-serif;fill:#1c2530}",
     ".m{text-anchor:middle}.e{text-anchor:end}.b{font-weight:bold}",
@@ -130,7 +130,7 @@ class Drawing:
                 self.at[crates[0]] = (self.at[below[0]][0], top + STEP * number)
 
     def ends(self, one, it):
-        """Of the line from a box to one that it uses: from side to side if they are beside each other, otherwise from the lower edge to the upper one."""
+        """The ends of a line from a box to one that it uses: at their sides if they are in one line, otherwise at the lower and the upper edge."""
         (x, y), (to_x, to_y) = self.at[one], self.at[it]
         if to_y - y < BOX_HEIGHT + 8:
             side = BOX / 2 if to_x > x else -BOX / 2

@@ -55,7 +55,7 @@ def has_function(path, name):
 
 
 def look_at_ways():
-    """`crate `file.rt` (`function`, ..)`: a crate applies to all files up to the next crate."""
+    """Checks names of the form `crate `file.rt` (`function`, ..)`: a crate applies to all files up to the next crate."""
     page = "docs/ARCHITECTURE.md"
     for part in re.split(r"\n\n", text(page)):
         if part.startswith("    ") or ".rt`" not in part:
@@ -74,7 +74,7 @@ def look_at_ways():
 
 
 def look_at_laws():
-    """The definitions in the table "Where is it?", each after the crate that has it."""
+    """Checks the definitions in the table "Where is it?", each after the crate that has it."""
     page = "docs/ARCHITECTURE.md"
     table = text(page).split("## Where is it?")[1].split("\n## ")[0]
     for law in re.findall(r"^\|.* \| ([^|]*) \|$", table, re.MULTILINE):
@@ -89,7 +89,7 @@ def look_at_laws():
 
 
 def look_at_promises():
-    """`| promise | crate `function` (`clause`), ..: `File.definition`, `definition` |`, without the crate if the heading names it."""
+    """Checks `| promise | crate `function` (`clause`), ..: `File.definition`, `definition` |`, without the crate if the heading names it."""
     page = "docs/PROOFS.md"
     of_heading = []
     for line in text(page).splitlines():
@@ -112,7 +112,7 @@ def look_at_promises():
 
 
 def look_at_functions(page, promise, functions, crates):
-    """Checks that the functions and clauses of a promise exist, and that calls from `main` reach one of the functions, unless it is a law or an example."""
+    """Checks that a promise's functions and clauses exist. Calls from `main` must reach one of the functions, unless it is a law or an example."""
     names = [it.split("::")[-1] for it in re.findall(r"`((?:[A-Za-z_]+::)*[a-z_0-9]+)`", functions)]
     sources = [path for crate in crates for path in (TOP / "crates" / crate / "src").rglob("*.rt")]
     for name in names:

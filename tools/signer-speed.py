@@ -27,7 +27,7 @@ sys.dont_write_bytecode = True
 sys.path.insert(0, str(Path(__file__).resolve().parent.parent / "examples"))
 from only_ours import OCTETS, SEQUENCE, read_certificate  # noqa: E402
 
-# About what is signed in an OCSP answer for one certificate.
+# About as long as the signed part of an OCSP answer for one certificate.
 MESSAGE = bytes(150)
 MOMENT = b"\x18\x0F20260101000000Z"
 
@@ -53,7 +53,7 @@ def asked(path, message):
 
 
 def signatures(path, message, count):
-    """Requests so many signatures, and only then reads the first."""
+    """Requests `count` signatures, and only then reads the first."""
     for peer in [asked(path, message) for _ in range(count)]:
         with peer:
             answer = b""

@@ -10,7 +10,7 @@
 It keeps the lowest libraries, in the order in which a build makes them, because a library is of no use without those below it. A later build proves from nothing
 each crate whose library was removed, that changed, or that uses a changed one. It does not build the program again if nothing has changed.
 
-Usage: tools/trim.py [BYTES]        (2,000,000,000 if left out; prints on standard error what it removed)
+Usage: tools/trim.py [BYTES]        (2,000,000,000 if left out; prints on standard error how much it removed and kept)
 """
 import fcntl
 import glob

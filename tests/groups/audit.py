@@ -1,5 +1,5 @@
-"""`desk audit` reports a sound register as sound. It reports a copy that one statement of SQL broke by its table and row, with status 1. An audit
-changes and creates no file."""
+"""`desk audit` reports a sound register as sound. If SQL broke a row, the audit prints the row's table and number, and ends with status 1.
+It reports a broken reference or CHECK as a damaged file. An audit changes and creates no file."""
 
 import os
 import shutil
@@ -15,12 +15,12 @@ NAME = "300C310A300806035504030C0154"
 KEY = "0102"
 FIRST_DAY = (program.TOP / "examples/first-day.txt").read_text()
 TABLES = ("cert", "request", "revocation", "standing", "listed")
-# A serial number of one byte, in each table that has it.
+# Sets each serial number to one byte in place of 20, in every table that has one.
 RENAMED = "; ".join(f"UPDATE {table} SET serial = x'05'" for table in TABLES)
 # The report about a row whose rowid is wrong.
 MOVED = "its number is not one more than that of the row before it, or not 1 in the first row"
 
-# A change of the register of a first day, and the report about the file.
+# SQL that changes the register of examples/first-day.txt, and how the audit's line goes on after `broken: `.
 BROKEN = {
     "a letter": ("UPDATE standing SET state = 'G' WHERE rowid = 1", "standing 1"),
     "a letter that is none": ("UPDATE standing SET state = 'Q' WHERE rowid = 1", "standing 1"),
@@ -63,7 +63,7 @@ BROKEN = {
     "a column besides": ("ALTER TABLE crl ADD COLUMN note TEXT", "schema: "),
     "a column of another name": ("ALTER TABLE subscriber RENAME COLUMN name TO label", "schema: "),
 }
-# With two certificates, one of them revoked and on CRL 1: a statement, and the reported line.
+# SQL that changes the register FULL (two certificates, one of them revoked and on CRL 1), and the line that the audit prints after `broken: `.
 TOLD = [
     ("UPDATE subscriber SET name = ''", "subscriber 1: a value that no register writes, or no such row"),
     ("UPDATE orders SET days = -1 WHERE id = 2", "orders 2: a value that no register writes, or no such row"),
@@ -102,8 +102,8 @@ TOLD = [
     ("DELETE FROM listed", "listed 1: differs from the records, or a row with a lower serial number is missing"),
     ("DELETE FROM standing WHERE state = 'R'; INSERT INTO standing SELECT serial, 1768003200, 'R' FROM revocation", "standing 1: its number is not one more than that of the row before it, or not 1 in the first row"),
 ]  # fmt: skip
-# Rows of each table that fit together: validities as long as ordered to the second, a request that was declined, and two for one serial number. Beside it
-# two revocations of one second, with a CRL between them; a CRL alone; and nothing.
+# AGREED makes sound rows in every table: two validities are as long as ordered to the second, a request is declined, and each revoked certificate has
+# two requests. ONE_SECOND has two revocations in one second, with a CRL between them. A_CRL has nothing but a CRL.
 AGREED = "".join(
     f"2026-01-0{it}\n"
     for it in (
@@ -132,11 +132,11 @@ SWAPPED = "; ".join(f"UPDATE revocation SET rowid = {new} WHERE rowid = {old}" f
 
 
 def asked(order, received):
-    """Request 5, for the serial number of an order."""
+    """SQL that adds request 5, for the certificate of an order."""
     return f"INSERT INTO request SELECT 5, serial, 1, {received}, 0 FROM cert WHERE order_id = {order}"
 
 
-# States that no run of commands leaves: the lines of the register, a statement, and the report.
+# States that no sequence of commands produces: the register's script, the SQL that changes it, and the audit's line.
 UNREACHED = [
     (AGREED, "UPDATE subscriber SET name = 'a b' WHERE id = 1", f"subscriber 1: {NAMED}"),
     (AGREED, "UPDATE subscriber SET name = 'globex!' WHERE id = 2", f"subscriber 2: {NAMED}"),
@@ -188,7 +188,7 @@ UNREACHED = [
     (A_CRL, "UPDATE office SET days = -1", f"office 1: {ALLOWED}"),
     ("", "UPDATE office SET days = 9223372036854775807", f"office 1: {ALLOWED}"),
 ]
-# States that some run leaves, or that no table shows: a later schedule, a moment without a column.
+# States that commands can produce, as far as the tables show: the schedule may have changed later, and orders have no moment.
 REACHED = [
     (AGREED, "UPDATE subscriber SET name = 'A-b_c.9' WHERE id = 1"),
     (AGREED, "UPDATE orders SET days = 398"),
@@ -204,7 +204,7 @@ REACHED = [
     (ONE_SECOND, "UPDATE orders SET days = 11"),
     ("", "UPDATE longest SET days = 2"),
 ]
-# Registers that no command opens: a row with a broken reference or a broken CHECK.
+# SQL after which no command opens the register: a row has a broken reference or violates a CHECK.
 DAMAGED = {
     "a certificate whose order is missing": "DELETE FROM orders",
     "an order whose subscriber is missing": "DELETE FROM subscriber",
@@ -213,7 +213,7 @@ DAMAGED = {
     "a revocation on another request": "UPDATE revocation SET request = 2",
     "a second row of counts": "PRAGMA ignore_check_constraints = 1; UPDATE kept SET one = 2",
 }
-# The report of a command that opens the file, about the office and the schedule.
+# SQL after which `office` or the schedule has values that no register can have. The audit rejects the file, as each command that opens it does.
 NO_OFFICE = {
     "a cap of 0": "UPDATE office SET cap = 0",
     "an empty key": "UPDATE office SET pubkey = x''",
@@ -227,7 +227,7 @@ NO_OFFICE = {
 
 @cache
 def days():
-    """The lines of a script of three months: certificates that end, and some that are revoked before; some lines are refused."""
+    """A script of three months: certificates expire, some of them are revoked before, and some lines are refused."""
     lines = ["2026-01-01T08:00:00Z subscriber acme", "2026-01-01T08:00:00Z subscriber globex"]
     for order in range(1, 41):
         lines.append(f"2026-01-01T09:00:00Z order {1 + order % 2} 90")
@@ -245,14 +245,14 @@ def days():
 
 
 def made(t, lines, file="ca.db"):
-    """A register with an issuer of its own, after a script of which some lines may be refused."""
+    """Makes a register with the issuer NAME, and runs a script, of which some lines may be refused."""
     t.register(file, name=NAME, key=KEY)
     t.same(t.desk("script", file, given=lines).status, 0, "the script")
     return file
 
 
 def alter(t, statements, file="ca.db"):
-    """Statements over the closed register, without the tests of foreign keys."""
+    """Runs statements of SQL on the closed register, without checks of foreign keys."""
     t.note(f"sql {file} {statements}")
     with sqlite3.connect(t.room / file) as db:
         db.executescript("PRAGMA foreign_keys = OFF;" + statements)
@@ -326,7 +326,7 @@ def each_octet_before_the_signature_counts(t):
     for at in range(len(der) - 20):
         other = der[:at] + bytes([der[at] ^ (1 << at % 8)]) + der[at + 1 :]
         t.sql("ca.db", "UPDATE crl SET der = ?", other)
-        t.same(audited(t), (1, "broken: crl 1: its bytes do not encode the CRL that the records give\n", "broken\n"), f"a bit of octet {at}")
+        t.same(audited(t), (1, "broken: crl 1: its bytes do not encode the CRL that the records give\n", "broken\n"), f"octet {at} is changed")
 
 
 @each(DAMAGED)
@@ -344,7 +344,7 @@ def an_office_out_of_its_ranges_is_no_register(t, statements):
 
 
 def values(der, start, end):
-    """The offsets of the values in DER (X.690 8.1): of each the tag, the contents, and the end."""
+    """Yields for each value in DER (X.690 8.1) the offsets of its tag, its contents and its end."""
     while start < end:
         size, contents = der[start + 1], start + 2
         if size >= 128:
@@ -355,7 +355,7 @@ def values(der, start, end):
 
 
 def parts(der):
-    """The parts of a CRL with an entry, each with the place of an octet in it; the signature is the last."""
+    """The offset of one octet in each part of a CRL that has an entry. The last part is the signature."""
     ((_, list_at, list_end),) = values(der, 0, len(der))
     (_, tbs_at, tbs_end), (_, _, algorithm), (bits, _, signature) = values(der, list_at, list_end)
     (_, _, version), (_, _, signed), (_, _, name), (_, _, this_update), (_, _, next_update), revoked, (_, _, number) = values(der, tbs_at, tbs_end)
@@ -387,7 +387,7 @@ def a_changed_bit_of_a_crl_is_reported(t, lines, number):
     breaks = {"no bytes": b"", "bytes of the CRL before": before, "bytes that end before": der[:-1], "a byte more": der + b"\0"}
     for what, place in parts(der).items():
         breaks[f"a bit of the {what}"] = der[:place] + bytes([der[place] ^ 1]) + der[place + 1 :]
-    # Another signature is as good: an audit does not verify it.
+    # An audit verifies no signature, so it accepts another one.
     signed = breaks.pop("a bit of the signature")
     for what, other in breaks.items():
         t.sql("ca.db", "UPDATE crl SET der = ? WHERE number = ?", other, number)
@@ -429,10 +429,10 @@ def a_large_register_is_found_sound(t):
 
 @test(seconds=15)
 def a_file_of_more_than_50_mb_is_counted_and_found_sound(t):
-    """A register of sound rows that another program wrote is opened, answers, takes rows, and is audited."""
+    """Another program wrote the sound rows. The desk opens the register, answers queries, accepts commands, and audits it."""
     records = registers.Records(135_000, 60)
     registers.make(t.room / "ca.db", records, 3)
-    t.true((t.room / "ca.db").stat().st_size > 50_000_000, "the file is not large")
+    t.true((t.room / "ca.db").stat().st_size > 50_000_000, "the file has at most 50 MB")
     good, revoked, expired = registers.expected(records)["kept"][0][1:]
     last = program.moment_of(records.last)
     gone = records.revocations[0][0]
@@ -453,7 +453,7 @@ def left_behind(t, file="ca.db"):
     opened = t.open(file)
     t.same(t.control().ask("revoke 2"), "revoked")
     opened.end(signal.SIGKILL)
-    t.true((t.room / f"{file}-wal").stat().st_size > 4096, "there is a log")
+    t.true((t.room / f"{file}-wal").stat().st_size > 4096, "the -wal does not have the revocation")
     return "sound, 2 certificates, 2 revoked, 1 CRLs\n"
 
 
@@ -462,10 +462,10 @@ def rows_in_the_wal_are_found_and_stay_there(t):
     told = left_behind(t)
     for _ in range(2):
         t.same(audited(t), (0, told, ""))
-    # The file alone is as it was before.
+    # Without its -wal, the file does not have the last revocation.
     shutil.copyfile(t.room / "ca.db", t.room / "alone.db")
-    t.same(audited(t, "alone.db"), (0, "sound, 2 certificates, 1 revoked, 1 CRLs\n", ""), "the file without its log")
-    # A command that opens them for writing finds the same.
+    t.same(audited(t, "alone.db"), (0, "sound, 2 certificates, 1 revoked, 1 CRLs\n", ""), "the file without its -wal")
+    # A command that opens the register for writing finds both revocations.
     t.same(t.done("script", "ca.db", given="2026-01-03T00:00:00Z counts\n"), "good 0 revoked 2 expired 0\n")
 
 
@@ -479,7 +479,7 @@ def no_call_writes(t):
     t.same(count["write"], 0, "writes into the register's files")
 
 
-# The contents of the path, and the line that reports them.
+# The contents of a file, and the line that the audit prints about it.
 OTHERS = {
     "no byte": (b"", "not-a-register"),
     "one byte": (b"x", "not-a-register"),
@@ -496,21 +496,21 @@ OTHERS = {
 def a_file_that_is_no_register_stays_as_it_is(t, contents, line):
     (t.room / "ca.db").write_bytes(contents)
     t.same(audited(t), (1, "", f"{line}\n"))
-    # A -wal beside it stays too.
+    # The audit does not change a -wal beside it either.
     (t.room / "ca.db-wal").write_bytes(bytes(40))
-    t.same(audited(t), (1, "", f"{line}\n"), "with a log beside it")
+    t.same(audited(t), (1, "", f"{line}\n"), "with a -wal beside it")
 
 
 @test
 def no_file_is_created_for_a_missing_register(t):
     t.same(audited(t, "none.db", "--why"), (1, "", "F2 store\n  no such file (FILE)\n"))
     (t.room / "lost.db-wal").write_bytes(bytes(40))
-    t.same(audited(t, "lost.db", "--why"), (1, "", "F2 store\n  no such file (FILE)\n"), "a log alone")
+    t.same(audited(t, "lost.db", "--why"), (1, "", "F2 store\n  no such file (FILE)\n"), "a -wal without its register")
 
 
 @test(seconds=2)
 def a_user_who_may_only_read_can_audit(t):
-    """By another user, of files and a folder without write permission."""
+    """Neither the files nor their folder are writable. If root runs the tests, a user without rights runs the audit."""
     told = left_behind(t)
     for name in ("ca.db", "ca.db-wal"):
         os.chmod(t.room / name, 0o444)

@@ -1,4 +1,5 @@
-"""examples/audit-report.py: its tables and figures beside the desk's own lists, counts, `overdue`, `next-crl` and CRLs, for a register of some hundred entries."""
+"""The tables and figures of examples/audit-report.py agree with the desk's own lists, counts, `overdue`, `next-crl` and CRLs, for a register of some
+hundred entries."""
 
 import csv
 import heapq
@@ -19,7 +20,7 @@ HOUR = 3600
 
 
 class Made:
-    """A register of 300 days, which ends half an hour ago: its lines, and the desk's replies to them."""
+    """A register with entries of 300 days, up to half an hour ago. `crls` has the desk's replies about each CRL."""
 
     def __init__(self, t, file="ca.db", seed=7):
         draw = random.Random(seed)
@@ -30,18 +31,18 @@ class Made:
             begins = draw.randrange(250 * DAY)
             ends = self.begun + begins + draw.choice((40, 90, 200, 397)) * DAY
             rows += [(begins, f"order {draw.randrange(4) + 1} 398"), (begins, f"register {at} {at * 65537:x} {moment_of(self.begun + begins)} {moment_of(ends)}")]
-        # Orders get their ids in the order of their moments.
+        # The desk numbers orders in the order of their moments; each `register` names the order just before it.
         rows.sort(key=lambda it: it[0])
         order, told = 0, []
         for when, line in rows:
             order += line.startswith("order")
             told.append((when, re.sub(r"^register \d+", f"register {order}", line)))
-        # Requests come at any time; one is decided in time, late, or not at all.
+        # Requests come at random moments of the last 100 days. `run` decides each in time, late, or never.
         requests = sorted(draw.sample(range(200 * DAY, 300 * DAY), 90))
         for when in requests:
             told.append((when, f"request {draw.randrange(1, 161) * 65537:x} {draw.choice(GROUNDS)}"))
         told += [(300 * DAY - hours * HOUR, f"request {serial * 65537:x} misuse") for hours, serial in ((20, 161 - 1), (5, 159), (1, 158))]
-        # A CRL every few days, and twice none for a while; before each one the desk replies when it is due.
+        # A CRL comes 2 to 14 days after the one before it, so some are late. Before each, `next-crl` asks when it is due.
         when = 30 * DAY
         while when < 299 * DAY:
             told += [(when, "next-crl"), (when, "crl")]
@@ -51,7 +52,7 @@ class Made:
         self.run(t, "".join(f"{moment_of(self.begun + when)} {line}\n" for when, line in told), draw)
 
     def run(self, t, lines, draw):
-        """Runs the lines in the order of their moments. Where the register as plain lists accepts a request, another line may decide it later."""
+        """Runs the lines in the order of their moments. If the model (tests/model) accepts a request, a line that decides it later may be added."""
         plain, left, told = Register(), [(line.split()[0], at, line) for at, line in enumerate(lines.splitlines())], []
         heapq.heapify(left)
         while left:
@@ -75,7 +76,7 @@ def listed(t, file, word):
 
 
 def report(t, *words, status=0):
-    """Runs the script, which must end with this status, and uses no proxy and no local time; returns its output."""
+    """Runs the script, which must end with this status; returns its output. The script must not use the proxy or the time zone of the environment."""
     env = program.environment(more={**authority.NO_PROXY, "TZ": "America/New_York", "DESK": program.program()})
     ran = t.tried("python3", EXAMPLES / "audit-report.py", *words, env=env)
     t.same(ran.returncode, status, f"status; it printed {ran.stdout + ran.stderr!r}")
@@ -88,12 +89,12 @@ def table(t, folder, word):
 
 
 def columns(rows, *names):
-    """Of rows of a list or of a CSV these columns, as text."""
+    """These columns of each row of a list or of a CSV, as text."""
     return [tuple("" if row[name] is None else str(row[name]) for name in names) for row in rows]
 
 
 class Page(HTMLParser):
-    """The cells of a page's tables, by the heading before each; other text by itself."""
+    """The cells of a page's tables, by the heading before each table, and its list items, which are the findings."""
 
     def __init__(self, text):
         super().__init__()
@@ -130,7 +131,7 @@ class Page(HTMLParser):
 def its_figures_are_those_of_the_desk(t):
     made = Made(t)
     lists = {word: listed(t, "ca.db", word) for word in ("certificates", "revoked", "requests", "overdue", "crls")}
-    t.true(len(made.crls) > 20 and len(lists["revoked"]) > 20 and lists["overdue"] and {it["state"] for it in lists["requests"]} == {"open", "declined", "revoked", "expired"}, f"there is something of all: {[(word, len(it)) for word, it in lists.items()]}")
+    t.true(len(made.crls) > 20 and len(lists["revoked"]) > 20 and lists["overdue"] and {it["state"] for it in lists["requests"]} == {"open", "declined", "revoked", "expired"}, f"the register lacks some kind of row: {[(word, len(it)) for word, it in lists.items()]}")
     desk = t.open("ca.db")
     url = f"http://127.0.0.1:{desk.port}"
     told = report(t, "--url", url, "--folder", "all", moment_of(made.begun), moment_of(made.now + DAY))
@@ -139,7 +140,7 @@ def its_figures_are_those_of_the_desk(t):
     certificates = table(t, "all", "certificates")
     t.same(columns(certificates, *names), columns(lists["certificates"], *names), "certificates")
     counts = json.loads(parted(desk.ask("GET", "/counts"))[2])
-    t.same({status: sum(row["status"] == status for row in certificates) for status in counts}, counts, "statuses beside counts")
+    t.same({status: sum(row["status"] == status for row in certificates) for status in counts}, counts, "statuses, compared with /counts")
     # Revocations.
     names = ("serial", "subscriber", "name", "order", "revokedAt", "reason", "request", "ground", "received", "due")
     revocations = table(t, "all", "revocations")
@@ -148,7 +149,7 @@ def its_figures_are_those_of_the_desk(t):
         first = of_list["firstCrl"]
         at = made.crls[first]["thisUpdate"] if first in made.crls else ""
         after = str(program.seconds_of(at) - program.seconds_of(row["revokedAt"])) if at else ""
-        t.same((row["firstCrl"], row["listedAt"], row["listedAfterSeconds"]), (str(first) if at else "", at, after), f"where {row['serial']} is listed")
+        t.same((row["firstCrl"], row["listedAt"], row["listedAfterSeconds"]), (str(first) if at else "", at, after), f"first CRL of {row['serial']}")
         t.same(row["lateSeconds"], str(max(0, program.seconds_of(row["revokedAt"]) - program.seconds_of(row["due"]))), f"how late {row['serial']} was revoked")
     # Requests.
     names = ("request", "serial", "ground", "received", "due", "subscriber", "name", "state", "decided")
@@ -157,13 +158,13 @@ def its_figures_are_those_of_the_desk(t):
     revoked = {row["request"]: row for row in revocations}
     for row in requests:
         if row["request"] in revoked:
-            t.same((row["decided"], row["lateSeconds"]), (revoked[row["request"]]["revokedAt"], revoked[row["request"]]["lateSeconds"]), f"request {row['request']} beside its revocation")
+            t.same((row["decided"], row["lateSeconds"]), (revoked[row["request"]]["revokedAt"], revoked[row["request"]]["lateSeconds"]), f"request {row['request']} and its revocation")
         if row["state"] == "declined":
-            t.same((row["decided"], row["lateSeconds"]), ("", ""), "nobody knows when it was declined")
+            t.same((row["decided"], row["lateSeconds"]), ("", ""), "a declined request: the register does not have its moment")
     overdue = [row["request"] for row in requests if row["state"] == "open" and row["lateSeconds"] != "0"]
-    t.same(overdue, [str(row["request"]) for row in lists["overdue"]], "overdue requests beside their list")
-    t.same(t.control().ask("overdue"), f"overdue {len(overdue)} first {overdue[0]}", "and beside the query")
-    # CRLs: entries as the desk counted them, bytes as it serves them, due as it replied before each.
+    t.same(overdue, [str(row["request"]) for row in lists["overdue"]], "overdue requests, compared with `desk list overdue`")
+    t.same(t.control().ask("overdue"), f"overdue {len(overdue)} first {overdue[0]}", "the reply to the query `overdue`")
+    # CRLs: the desk replied `entries` to `crl`, and `due` to `next-crl` before it; `bytes` is the length of the CRL that it serves.
     crls = table(t, "all", "crls")
     t.same(columns(crls, "crl", "thisUpdate"), columns(lists["crls"], "crl", "thisUpdate"), "CRLs")
     before = None
@@ -180,7 +181,7 @@ def its_figures_are_those_of_the_desk(t):
 
 
 def the_page(t, told, certificates, revocations, requests, crls):
-    """The page has the rows of the tables, and its findings are those that are printed."""
+    """The page has the rows of the tables, and its findings are those that the script printed."""
     page = Page((t.room / "all/report.html").read_text(encoding="utf-8"))
     for heading, rows in (("CRLs", crls), ("Requests", requests), ("Revocations", revocations), ("Certificates whose notBefore is in the time", certificates)):
         t.same(len(page.rows[heading]), len(rows) + 1, f"rows of {heading}")
@@ -190,20 +191,21 @@ def the_page(t, told, certificates, revocations, requests, crls):
     late, gaps = sum(int(row["lateSeconds"]) > 2 * HOUR for row in crls), sum(row["gapSeconds"] != "0" for row in crls)
     behind = [row for row in requests if row["lateSeconds"] not in ("", "0")]
     overdue = sum(row["state"] == "open" for row in behind)
-    t.same({row["state"] for row in behind}, {"open", "revoked", "expired"}, "late requests that came")
-    t.true(late > 2 and gaps > 2, f"some CRLs were late, and some not there: {late}, {gaps}")
+    t.same({row["state"] for row in behind}, {"open", "revoked", "expired"}, "states of late requests")
+    t.true(late > 2 and gaps > 2, f"too few late CRLs or gaps between CRLs: {late}, {gaps}")
     wanted = {"Revocations": len(revocations), "CRLs": len(crls), "of them over two hours late": late, "of them overdue": overdue, "Times in which no CRL was valid": gaps,
               "Certificates whose notBefore is in the time": len(certificates), "Requests that are open, received before the end of the time": sum(row["state"] == "open" for row in requests),
               "later than their deadline": sum(row["lateSeconds"] != "0" for row in revocations), "Requests that were declined, received in the time": sum(row["state"] == "declined" for row in requests)}
     t.same({name: figures[name] for name in wanted}, {name: str(number) for name, number in wanted.items()}, "figures")
-    t.same(page.findings, told.splitlines()[:-1], "findings, as they are printed")
+    t.same(page.findings, told.splitlines()[:-1], "findings of the page, compared with the printed ones")
     t.same([it.split()[1] for it in page.findings if it.startswith("CRL ")], [row["crl"] for row in crls if int(row["lateSeconds"]) > 2 * HOUR or row["gapSeconds"] != "0"], "CRLs that are findings")
     t.same([it.split()[1] for it in page.findings if it.startswith("Request ")], [row["request"] for row in behind], "requests that are findings")
-    t.true(f"{len(page.findings)} findings" in told.splitlines()[-1], f"how many: {told.splitlines()[-1]}")
+    t.true(f"{len(page.findings)} findings" in told.splitlines()[-1], f"the last line has another number of findings: {told.splitlines()[-1]}")
 
 
 def a_part_of_the_time(t, made, url, desk, crls):
-    """A quarter has the rows in it, and reports a gap that began before it from its own begin on. A closed register gives the same tables."""
+    """A report about 61 days has the rows of these days. It counts a gap that began before FROM from FROM on. A closed register gives the same
+    certificates, revocations and CRLs."""
     day = lambda at: moment_of(at)[:10]
     gap = next(row for row in crls if int(row["gapSeconds"]) > 2 * DAY)
     begin = day(program.seconds_of(gap["thisUpdate"]) - DAY)
@@ -219,7 +221,7 @@ def a_part_of_the_time(t, made, url, desk, crls):
     is_of_time = lambda row: row["state"] == "open" or is_inside(row["received"]) or is_inside(ended[row["serial"]] if row["state"] == "expired" else row["decided"])
     of_part = [row["request"] for row in table(t, "all", "requests") if row["received"][:10] < end and is_of_time(row)]
     t.same([row["request"] for row in table(t, "part", "requests")], of_part, "requests")
-    t.true(len(of_part) < len(table(t, "all", "requests")), "some requests are of another time")
+    t.true(len(of_part) < len(table(t, "all", "requests")), "all requests are of the 61 days")
     desk.end()
     report(t, "--register", "ca.db", "--folder", "closed", begin, end)
     for word in ("certificates", "revocations", "crls"):
@@ -228,7 +230,7 @@ def a_part_of_the_time(t, made, url, desk, crls):
 
 @test(seconds=2)
 def a_second_between_two_times_is_in_the_later_one(t):
-    """Of a certificate, its request and its revocation, and of a CRL."""
+    """A certificate, its request, its revocation and a CRL have one moment. It ends a report and begins the next one, which alone has them."""
     begins, between, ends = "2026-01-01", "2026-02-01T00:00:00Z", "2026-03-01"
     lines = ("subscriber acme", "order 1 398", f"register 1 05 {between} 2026-12-31T00:00:00Z", "request 05 superseded", "revoke 1", "crl")
     t.register(lines="".join(f"{between} {line}\n" for line in lines))
@@ -240,7 +242,7 @@ def a_second_between_two_times_is_in_the_later_one(t):
 
 @test(seconds=4)
 def lists_of_several_pages(t):
-    """Of 1,100 certificates the table has all, and the page the first thousand. A CRL has more than 65,536 octets."""
+    """The table has all 1,100 certificates, and the page the first thousand. One CRL has more than 65,536 octets."""
     records = registers.Records(1_100)
     registers.make(t.room / "ca.db", records, 3)
     number, update = records.updates[19]
@@ -252,9 +254,9 @@ def lists_of_several_pages(t):
     t.has(told, "it/report.html: 1100 certificates, 220 revocations, 220 requests, 40 CRLs, ")
     t.same({row["serial"] for row in table(t, "it", "certificates")}, {cert[0].hex() for cert in records.certs}, "serial numbers")
     t.same([(row["entries"], row["bytes"]) for row in table(t, "it", "crls") if row["crl"] == str(number)], [("2000", str(len(crl)))], "entries and octets of the CRL")
-    t.true(len(crl) > 65_536, f"{len(crl)} octets")
+    t.true(len(crl) > 65_536, f"the CRL has only {len(crl)} octets")
     page = (t.room / "it/report.html").read_text(encoding="utf-8")
-    t.same(len(Page(page).rows["Certificates whose notBefore is in the time"]), 1 + 1_000, "rows, with the names of the columns")
+    t.same(len(Page(page).rows["Certificates whose notBefore is in the time"]), 1 + 1_000, "rows, one of them of headings")
     t.has(page, "The first 1,000 rows. All of them are in certificates.csv.")
 
 
@@ -274,12 +276,12 @@ def an_issuer_with_signs_of_html_in_its_name(t):
     t.register(lines="2026-01-01T00:00:00Z crl\n", name=f"30173115301306035504030C0C{b'A & B <b>CA>'.hex()}")
     report(t, "--register", "ca.db", "--folder", "it", "2026-01-01", "2026-02-01")
     page = (t.room / "it/report.html").read_text(encoding="utf-8")
-    t.same((page.count("A &amp; B &lt;b&gt;CA&gt;"), "<b>" in page), (2, False), "how often it is in the page")
+    t.same((page.count("A &amp; B &lt;b&gt;CA&gt;"), "<b>" in page), (2, False), "how often the escaped name is in the page, and whether `<b>` is")
 
 
 @test(seconds=3)
 def a_time_with_no_crl_and_one_that_ended(t):
-    """No CRL is in the time; the one before it ended in it, and none came."""
+    """No CRL is from the time of the report. The CRL before it expired within that time, and none followed."""
     begun = authority.now() - 40 * DAY
     t.register(lines=f"{moment_of(begun)} crl\n")
     day = lambda days: moment_of(begun + days * DAY)
@@ -296,4 +298,4 @@ def a_time_with_no_crl_and_one_that_ended(t):
 }, seconds=2)  # fmt: skip
 def what_it_refuses(t, words, status, why):
     t.has(report(t, *words, status=status), why)
-    t.same([it.name for it in t.room.iterdir()], [], "it writes nothing")
+    t.same([it.name for it in t.room.iterdir()], [], "files that the script wrote")

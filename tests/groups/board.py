@@ -1,4 +1,4 @@
-"""examples/board/index.html in Debian's headless Chromium. nginx serves it with examples/nginx.conf, in front of a desk whose register has
+"""Debian's headless Chromium shows examples/board/index.html. nginx serves it with examples/nginx.conf, in front of a desk whose register has
 good, revoked and expired certificates and CRLs of forty days. The test types serial numbers, presses the buttons, and compares the
 contents of the page. BOARD_PICTURE=FILE.png keeps a picture of it."""
 
@@ -19,7 +19,7 @@ def shown(at):
 
 
 class Browser:
-    """Chromium, spoken to by its pipe (the Chrome DevTools Protocol)."""
+    """Chromium, controlled over a pipe by the Chrome DevTools Protocol."""
 
     def __init__(self, t):
         theirs_in, self.out = os.pipe()
@@ -97,8 +97,8 @@ class Browser:
 
 
 class Days:
-    """The register of forty days. 0b is revoked in the very second of CRL 2, after it; 07 ends at day 10; 08 is revoked after the latest CRL;
-    09 ended good."""
+    """The script of forty days, and what the page must say of each serial number. 0b is revoked in the same second as CRL 2, but after it. 07 expires
+    on day 10. 08 is revoked after the latest CRL. 09 expired unrevoked."""
 
     def __init__(self):
         self.begun = authority.now() - 40 * DAY
@@ -144,8 +144,8 @@ def the_board_shows_what_the_desk_says(t):
     loaded(browser)
     wanted = {"good": "1", "revoked": "4", "expired": "1", "issuer": "Example CA", "number": "9", "entries": "2",
               "this": shown(days.after(39)), "next": shown(days.after(47))}
-    t.same({name: browser.text_of(name) for name in wanted}, wanted, "what is shown")
-    t.same(browser.text_of("holds").split(" d ")[0], "6", "how long the CRL holds")
+    t.same({name: browser.text_of(name) for name in wanted}, wanted, "what the page shows")
+    t.same(browser.text_of("holds").split(" d ")[0], "6", "for how many days the CRL is still valid")
     for serial, told in days.told.items():
         browser.value("document.getElementById('serial').value = ''; document.getElementById('said').innerText = ''")
         browser.press("#serial")
@@ -159,13 +159,13 @@ def the_board_shows_what_the_desk_says(t):
     browser.press("#fetch")
     fetched = t.room / "fetched/latest.crl"
     authority.until(fetched.exists, "the CRL that the button fetches")
-    t.same(fetched.read_bytes() == crl, True, "it is the one of `desk crl`")
-    t.same(browser.complaints, [], "what the page complained of")
+    t.same(fetched.read_bytes() == crl, True, "whether the fetched CRL is that of `desk crl`")
+    t.same(browser.complaints, [], "exceptions and log entries of the page")
     little(t, it, desk, browser)
 
 
 def little(t, it, desk, browser):
-    """A register with nothing in it, and no desk at all."""
+    """The page shows an empty register. Once no desk runs, it shows an error."""
     desk.end()
     it.register("new.db")
     second = t.open("new.db", "--requests", "1000", "--port", desk.port, command="serve")
@@ -177,4 +177,4 @@ def little(t, it, desk, browser):
     second.end()
     browser.ask("Page.reload")
     browser.until("document.getElementById('fault') !== null && document.getElementById('fault').innerText !== ''")
-    t.same(browser.text_of("fault"), "The desk answers: 502", "no desk")
+    t.same(browser.text_of("fault"), "The desk answers: 502", "the error without a desk")

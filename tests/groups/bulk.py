@@ -1,4 +1,4 @@
-"""`desk at --revoke` and `desk at --import --orders`: the rows of a file, one after the other, at the control socket of an open desk."""
+"""`desk at --revoke` and `desk at --import --orders` send the rows of a file, one after the other, to the control socket of an open desk."""
 
 import contextlib
 import fcntl
@@ -72,7 +72,7 @@ def it_is_run_again_and_revokes_nothing_twice(t):
     before = f"E19 revoked-before {DAY}\n"
     t.same((ran.status, ran.out.decode(), ran.err), (0, f"{before}{before}revoked\n", b""))
     t.same(replies_to(t, "counts"), ["good 1 revoked 3 expired 0"])
-    t.same(t.desk("at", "counter", given="show request 4\n").out, b"E17 no-request\n", "no request more than those of the three")
+    t.same(t.desk("at", "counter", given="show request 4\n").out, b"E17 no-request\n", "request 4: only three certificates got a request")
 
 
 @test
@@ -159,12 +159,12 @@ def a_request_that_was_open_already_stays_with_its_certificate(t):
     t.same([it.split('"state":')[1].split(",")[0] for it in replies_to(t, "show request 1", "show request 2")], ['"revoked"'] * 2)
 
 
-# The replies to so many rows are longer than a pipe of one page: if the test does not read them, the program waits before the last one.
+# The replies to this many rows do not fit into a pipe of one page. If the test does not read them, the program waits before the last row.
 UNREAD, PAGE = 900, 4_096
 
 
 def begun(t, words=("--revoke", "rows.csv")):
-    """A run over the rows, and its output as it comes, which is held back in a pipe of one page."""
+    """Starts `desk at`. Its output goes into a pipe of one page, so the program waits if the test does not read."""
     it = subprocess.Popen(
         [program.program(), "at", "counter", *words], cwd=t.room, bufsize=0, stdout=subprocess.PIPE, stderr=subprocess.PIPE,
         env=program.environment(t._clock),
@@ -175,7 +175,7 @@ def begun(t, words=("--revoke", "rows.csv")):
 
 
 def of_many_rows(t):
-    """A desk with so many certificates, and a file that revokes them all."""
+    """Opens a desk with UNREAD certificates, and writes a file that revokes them all."""
     desk = opened(t, UNREAD)
     (t.room / "rows.csv").write_text("".join(f"{it:02x},superseded\n" for it in range(1, UNREAD + 1)))
     return desk
@@ -194,9 +194,9 @@ def it_is_killed_and_resumed(t):
         kills += 1
     ran = t.desk("at", "counter", "--revoke", "rows.csv")
     t.same((ran.status, ran.err, len(ran.lines)), (0, b"", UNREAD))
-    t.same({it.split()[0] for it in ran.lines}, {"E19", "revoked"}, "those before and those now")
+    t.same({it.split()[0] for it in ran.lines}, {"E19", "revoked"}, "replies to the rows done before a kill, and to those done now")
     t.same(replies_to(t, "counts"), [f"good 0 revoked {UNREAD} expired 0"])
-    # A stop between a row's request and its revocation costs one request more at the most.
+    # Each kill adds at most one request: if it comes between a row's request and its revocation, the next run enters another request.
     t.same(t.desk("at", "counter", given=f"show request {UNREAD + kills + 1}\n").out, b"E17 no-request\n")
 
 
@@ -206,7 +206,7 @@ def a_desk_that_is_lost_ends_it(t):
     it = begun(t)
     it.stdout.readline()
     desk.end(signal.SIGKILL)
-    # Its replies are read until it ends.
+    # The test reads the replies until the program ends.
     it.stdout.read()
     t.same((it.wait(program.LONGEST), it.stderr.read() in (b"F4 read\n", b"F5 write\n")), (1, True))
     t.open("ca.db")
@@ -262,13 +262,13 @@ def it_shows_its_progress_on_a_terminal(t):
         it = subprocess.Popen([program.program(), "at", "counter", "--revoke", "rows.csv"], cwd=t.room, stdout=replies, stderr=theirs, env=program.environment())
     os.close(theirs)
     shown = b""
-    # The terminal's other side is closed when the program ends.
+    # os.read fails once the program has ended, because its side of the terminal is closed.
     with contextlib.suppress(OSError):
         while piece := os.read(ours, 4096):
             shown += piece
     os.close(ours)
     t.same((it.wait(program.LONGEST), (t.room / "replies").read_text()), (3, "E14 unknown-serial\n" * 4))
-    t.true(re.search(rb"\d+ lines done, \d+ a second", shown), f"it does not tell how far it is: {shown!r}")
+    t.true(re.search(rb"\d+ lines done, \d+ a second", shown), f"the terminal shows no progress: {shown!r}")
 
 
 @test(seconds=20)
@@ -313,7 +313,7 @@ def a_certificate_that_is_there_gets_no_order(t):
     replies_to(t, "request 02 superseded", "revoke 1")
     ran = ordered(t, row("01") + row("02") + row("03") + row("03"))
     t.same((ran.status, ran.out.decode(), ran.err), (0, f"good\nrevoked {DAY} reason 4\nregistered\ngood\n", b""))
-    t.same(replies_to(t, "order 1 1"), ["order 4"], "one order for the new certificate alone")
+    t.same(replies_to(t, "order 1 1"), ["order 4"], "the next order: only the new certificate got one")
 
 
 REFUSED = {
@@ -412,11 +412,11 @@ def an_import_is_killed_and_resumed(t):
         kills += 1
     ran = t.desk("at", "counter", *ordering())
     t.same((ran.status, ran.err, len(ran.lines)), (0, b"", 300))
-    t.same(set(ran.lines), {"good", "registered"}, "those before and those now")
+    t.same(set(ran.lines), {"good", "registered"}, "replies to the rows done before a kill, and to those done now")
     t.same(replies_to(t, "counts"), ["good 301 revoked 0 expired 0"])
-    # A stop between a row's order and its registration costs one order more at the most.
+    # Each kill adds at most one order: if it comes between a row's order and its registration, the next run enters another order.
     (reply,) = replies_to(t, "order 1 1")
-    t.true(302 <= int(reply.split()[1]) <= 302 + kills, f"orders without a certificate after {kills} kills: {reply}")
+    t.true(302 <= int(reply.split()[1]) <= 302 + kills, f"the number of the next order, after {kills} kills: {reply}")
 
 
 @each({

@@ -1,4 +1,4 @@
-"""Which clients take OCSP answers and CRLs of a CA's key of each algorithm: the table of docs/OPERATIONS.md, "Clients by algorithm", row by row."""
+"""Each client accepts OCSP answers or CRLs signed with each algorithm, except those that docs/OPERATIONS.md, "Clients by algorithm", names for it."""
 
 import os
 import re
@@ -13,7 +13,7 @@ from lib.trial import Skipped, each, need, test
 ALGORITHMS = {it: it for it in KEYS}
 # For how many seconds a client may run.
 LONGEST = program.LONGEST
-# Both say of each certificate what the CRL says, once it verifies by the CA's key.
+# Both programs verify the CRL by the CA's key, and then print for each certificate whether the CRL lists it.
 JAVA_CRL = """
 import java.nio.file.*; import java.security.cert.*;
 public class Crl {
@@ -96,7 +96,7 @@ def gnutls_crl(t, it, url):
     need("certtool")
     (t.room / "ca.crl.pem").write_bytes(t.tool("openssl", "crl", "-inform", "DER", "-in", "ca.crl"))
     told = told_of(t.tried("certtool", "--verify-crl", "--load-ca-certificate", it.pem, "--infile", "ca.crl.pem"))
-    # It verifies the CRL, and looks up no certificate there: the revoked one is listed by its serial number.
+    # certtool verifies the CRL, but looks up no certificate in it. So the test looks for each serial number in the text that certtool prints.
     if not re.search(r"Verification output: Verified\b", told):
         return [told] * 2
     listed = told_of(t.tried("certtool", "--crl-info", "--infile", "ca.crl.pem"))
@@ -135,7 +135,7 @@ def go_crl(t, it, url):
     return go(t, GO_CRL, "crl", it.pem, "ca.crl", "good.pem", "revoked.pem")
 
 
-# By the first cell of each row of the document's table.
+# The function that runs each client. The keys are the first cells of the document's table.
 CLIENTS = {
     "`openssl ocsp` 3.0, OCSP": openssl_ocsp, "`openssl verify -crl_check` 3.0, CRLs": openssl_crl,
     "Java 17, PKIX, OCSP": java_ocsp, "Java 17, `X509CRL`, CRLs": java_crl,
@@ -146,7 +146,7 @@ CLIENTS = {
 
 
 def told_by_the_document():
-    """Of each client, the algorithms whose signatures it reads: all but those that the table names."""
+    """For each client, the algorithms whose signatures it reads: all but those that the table names."""
     rows = [[it.strip() for it in line.strip("|").split("|")] for line in section("Clients by algorithm").splitlines() if line.startswith("|")]
     names = {"P-256": "ecdsa-sha256", "P-384": "ecdsa-sha384", "RSA": "rsa-sha256", "Ed25519": "ed25519"}
     return {client: set(names.values()) - {names[it] for it in unread.split()} for client, unread in rows[2:]}
@@ -154,7 +154,7 @@ def told_by_the_document():
 
 @each({f"{client}, {algorithm}": (client, algorithm) for client in CLIENTS for algorithm in ALGORITHMS}, seconds=6)
 def a_client_accepts_what_the_document_says(t, client, algorithm):
-    """A good certificate and a revoked one; a client that does not take the algorithm calls neither of them good or revoked."""
+    """The client checks a good certificate and a revoked one. If it can't read the algorithm's signatures, it calls neither good or revoked."""
     it = Authority(t, algorithm)
     it.signer()
     for name, serial in LEAVES:
@@ -166,7 +166,7 @@ def a_client_accepts_what_the_document_says(t, client, algorithm):
     if algorithm in told_by_the_document()[client]:
         t.same(said, ["good", "revoked"])
     else:
-        t.same([it in ("good", "revoked") for it in said], [False, False], f"it says {said}")
+        t.same([it in ("good", "revoked") for it in said], [False, False], f"whether the client calls a certificate good or revoked; it says {said}")
 
 
 @test
@@ -176,7 +176,7 @@ def the_document_has_each_client(t):
 
 @test(seconds=3)
 def ocsptool_with_trusted_certificates(t):
-    """It wants the signer's certificate in the answer then, and the CA's own key signs answers without one."""
+    """With --load-trust, ocsptool accepts only an answer that has the signer's certificate. The desk's answers by the CA's own key have none."""
     it = Authority(t)
     it.signer()
     for name, serial in LEAVES:

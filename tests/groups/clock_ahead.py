@@ -1,4 +1,4 @@
-"""A clock that is far ahead of the register: an open desk and a script by the clock refuse commands until the operator accepts it."""
+"""If the clock is far ahead of the register, an open desk, and `script` and `import` with --clock, refuse commands until the operator accepts it."""
 
 import json
 
@@ -44,7 +44,7 @@ def commands_are_refused_until_the_operator_accepts_the_clock(t):
         t.same(control.ask("why"), f"why the clock is more than 30 days past the last command, {last}")
         t.same(post(desk)[::2], (503, b'{"error":"503"}'))
         t.same(health(desk), (503, now))
-        # Queries are answered, and lines that are no commands are refused as before.
+        # The desk answers queries, and refuses malformed lines, as before.
         t.same([control.ask(it) for it in ("counts", "status 06", "overdue", "crl 1", "order x 1")], ["good 0 revoked 0 expired 2", "expired", "overdue 0", "E22 syntax", "E22 syntax"])
         t.same(desk.ask("GET", "/crl")[9:12], b"200")
         t.same([control.ask(it) for it in ("accept-clock", "accept-clock now", f"accept-clock  {now}", f"accept-clock {now} ")], ["E22 syntax"] * 4)
@@ -95,7 +95,7 @@ def nothing_is_signed_for_a_crl_that_is_refused(t):
     asked = []
     t.signer(answer=lambda message, call: (asked.append(call), ANY_SIGNATURE)[1])
     opened(t, "--signer", "ca.sign", "--algorithm", "ecdsa-sha256", key=program.P256_KEY)
-    t.same(len(asked), 1, "the first CRL")
+    t.same(len(asked), 1, "signatures for the first CRL")
     t.clock(moment_of(FIRST + MONTH + 1))
     with t.control() as control:
         t.same((control.ask("crl"), len(asked)), (BAD, 1))
@@ -121,7 +121,7 @@ def a_script_by_the_clock(t):
     t.same(t.done("script", "ca.db", "--clock", "--accept-clock", given="order 1 30\n"), "order 3\n")
     t.clock(moment_of(FIRST + 2 * MONTH + 1))
     t.same(t.done("script", "ca.db", "--clock", given="order 1 30\n"), "order 4\n", "30 days later")
-    t.same(t.done("script", "ca.db", given="2027-01-01T00:00:00Z order 1 30\n"), "order 5\n", "a moment of its own")
+    t.same(t.done("script", "ca.db", given="2027-01-01T00:00:00Z order 1 30\n"), "order 5\n", "a line with its own moment")
 
 
 @test
@@ -135,4 +135,4 @@ def an_import_by_the_clock(t):
         ran = t.desk("import", "ca.db", *words, given=rows[0])
         t.same((ran.status, ran.out, ran.err), (1, b"", b"bad-clock\n"))
     t.same(t.done("import", "ca.db", "--clock", "--accept-clock", given=rows[0]), "registered\n")
-    t.same(t.done("import", "ca.db", "--now", later, given=rows[1]), "registered\n", "a moment of its own")
+    t.same(t.done("import", "ca.db", "--now", later, given=rows[1]), "registered\n", "with --now")

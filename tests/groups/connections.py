@@ -1,4 +1,4 @@
-"""Connections to an open desk, of all kinds and many at once: a slow client delays no other client. Also lines at the control socket beside them."""
+"""An open desk serves many connections at once, of all kinds, and lines at the control socket beside them: a slow client delays no other client."""
 
 import os
 import re
@@ -21,7 +21,7 @@ LARGE = 12_000_000
 
 
 def entered(t, *sizes):
-    """Makes a register whose CRLs, except the last, have these sizes. Only an audit reads an older CRL."""
+    """Makes a register whose CRLs, except the last, are so many zeros. Only an audit checks an older CRL."""
     crls = f"{DAY} crl\n" * (len(sizes) + 1)
     t.register(lines=f"{DAY} subscriber acme\n{DAY} order 1 398\n{DAY} register 1 05 {DAY} 2026-12-31T00:00:00Z\n{crls}")
     for number, size in enumerate(sizes, 1):
@@ -42,7 +42,7 @@ def peer(t, desk, sent=b""):
 
 
 def at_once(t, desk, beside):
-    """A request is answered before the 30 seconds that each other client has."""
+    """Checks that a request is answered before the 30-second timeout of any other client."""
     began = time.monotonic()
     t.same(parted(desk.send(COUNTS))[0], 200, f"beside {beside}")
     took = time.monotonic() - began
@@ -51,7 +51,7 @@ def at_once(t, desk, beside):
 
 @test(seconds=4)
 def a_request_is_answered_among_200_connections_at_all_stages(t):
-    """No time passes: a desk that waits for another client would wait for ever."""
+    """The elapsed time stands still, so a desk that waits for another client's timeout would wait for ever."""
     entered(t, LARGE)
     desk = Passing(t).desk
     kinds = [b"", b"GET /cou", b"G", b"\0\xff\0\r\n\r\n", b"half closed", b"gone", CRL, COUNTS + b"more" * 1_000]
@@ -67,8 +67,8 @@ def a_request_is_answered_among_200_connections_at_all_stages(t):
         for it in COUNTS:
             slow.sendall(bytes([it]))
             time.sleep(0.001)
-        t.same(parted(read_all(slow))[0], 200, "who sends one byte at a time")
-    t.same(t.done("at", "counter", given="status 05\n"), "good\n", "a line at the counter beside them")
+        t.same(parted(read_all(slow))[0], 200, "a client that sends one byte at a time")
+    t.same(t.done("at", "counter", given="status 05\n"), "good\n", "a line at the control socket beside them")
 
 
 @test(seconds=4)
@@ -89,12 +89,12 @@ def each_of_32_at_once_gets_the_answer_to_its_own_request(t):
         it.start()
     for it in askers:
         it.join()
-    t.same(wrong, [], "answers that are another's")
+    t.same(wrong, [], "targets that got another response")
 
 
 @test
 def pieces_of_several_requests_are_not_mixed_up(t):
-    """Three that are sent a piece of each in turn, and ended in the other order."""
+    """Three clients send the first pieces of their requests in turn, and the last pieces in reverse order."""
     desk = opened(t)
     wanted = {"/status/05": b'{"status":"good"}', "/status/06": b'{"status":"unknown"}', "/status/0": b'{"error":"E22 syntax"}'}
     peers = {target: peer(t, desk, b"GET ") for target in wanted}
@@ -116,13 +116,13 @@ def more_connections_than_slots(t):
     held = [peer(t, desk) for _ in range(1_100)]
     at_once(t, desk, "1,100 silent peers")
     held[0].settimeout(20)
-    t.same(read_all(held[0]), b"", "the oldest is let go, with no answer")
+    t.same(read_all(held[0]), b"", "the response to the oldest connection, which the desk evicts")
     held[-1].sendall(COUNTS)
-    t.same(parted(read_all(held[-1]))[0], 200, "the newest")
+    t.same(parted(read_all(held[-1]))[0], 200, "the newest connection")
 
 
 def busy(process):
-    """The hundredths of a second of processor time that it takes in a second."""
+    """The processor time that a process uses in one second, in hundredths of a second."""
     used = lambda: sum(map(int, open(f"/proc/{process.pid}/stat").read().rpartition(")")[2].split()[11:13]))
     before = used()
     time.sleep(1)
@@ -131,7 +131,7 @@ def busy(process):
 
 @test(seconds=8)
 def control_connections_have_all_of_16_descriptors(t):
-    """The desk goes on, and is idle meanwhile. An HTTP request is answered once one of them closes, and a control line once an HTTP connection closes."""
+    """With no descriptor left, the desk neither ends nor spins. It answers an HTTP request or a control line once another connection closes."""
     desk = opened(t)
     files = lambda: len(os.listdir(f"/proc/{desk.process.pid}/fd"))
     t.tool("prlimit", "--pid", desk.process.pid, "--nofile=16:16")
@@ -140,13 +140,13 @@ def control_connections_have_all_of_16_descriptors(t):
         before = files()
         lines.append(t.enter_context(Control(t.room / "counter")))
         until(lambda: files() == before + 1, f"control connection {len(lines)}")
-    t.true(len(lines) <= 8, f"{len(lines)} control connections: there is no room for them all")
+    t.true(len(lines) <= 8, f"{len(lines)} control connections are open, more than the eight that the desk serves")
     waiting = peer(t, desk, COUNTS)
-    # Time in which the desk could end.
+    # If the lack of descriptors ended the desk, it would do so within this second.
     time.sleep(1)
-    t.same(desk.process.poll(), None, "the desk has ended")
+    t.same(desk.process.poll(), None, "exit status of the desk, which must still run")
     t.true(busy(desk.process) < 20, "the desk is busy")
-    t.same(lines[0].ask("counts"), "good 1 revoked 0 expired 0", "a line meanwhile")
+    t.same(lines[0].ask("counts"), "good 1 revoked 0 expired 0", "a control line meanwhile")
     last = lines.pop()
     last.file.close()
     last.peer.close()
@@ -173,35 +173,35 @@ def the_last_descriptor_evicts_no_connection(t):
     held = []
     for at in range(3):
         held.append(peer(t, desk, COUNTS[:9]))
-        until(lambda: files() == before + at + 1, f"peer {at + 1}")
+        until(lambda: files() == before + at + 1, f"connection {at + 1}")
     time.sleep(0.5)
     for at, each in enumerate(held):
         each.sendall(COUNTS[9:])
-        t.same(parted(read_all(each))[0], 200, f"peer {at + 1} of as many as there are descriptors for")
+        t.same(parted(read_all(each))[0], 200, f"connection {at + 1} of the three for which there are descriptors")
         each.close()
-    until(lambda: files() == before, "the end of all")
+    until(lambda: files() == before, "the end of all three")
     held = []
     for at in range(3):
         held.append(peer(t, desk, COUNTS[:9]))
-        until(lambda: files() == before + at + 1, f"peer {at + 1} once more")
+        until(lambda: files() == before + at + 1, f"connection {at + 1} of three others")
     at_once(t, desk, "as many as there are descriptors for")
     held[0].settimeout(20)
-    t.same(read_all(held[0]), b"", "the oldest is let go, with no answer")
+    t.same(read_all(held[0]), b"", "the response to the oldest connection, which the desk evicts")
     for each in held[1:]:
         each.sendall(COUNTS[9:])
-        t.same(parted(read_all(each))[0], 200, "who is not the oldest")
+        t.same(parted(read_all(each))[0], 200, "a connection that is not the oldest")
 
 
 @test(seconds=3)
 def a_large_answer_is_sent_as_its_client_reads_it(t):
     desk = opened(t)
     slow = peer(t, desk, CRL)
-    until(lambda: is_read(slow), "that its request is read")
+    until(lambda: is_read(slow), "the desk to read the request")
     at_once(t, desk, "one that does not read")
     got = 0
     while piece := slow.recv(200_000):
         got += len(piece)
-    t.true(got > LARGE, f"{got} bytes of more than {LARGE}")
+    t.true(got > LARGE, f"the client got {got} bytes of an answer of more than {LARGE}")
 
 
 @test(seconds=3)
@@ -209,14 +209,14 @@ def a_reset_connection_is_in_the_log(t):
     desk = opened(t, "--log")
     gone = peer(t, desk, CRL)
     port = gone.getsockname()[1]
-    t.same(gone.recv(1), b"H", "its answer has begun")
-    # Closing sends a reset.
+    t.same(gone.recv(1), b"H", "the first byte of its answer")
+    # SO_LINGER with 0 seconds: close(2) sends a reset.
     gone.setsockopt(socket.SOL_SOCKET, socket.SO_LINGER, b"\1\0\0\0\0\0\0\0")
     gone.close()
-    until(lambda: any(" lost " in it for it in desk.log), "a line of the log")
+    until(lambda: any(" lost " in it for it in desk.log), "the log line of the lost connection")
     at_once(t, desk, "one that broke off")
     told = desk.end().err_lines
-    t.same([it for it in told if " lost " in it], [f"{DAY} 127.0.0.1:{port} lost broken"], "what was lost")
+    t.same([it for it in told if " lost " in it], [f"{DAY} 127.0.0.1:{port} lost broken"], "lost connections in the log")
 
 
 @test(seconds=35)
@@ -226,19 +226,19 @@ def an_incomplete_request_is_closed_after_30_seconds(t):
     both = {sent: peer(t, desk, sent) for sent in (b"GET /coun", b"")}
     ports = {sent: late.getsockname()[1] for sent, late in both.items()}
     for sent, late in both.items():
-        t.same(read_all(late), b"", f"what it hears that sent {sent!r}")
+        t.same(read_all(late), b"", f"the response to {sent!r}")
         took = time.monotonic() - began
-        t.true(29 < took < 55, f"after {took:.0f} s")
-    # The log has both by the time that the next request is answered.
+        t.true(29 < took < 55, f"the desk closed the connection after {took:.0f} s")
+    # Once the desk has answered the next request, the log has both.
     at_once(t, desk, "nobody")
     told = [re.sub(r" \d+$", "", it) for it in desk.end().err_lines]
-    # A line of the exchange, which had no answer, and one of its end; whether one that sent nothing had an exchange is left open.
+    # The log has two lines for half a request: the exchange, without an answer, and the lost connection. For a silent client it must have the second.
     half = f"{DAY} 127.0.0.1:{ports[b'GET /coun']}"
     t.same([it for it in told if it.startswith(half)], [f'{half} "GET /coun" "" 0', f"{half} lost late"], "the log of half a request")
-    t.true(f"{DAY} 127.0.0.1:{ports[b'']} lost late" in told, f"the log does not tell of who was silent: {told}")
+    t.true(f"{DAY} 127.0.0.1:{ports[b'']} lost late" in told, f"the log does not have the lost connection of the silent client: {told}")
 
 
-# To the millisecond: a time that ends for one client has not ended for another one that connected a millisecond later.
+# These tests check timeouts to the millisecond: one client is late, and another, which connected a millisecond later, is not.
 
 
 @test
@@ -249,22 +249,22 @@ def a_request_has_30_seconds_to_be_whole(t):
     desk.advance(1)
     second = desk.comes(COUNTS[:9])
     desk.advance(29_999)
-    t.same(read_all(first), b"", "what the first hears")
+    t.same(read_all(first), b"", "the response to the first client")
     second.sendall(COUNTS[9:])
-    t.same(parted(read_all(second))[0], 200, "the second")
+    t.same(parted(read_all(second))[0], 200, "the second client")
     desk.loses(first, why="late")
 
 
 @test
 def a_request_in_pieces_has_30_seconds_in_all(t):
-    """However many of its bytes come meanwhile."""
+    """More bytes of the request do not extend the timeout."""
     entered(t)
     desk = Passing(t)
     slow = desk.comes(COUNTS[:9])
     for at in (9, 10):
         desk.advance(10_000)
         slow.sendall(COUNTS[at : at + 1])
-        until(lambda: is_read(slow), "that the desk has read it")
+        until(lambda: is_read(slow), "the desk to read it")
     desk.loses()
     desk.advance(10_000)
     desk.loses(slow, why="late")
@@ -272,13 +272,13 @@ def a_request_in_pieces_has_30_seconds_in_all(t):
 
 @test(seconds=3)
 def an_answer_that_is_taken_in_pieces_has_30_seconds_in_all(t):
-    """However much of it the client takes meanwhile."""
+    """Reading a part of the answer does not extend the timeout."""
     entered(t, LARGE)
     desk = Passing(t)
     slow = desk.comes(CRL)
     for _ in range(2):
         desk.advance(10_000)
-        # As much as lets the desk send more.
+        # The client reads enough for the desk to send more.
         for _ in range(20):
             slow.recv(65_536)
         desk.advance(0)
@@ -289,33 +289,33 @@ def an_answer_that_is_taken_in_pieces_has_30_seconds_in_all(t):
 
 @test(seconds=2)
 def an_answer_has_30_seconds_to_be_taken(t):
-    """From when it is there, however long its request took."""
+    """The timeout of an answer begins when it is ready, however long its request took."""
     entered(t, LARGE)
     desk = Passing(t)
     first, second = desk.comes(CRL[:9]), desk.comes(CRL[:9])
     for it, passes in ((first, 20_000), (second, 1)):
         desk.advance(passes)
         it.sendall(CRL[9:])
-        t.same(it.recv(1), b"H", "its answer is there")
+        t.same(it.recv(1), b"H", "the first byte of its answer")
     desk.advance(29_999)
     t.true(len(read_all(first)) < LARGE, "the first got all of its answer")
-    t.true(len(read_all(second)) > LARGE, "the second did not")
+    t.true(len(read_all(second)) > LARGE, "the second did not get all of its answer")
     desk.loses(first, why="late")
 
 
 @test
 def what_follows_a_request_is_dropped_for_a_second(t):
-    """Until then its client keeps its slot, and has its answer, whatever it sends."""
+    """The desk answers the request, ends its side, and closes the connection a second later, whatever the client sends."""
     entered(t)
     desk = Passing(t)
     for passes in (1, 0):
         it = desk.comes(COUNTS + b"more")
-        t.same(parted(read_all(it))[0], 200, "its answer, and that no more is written")
+        t.same(parted(read_all(it))[0], 200, "its answer, after which the desk ends its side")
         it.sendall(b"more")
         desk.advance(passes)
-    until(lambda: desk.files == desk.before + 2, "that both have their places, and no other request has one")
+    until(lambda: desk.files == desk.before + 2, "two connections, those of both clients")
     desk.advance(999)
-    until(lambda: desk.files == desk.before + 1, "that the second alone has its place")
+    until(lambda: desk.files == desk.before + 1, "one connection, that of the second client")
     desk.loses()
 
 
@@ -327,25 +327,25 @@ def an_answered_connection_is_evicted_before_the_oldest(t):
     oldest, has_it = desk.comes(COUNTS[:9]), desk.comes(COUNTS + b"more")
     t.same(parted(read_all(has_it))[0], 200)
     newest = peer(t, desk.desk, COUNTS[:9])
-    until(lambda: desk.files == desk.before + 3, "as many as there are descriptors for")
+    until(lambda: desk.files == desk.before + 3, "three connections, which use all descriptors")
     at_once(t, desk.desk, "them")
     for it in (oldest, newest):
         it.sendall(COUNTS[9:])
-        t.same(parted(read_all(it))[0], 200, "who had no answer yet")
+        t.same(parted(read_all(it))[0], 200, "a connection that had no answer yet")
     desk.loses()
 
 
 @test(seconds=10)
 def answers_that_wait_hold_64_mib_together(t):
-    """Two of 33 MB fit and a third does not, however much of them the sockets have buffered. The oldest is evicted, and never the newest, even if it is longer
-    than 64 MiB by itself."""
+    """Two answers of 33 MB fit and a third does not, however much of them the sockets have buffered. The desk evicts the oldest connection, and
+    never the newest, even if its answer alone exceeds 64 MiB."""
     size, too_long = 33_000_000, 70_000_000
     entered(t, size, too_long)
     desk = Passing(t)
 
     def asks(request):
         it = peer(t, desk.desk, request)
-        t.same(it.recv(1), b"H", "its answer is there")
+        t.same(it.recv(1), b"H", "the first byte of its answer")
         return it
 
     first, second = asks(CRL), asks(CRL)
@@ -358,20 +358,20 @@ def answers_that_wait_hold_64_mib_together(t):
 
 @test(seconds=6)
 def what_a_lost_client_did_not_take_waits_no_more(t):
-    """Two clients were late, each with 33 MB of its answer unsent: they leave room for the answers of two others."""
+    """Two clients time out, each with most of its 33 MB answer unsent. The answers of two others then fit."""
     size = 33_000_000
     entered(t, size)
     desk = Passing(t)
     later, earlier = gone = [peer(t, desk.desk, CRL) for _ in range(2)][::-1]
     for it in gone:
-        t.same(it.recv(1), b"H", "its answer is there")
+        t.same(it.recv(1), b"H", "the first byte of its answer")
     desk.advance(30_000)
     desk.loses(later, earlier, why="late")
     others = [peer(t, desk.desk, CRL) for _ in range(2)]
     for it in others:
-        t.same(it.recv(1), b"H", "its answer is there")
+        t.same(it.recv(1), b"H", "the first byte of its answer")
     desk.loses(later, earlier, why="late")
-    t.same([len(read_all(it)) > size for it in others], [True] * 2, "whether they got all")
+    t.same([len(read_all(it)) > size for it in others], [True] * 2, "whether the others got all of their answers")
 
 
 @test(seconds=2)
@@ -385,13 +385,13 @@ def serve_answers_the_given_number_of_requests(t):
 
 @test
 def half_a_request_counts_as_one(t):
-    """And its client, which has ended its side, is not lost."""
+    """`serve --requests` counts half a request. The client ended its side, so the log has no lost connection."""
     desk = opened(t, "--requests", 2, "--log", command="serve")
     half = peer(t, desk, b"GET /status/05 HTTP/1.1\r\n")
     half.shutdown(socket.SHUT_WR)
-    t.same(read_all(half), b"", "what it hears")
-    t.same(desk.process.poll(), None, "it runs on")
-    t.same(parted(desk.send(COUNTS))[0], 200, "the second")
+    t.same(read_all(half), b"", "the response to half a request")
+    t.same(desk.process.poll(), None, "exit status of the desk, which must still run")
+    t.same(parted(desk.send(COUNTS))[0], 200, "the second request")
     ran = desk.wait()
     t.same((ran.status, [it for it in ran.err_lines if " lost " in it]), (0, []), "status, and lost connections in the log")
 
@@ -401,22 +401,22 @@ def eight_control_connections_are_served_and_the_ninth_waits(t):
     desk = opened(t)
     first, second = t.control(), t.control()
     first.peer.sendall(b"status 7f")
-    t.same(second.ask("status 05"), "good", "while another is in mid-line")
+    t.same(second.ask("status 05"), "good", "while another connection has sent half a line")
     first.peer.sendall(b"f\nstatus x\nstat")
-    t.same([first.file.readline(), first.file.readline()], [b"unknown\n", b"E22 syntax\n"], "in order")
+    t.same([first.file.readline(), first.file.readline()], [b"unknown\n", b"E22 syntax\n"], "replies, in order")
     idle = [t.control() for _ in range(6)]
     ninth = t.control()
     ninth.peer.sendall(b"status 05\n")
-    t.same([it.ask("status 06") for it in (second, *idle)], ["unknown"] * 7, "eight at once")
+    t.same([it.ask("status 06") for it in (second, *idle)], ["unknown"] * 7, "the seven others of eight connections")
     ninth.peer.settimeout(0.5)
     try:
-        t.same(ninth.peer.recv(10), None, "the ninth is answered while all eight are there")
+        t.same(ninth.peer.recv(10), None, "the ninth is answered while all eight are open")
     except TimeoutError:
         pass
     first.file.close()
     first.peer.close()
     ninth.peer.settimeout(LONGEST)
-    t.same(ninth.peer.recv(10), b"good\n", "the ninth, once one is gone")
+    t.same(ninth.peer.recv(10), b"good\n", "the ninth, once another is closed")
     t.true(desk.process.poll() is None, "the desk ended")
 
 
@@ -430,7 +430,7 @@ def a_line_that_is_not_whole_is_never_run(t):
         t.same(control.file.read(), b"", "the reply to a line with no LF")
     with Control(t.room / "counter") as control:
         control.peer.sendall(b"revoke 1")
-    # Time in which the desk could run it.
+    # If the desk ran this line, it would do so within this time.
     time.sleep(0.2)
     t.same(t.done("at", "counter", given="status 05\n"), "good\n")
     at_once(t, desk, "a counter that was cut off")
@@ -438,7 +438,7 @@ def a_line_that_is_not_whole_is_never_run(t):
 
 @test(seconds=3)
 def a_control_connection_that_does_not_read_is_held(t):
-    """Its next line runs once the socket has accepted the reply to the one before, and no later line does."""
+    """A client sends lines and reads no reply. The desk runs a line only once the socket has accepted the reply to the line before."""
     desk = opened(t, "--log")
     unread = t.control()
     unread.peer.settimeout(1)
@@ -447,15 +447,15 @@ def a_control_connection_that_does_not_read_is_held(t):
             unread.peer.sendall(b"status 7b\n")
     except TimeoutError:
         pass
-    t.same(t.done("at", "counter", given="status 05\n"), "good\n", "another counter")
+    t.same(t.done("at", "counter", given="status 05\n"), "good\n", "another control connection")
     told = sum('control "status 7b"' in it for it in desk.end().err_lines)
     replies = read_all(unread.peer).count(b"unknown\n")
-    t.true(0 < replies <= told <= replies + 1, f"{told} lines were told, and {replies} replies taken")
+    t.true(0 < replies <= told <= replies + 1, f"the log has {told} lines, and the socket has {replies} replies")
 
 
 @test(seconds=3)
 def a_control_connection_of_many_lines_holds_up_nobody(t):
-    """Its client writes lines and reads replies until the others have been answered."""
+    """One client writes lines and reads replies, until another control connection and HTTP clients have been answered."""
     desk = opened(t)
     busy, other = t.control(), t.control()
     ends = threading.Event()
@@ -470,16 +470,17 @@ def a_control_connection_of_many_lines_holds_up_nobody(t):
         replies = pool.submit(lambda: set(busy.file))
         try:
             for _ in range(3):
-                t.same(other.ask("status 05"), "good", "another counter")
+                t.same(other.ask("status 05"), "good", "another control connection")
                 at_once(t, desk, "a counter of many lines")
         finally:
             ends.set()
-        t.same(replies.result(), {b"unknown\n"}, "its replies")
+        t.same(replies.result(), {b"unknown\n"}, "the replies to the many lines")
 
 
 @test(seconds=2)
 def lines_of_control_connections_are_answered_in_turn(t):
-    """One connection has sent a thousand lines at once. Two others, one accepted before it and one after it, wait for a line of it, and not for all."""
+    """One connection has sent a thousand lines at once. Two others, one accepted before it and one after it, wait for some
+    lines, but not for all."""
     entered(t)
     desk = t.open("ca.db", "--log")
     before, busy, after = (t.control() for _ in range(3))

@@ -1,5 +1,5 @@
-"""The control socket of an open desk: lines in pieces, beside HTTP clients and other control connections; its slots; the end of a connection with a line
-that is too long."""
+"""The control socket of an open desk: lines in pieces, beside HTTP clients and other control connections; its eight slots; and a line so long that
+the desk closes the connection."""
 
 import signal
 import socket
@@ -13,7 +13,7 @@ from lib.trial import each, test
 DAY = "2026-01-01T00:00:00Z"
 ENTERED = f"{DAY} subscriber acme\n{DAY} order 1 398\n{DAY} register 1 05 {DAY} 2026-12-31T00:00:00Z\n"
 PLACES = 8
-# The most bytes of a line that is kept until its LF comes, with it.
+# The desk closes a control connection once it keeps this many bytes without an LF.
 HELD = 8_194
 
 
@@ -34,7 +34,7 @@ def a_line_is_answered_beside_a_slow_client(t):
     with desk.connect() as slow:
         slow.sendall(b"GET /status/05 HT")
         t.same(t.done("at", "counter", given="request 05 superseded\nrevoke 1\n"), "request 1 due 2026-01-02T00:00:00Z\nrevoked\n")
-        # Its request is complete after the revocation, and its answer has it.
+        # The slow client completes its request after the revocation, so the answer has it.
         slow.sendall(b"TP/1.1\r\n\r\n")
         t.same(parted(read_all(slow))[2], b'{"at":"2026-01-01T00:00:00Z","reason":4,"status":"revoked"}')
 
@@ -46,7 +46,7 @@ def lines_in_pieces_of_one_byte_are_answered_each_on_its_connection(t):
     controls = [(t.control(), line, reply) for line, reply in lines.items()]
     longest = max(map(len, lines)) + 1
     for _ in range(20):
-        # A byte of each in turn: all are in mid-line at once.
+        # Each connection sends a byte in turn, so all are within a line at once.
         for at in range(longest):
             for control, line, _ in controls:
                 if piece := f"{line}\n".encode()[at : at + 1]:
@@ -60,7 +60,7 @@ def an_end_of_line_with_a_cr_is_the_same(t):
     opened(t)
     control = t.control()
     control.peer.sendall(b"status 05\r\nstatus 05\r\r\nstatus\r 05\n")
-    t.same([control.file.readline() for _ in range(3)], [b"good\n", b"E22 syntax\n", b"E22 syntax\n"], "one CR is dropped, and no other")
+    t.same([control.file.readline() for _ in range(3)], [b"good\n", b"E22 syntax\n", b"E22 syntax\n"], "replies: only one CR is dropped")
 
 
 @each({"as many as are held": (HELD, True), "one fewer": (HELD - 1, False)})
@@ -69,12 +69,12 @@ def bytes_without_an_end_of_line(t, count, is_ended):
     with Control(t.room / "counter") as control:
         control.peer.sendall(b"x" * count)
         if is_ended:
-            t.same(control.file.read(), b"", "what it hears: no line fits any more")
+            t.same(control.file.read(), b"", "replies before the desk closed the connection")
         else:
-            authority.until(lambda: is_read(control.peer), "that the bytes are read")
-            t.same(control.ask(""), "F4 read", "the line that ends there, which is too long with its moment")
-            t.same(control.ask("status 05"), "good", "the counter goes on")
-    t.same(t.done("at", "counter", given="status 05\n"), "good\n", "another counter")
+            authority.until(lambda: is_read(control.peer), "the desk to read the bytes")
+            t.same(control.ask(""), "F4 read", "the reply to this line, which is too long")
+            t.same(control.ask("status 05"), "good", "the next line of the same connection")
+    t.same(t.done("at", "counter", given="status 05\n"), "good\n", "another control connection")
 
 
 @test(seconds=2)
@@ -87,12 +87,12 @@ def a_closed_control_connection_frees_its_slot(t):
         elif number % 4 == 2:
             t.same(control.ask("status 05"), "good")
         elif number % 4 == 3:
-            # Goes with a reply that it did not read.
+            # The client closes without having read its replies.
             control.peer.sendall(b"counts\n" * 3)
         closed(control)
     together = [t.control() for _ in range(PLACES)]
-    t.same([it.ask("status 05") for it in together], ["good"] * PLACES, "as many as there are places, afterwards")
-    t.same(parted(desk.ask("GET", "/counts"))[2], b'{"expired":0,"good":1,"revoked":0}', "a request")
+    t.same([it.ask("status 05") for it in together], ["good"] * PLACES, "a connection in each slot, afterwards")
+    t.same(parted(desk.ask("GET", "/counts"))[2], b'{"expired":0,"good":1,"revoked":0}', "an HTTP request")
 
 
 @test(seconds=2)
@@ -103,19 +103,19 @@ def waiting_control_connections_are_answered_as_others_close(t):
     waiting = [t.control() for _ in range(3)]
     for number, it in enumerate(waiting):
         it.peer.sendall(f"subscriber s{number}\nstatus 05\n".encode())
-    # Time in which the desk could run their lines.
+    # If the desk ran their lines too early, it would do so within this time.
     time.sleep(0.3)
-    # Their lines were not run while they waited: the next number is free.
+    # The desk ran none of their lines: the next subscriber number is still free.
     t.same(first[0].ask("subscriber early"), "subscriber 2")
     for number, it in enumerate(waiting):
         closed(first[number])
-        t.same(it.file.readline(), f"subscriber {number + 3}\n".encode(), "its first line, once one has gone")
-        t.same(it.file.readline(), b"good\n", "and the next")
+        t.same(it.file.readline(), f"subscriber {number + 3}\n".encode(), "its first line, once another connection is closed")
+        t.same(it.file.readline(), b"good\n", "its second line")
 
 
 @test
 def a_waiting_control_connection_is_accepted_once_another_had_its_last_reply(t):
-    """Nothing else happens: the client whose slot it gets sent a line and its end at once."""
+    """Another client sends a line and half-closes at once. After its reply, the desk accepts the waiting connection without a further event."""
     desk = opened(t)
     first = [t.control() for _ in range(PLACES)]
     t.same([it.ask("counts") for it in first], ["good 1 revoked 0 expired 0"] * PLACES)
@@ -127,7 +127,7 @@ def a_waiting_control_connection_is_accepted_once_another_had_its_last_reply(t):
     desk.process.send_signal(signal.SIGCONT)
     t.same(first[0].file.read(), b"unknown\n", "the last reply")
     waiting.peer.settimeout(20)
-    t.same(waiting.file.readline(), b"good\n", "the reply to the one that waited")
+    t.same(waiting.file.readline(), b"good\n", "the reply to the waiting connection")
 
 
 @test(seconds=3)
@@ -142,17 +142,17 @@ def replies_that_were_not_read_come_in_order_once_they_are(t):
             sent += unread.peer.send(lines[sent : sent + 4_096])
     except TimeoutError:
         pass
-    t.true(sent < len(lines), "all was taken of a counter that reads nothing")
-    t.same(t.done("at", "counter", given="status 05\n"), "good\n", "another counter meanwhile")
+    t.true(sent < len(lines), "the desk read all lines of a client that reads no reply")
+    t.same(t.done("at", "counter", given="status 05\n"), "good\n", "another control connection meanwhile")
     whole = lines[:sent].count(b"\n")
     unread.peer.settimeout(LONGEST)
     unread.peer.shutdown(socket.SHUT_WR)
     wanted = b"".join(b"good\n" if number == 5 else b"unknown\n" for number in range(1, whole + 1))
-    t.true(unread.file.read() == wanted, f"the replies to {whole} lines are others, or fewer, or in another order")
+    t.true(unread.file.read() == wanted, f"the replies to {whole} lines are wrong, incomplete or out of order")
 
 
 def without_room_for_a_log(t, *words):
-    """Starts a desk with a log on a full disk until the test ends: the process, and its port."""
+    """Starts a desk that logs to a full disk, until the test ends; returns the process and its port."""
     port = free_port()
     full = t.enter_context(open("/dev/full", "wb"))
     desk = t.enter_context(
@@ -174,11 +174,11 @@ def a_log_that_can_t_be_written_disturbs_no_client(t):
     t.register(lines=ENTERED)
     desk, port = without_room_for_a_log(t, "open", "ca.db", "--control", "counter", "--unsigned")
     for _ in range(3):
-        t.same(t.done("at", "counter", given="status 05\n"), "good\n", "a line")
-        t.same(status_of_05(port), b'{"status":"good"}', "a request")
-    t.same(desk.poll(), None, "it runs on")
+        t.same(t.done("at", "counter", given="status 05\n"), "good\n", "a control line")
+        t.same(status_of_05(port), b'{"status":"good"}', "an HTTP request")
+    t.same(desk.poll(), None, "exit status of the desk, which must still run")
     desk.terminate()
-    t.same(desk.wait(LONGEST), -15, "its end by SIGTERM")
+    t.same(desk.wait(LONGEST), -15, "exit status after SIGTERM")
     desk, port = without_room_for_a_log(t, "serve", "ca.db", "--requests", "1")
-    t.same(status_of_05(port), b'{"status":"good"}', "a request that is served")
-    t.same(desk.wait(LONGEST), 0, "status of `serve`")
+    t.same(status_of_05(port), b'{"status":"good"}', "a request to `serve`")
+    t.same(desk.wait(LONGEST), 0, "exit status of `serve`")

@@ -1,4 +1,4 @@
-"""Copies of a closed and of an open register. Each copy is a whole and sound register at a path where no file was, or there is no copy."""
+"""Copies of a closed and of an open register. The program makes a whole and sound copy, at a path where no file was, or none."""
 
 import os
 import re
@@ -25,14 +25,14 @@ COPY_FILES = "copy.db,copy.db.part"
 def copied(t, reply, path="copy.db"):
     """Checks the reply that reports a copy: it has the copy's size, and the copy has mode 600."""
     told = re.fullmatch(r"copied (\d+) bytes in \d+ ms\n?", reply)
-    t.true(told, f"the reply {reply!r}")
+    t.true(told, f"the reply does not report a copy: {reply!r}")
     found = (t.room / path).stat()
-    t.same((int(told[1]), "%o" % (found.st_mode & 0o7777), found.st_nlink), (found.st_size, "600", 1), "bytes, mode and names")
-    t.same([it.name for it in (t.room / path).parent.iterdir() if it.name.startswith(f"{(t.room / path).name}.")], [], "what is left beside it")
+    t.same((int(told[1]), "%o" % (found.st_mode & 0o7777), found.st_nlink), (found.st_size, "600", 1), "size, mode and number of hard links")
+    t.same([it.name for it in (t.room / path).parent.iterdir() if it.name.startswith(f"{(t.room / path).name}.")], [], "files left beside it")
 
 
 def opens(t, path, wanted):
-    """It is a register, with these counts and the same CRL."""
+    """Checks that the program opens a file as a register, and that it has these counts."""
     t.same(t.done("script", path, given=f"{NEXT} counts\n"), f"{wanted}\n")
 
 
@@ -47,7 +47,7 @@ def a_closed_register(t):
     t.register(lines=ENTERED)
     before = t.files()
     copied(t, t.done("copy", "ca.db", "copy.db"))
-    t.same({name: it for name, it in t.files().items() if name != "copy.db"}, before, "all else that lies there")
+    t.same({name: it for name, it in t.files().items() if name != "copy.db"}, before, "the other files of the folder")
     t.same(t.done("audit", "copy.db"), SOUND)
     t.same(t.desk("crl", "copy.db").out, t.desk("crl", "ca.db").out, "the CRL")
     opens(t, "copy.db", "good 2 revoked 0 expired 0")
@@ -77,8 +77,8 @@ def an_open_register_is_copied_while_it_answers(t):
     finally:
         stop.set()
         asker.join()
-    t.same(wrong, [], "what was asked meanwhile")
-    # A copy lacks later entries, and has the earlier ones, although only the -wal has them.
+    t.same(wrong, [], "wrong answers while the desk copied")
+    # A copy has the entries made before it, also those that are only in the -wal, and none made after it.
     for at in (0, 19):
         t.same(t.done("audit", f"copy{at}.db"), SOUND)
         t.same(t.sql(f"copy{at}.db", "SELECT count(*) FROM subscriber"), [(at + 2,)], f"subscribers of copy {at}")
@@ -126,23 +126,23 @@ def never_over_an_existing_file(t, lay, end):
     ran = t.desk("copy", "ca.db", "copy.db", "--why")
     t.same((ran.status, ran.out, ran.err.decode()), (1, b"", f"F2 store\n  {TAKEN}\n"))
     found = sorted((it.name, os.readlink(it) if it.is_symlink() else it.is_file() and it.read_bytes()) for it in t.room.iterdir())
-    t.same(found, before, "what lies there")
+    t.same(found, before, "the files of the folder")
     t.open()
     refused(t, "counter", "copy.db", TAKEN)
 
 
 @test(seconds=2)
 def never_over_a_file_that_appears_meanwhile(t):
-    """Once the desk has looked for one and begins its copy."""
+    """Another file appears after the program has found the path free, while it begins its copy."""
     t.register(lines=ENTERED)
     with ThreadPoolExecutor(1) as pool:
         ran = pool.submit(t.desk, "copy", "ca.db", "copy.db", "--why", faults=faults.environment(slow_open=t.room / "go", only="copy.db.part"))
-        authority.until((t.room / "go.waits").exists, "that it opens the new file")
+        authority.until((t.room / "go.waits").exists, "the program to open the new file")
         (t.room / "copy.db").write_text("mine")
         (t.room / "go").touch()
         t.same((ran.result().status, ran.result().err.decode()), (1, f"F2 store\n  {TAKEN}\n"))
-    t.same((t.room / "copy.db").read_text(), "mine", "the other file")
-    t.same([it.name for it in t.room.iterdir() if it.name.endswith(".part")], [], "what is left")
+    t.same((t.room / "copy.db").read_text(), "mine", "the file that appeared")
+    t.same([it.name for it in t.room.iterdir() if it.name.endswith(".part")], [], "files that are left")
 
 
 @test
@@ -167,7 +167,7 @@ def no_copy_by_desk_copy(t, before, file, told):
     before(t)
     ran = t.desk("copy", file, "copy.db", "--why")
     t.same((ran.status, ran.out, ran.err), (1, b"", told))
-    t.same([it.name for it in t.room.iterdir() if it.name.startswith("copy")], [], "what is left")
+    t.same([it.name for it in t.room.iterdir() if it.name.startswith("copy")], [], "files that are left")
 
 
 @test
@@ -178,12 +178,12 @@ def no_copy_at_the_control_socket(t):
     refused(t, "counter", "", "no such file")
     with Control(t.room / "counter") as it:
         it.peer.sendall(b"copy \xff\nwhy\ncopy\n")
-        t.same([it.file.readline() for _ in range(3)], [b"F2 store\n", b"why F2 store\n", b"E22 syntax\n"], "no text, and no path")
-    # Another file is at the path now, which this desk does not have open.
+        t.same([it.file.readline() for _ in range(3)], [b"F2 store\n", b"why F2 store\n", b"E22 syntax\n"], "replies: not UTF-8, `why`, no path")
+    # The open register is moved, and another file is at its path.
     os.rename(t.room / "ca.db", t.room / "moved.db")
     shutil.copy(t.room / "moved.db", t.room / "ca.db")
     refused(t, "counter", "copy.db", "no such file")
-    t.same([it.name for it in t.room.iterdir() if it.name.startswith("copy")], [], "what is left")
+    t.same([it.name for it in t.room.iterdir() if it.name.startswith("copy")], [], "files that are left")
 
 
 @test
@@ -193,7 +193,7 @@ def an_open_register_whose_files_were_emptied_is_damaged(t):
     for name in ("ca.db", "ca.db-wal"):
         os.truncate(t.room / name, 0)
     refused(t, "counter", "copy.db", "damaged, or not a database: check the path and the disk")
-    t.same(left(t), [], "what is left")
+    t.same(left(t), [], "files that are left")
 
 
 @test
@@ -209,10 +209,10 @@ def no_right(t):
 def a_copy_of_an_older_one_stays_so(t, version):
     registers.make(t.room / "ca.db", registers.Records(50), version)
     copied(t, t.done("copy", "ca.db", "copy.db"))
-    t.same((t.room / "copy.db").read_bytes(), (t.room / "ca.db").read_bytes(), "there is no log")
+    t.same((t.room / "copy.db").read_bytes(), (t.room / "ca.db").read_bytes(), "the bytes of the copy: the register has no -wal")
     t.same(t.desk("audit", "copy.db").err, b"old-version\n")
     lines = "9999-01-01T00:00:00Z counts\n"
-    t.same(t.done("script", "copy.db", given=lines), t.done("script", "ca.db", given=lines), "opened, both are made newer")
+    t.same(t.done("script", "copy.db", given=lines), t.done("script", "ca.db", given=lines), "the counts; this command migrates both files")
     t.has(t.done("audit", "copy.db"), "sound, ")
 
 
@@ -228,14 +228,14 @@ def a_call_that_fails_leaves_nothing(t, kind, cause):
     t.register(lines=ENTERED)
     words = ("copy", "ca.db", "copy.db", "--why")
     last = faults.total(t, words, kind, only=COPY_FILES)
-    t.true(last > 0, f"no {kind}")
+    t.true(last > 0, f"the copy makes no call of {kind}")
     for at in range(1, last + 1):
         for name in left(t):
             os.remove(t.room / name)
         ran, count = faults.run(t, words, fail=f"{kind}:{at}", only=COPY_FILES)
         t.same((ran.status, ran.out, count["met"]), (1, b"", 1), f"{kind} {at}")
         t.same(ran.err.decode(), f"F2 store\n{cause}", f"{kind} {at}") if cause else t.has(ran.err.decode(), "F2 store\n")
-        t.same(left(t), [], f"what {kind} {at} leaves")
+        t.same(left(t), [], f"files that are left if {kind} {at} fails")
     copied(t, t.done("copy", "ca.db", "copy.db"))
 
 
@@ -245,8 +245,8 @@ def a_full_disk_at_the_control_socket(t):
     t.clock(NEXT)
     t.open(faults=faults.environment(fail="write:1+", only="copy.db.part"))
     refused(t, "counter", "copy.db", "disk full")
-    t.same(left(t), [], "what is left")
-    t.same(t.done("at", "counter", given="subscriber beta\n"), "subscriber 2\n", "the register goes on")
+    t.same(left(t), [], "files that are left")
+    t.same(t.done("at", "counter", given="subscriber beta\n"), "subscriber 2\n", "a command after the failed copy")
 
 
 LOSSES = {"nothing is lost": {}, "what was not synced is lost": {"lose": 1}, "the write is torn": {"torn": 1}}
@@ -266,20 +266,20 @@ def a_stop_leaves_a_whole_one_or_none(t, told):
         t.same((ran.status, count["met"]), (-9, 1), f"stopped at step {at}")
         t.true(set(left(t)) <= {"copy.db", "copy.db.part"}, f"what is left at step {at}: {left(t)}")
         if (t.room / "copy.db").exists():
-            # It has its second name still, beside which it is not opened.
+            # The copy still has its second name (hard link), copy.db.part. The program does not open a file that has two.
             (t.room / "copy.db.part").unlink()
             t.same(t.done("audit", "copy.db"), SOUND, f"at step {at}")
             whole += 1
-    t.same(whole, 1, "stops behind its naming")
+    t.same(whole, 1, "stops after which copy.db exists")
 
 
 @test(seconds=2)
 def a_desk_that_is_killed_while_it_copies(t):
-    """Its register is as it was. The partial copy blocks the next one until it is deleted."""
+    """The register of a killed desk stays sound. The partial copy blocks the next one until it is deleted."""
     t.register(lines=ENTERED)
     desk = t.open(faults=faults.environment(stop=3, only=COPY_FILES))
     with Control(t.room / "counter") as it:
-        t.same(it.ask("copy copy.db"), "", "its reply")
+        t.same(it.ask("copy copy.db"), "", "the reply of the killed desk")
     t.same(desk.wait().status, -9)
     t.same(left(t), ["copy.db.part"])
     t.same(t.done("audit", "ca.db"), SOUND)

@@ -1,6 +1,6 @@
-"""Random days, compared with the model of the register as plain lists (tests/model): each reply, and each byte of CRLs, OCSP and HTTP.
+"""Plays random days on the program, and compares each reply and each byte of CRLs, OCSP and HTTP with a model of the register (tests/model).
 
-Each plan of tests/model/plans.py is a day from seed 1, in which the cases that it is for must occur. tests/random runs other seeds."""
+Seed 1 gives one day for each plan of tests/model/plans.py. The day must contain the cases that the plan is for. tests/random runs other seeds."""
 
 import os
 from dataclasses import replace
@@ -14,13 +14,13 @@ from model.register import GROUNDS
 from model.smaller import smaller
 
 SEED = 1
-# Made smaller for so many seconds at most; tests/random takes its time.
+# The test shortens a day with a difference for at most this many seconds; tests/random has no limit.
 SECONDS = 40
 REFUSALS = {f"E{it:02}" for it in range(1, 23)}
-# Only an open register has the words of a clock that is far ahead.
+# Replies that only an open register gives: to a command under a clock that is far ahead, and to `accept-clock`.
 OPEN_FORMS = {"bad-clock", "clock accepted"}
 FORMS = set(days.FORMS) - OPEN_FORMS
-# The cases that a plan's day must contain: at least these highest counts, and so many of each of those.
+# For each plan: the least maximum that each quantity must reach in its day (MOST), and how often each case must occur at least (CAME).
 MOST = {
     "usual": {"rows": 151, "CRLs": 11, "OCSP bytes": 1000, "GET bytes": 401, "overdue": 2, "expired": 10},
     "in-memory": {"rows": 251, "CRLs": 50},
@@ -64,7 +64,7 @@ CAME = {
     "many-ends": {"expired": 100, "registered": 700},
     "many-rows": {"commands and queries": 3000},
 }
-# How many commands and kinds of refusals there must be.
+# A day must have more commands than this (refused ones count), and at least this many kinds of refusals.
 COMMANDS = {
     "usual": 1_500, "cap-of-1": 700, "cap-of-3": 700, "cap-of-250": 2_000, "same-second": 1_200, "months": 650, "centuries": 650,
     "seconds-of-2050": 300, "after-2106": 800, "the-clocks-end": 500, "many-entries": 4_000, "many-ends": 1_000, "many-rows": 1_200,
@@ -86,37 +86,37 @@ def missing(found, least):
 @each({name: name for name in PLANS}, seconds=8)
 def plays(t, name):
     plan, day = PLANS[name], day_of(name)
-    t.same({**missing(day.most, MOST[name]), **missing(day.came, CAME.get(name, {}))}, {}, "what did not come in the day")
-    t.true(day.came["commands"] > COMMANDS.get(name, 0), f"{day.came['commands']} commands alone")
+    t.same({**missing(day.most, MOST[name]), **missing(day.came, CAME.get(name, {}))}, {}, "cases that are too rare in the day")
+    t.true(day.came["commands"] > COMMANDS.get(name, 0), f"only {day.came['commands']} commands")
     kinds = [it for it in REFUSALS if day.came[it]]
-    t.true(len(kinds) >= KINDS.get(name, 0), f"{len(kinds)} kinds of refusals alone")
+    t.true(len(kinds) >= KINDS.get(name, 0), f"only {len(kinds)} kinds of refusals")
     if plan.cap < 1000:
-        t.same(day.most["rows"], plan.cap, "the most rows of a table")
+        t.same(day.most["rows"], plan.cap, "rows of the largest table")
     if name == "seconds-of-2050":
         moments = {it.at for it in day.register.revocations.values()} | {*day.register.crls}
-        t.true(YEAR_2050 in moments, "nothing in the first second of 2050")
-        t.true(min(moments) < YEAR_2050 <= max(moments), "no moment on a side of the turn of the year")
+        t.true(YEAR_2050 in moments, "no revocation or CRL in the first second of 2050")
+        t.true(min(moments) < YEAR_2050 <= max(moments), "all revocations and CRLs are on one side of the turn of the year")
     again = f"tests/random --seed {SEED} --count 1 --plan {name}"
     t.note(again)
     place = play.difference(day.wanted, play.Player(plan, t.room).answers(day.steps))
     if place is not None:
         few = play.fewest(plan, day.steps[: place + 1], SECONDS)
-        t.true(False, f"another answer at step {place + 1} of {len(day.steps)}; these are left\n{play.report(plan, few, again)}")
+        t.true(False, f"the answer to step {place + 1} of {len(day.steps)} differs; the shortened day:\n{play.report(plan, few, again)}")
 
 
 @test(seconds=7)
 def all_that_there_is_comes_in_the_days(t):
     all_days = [day_of(it) for it in PLANS]
     came = {it for day in all_days for it, many in day.came.items() if many}
-    t.same(sorted((REFUSALS | FORMS | OPEN_FORMS | {*STATUSES, *OCSP, "import", "schedule", "key-id", "crl", "audit", "tell", "at"}) - came), [], "what came in no day")
-    t.same({it.ground for day in all_days for it in day.register.requests}, set(GROUNDS), "grounds")
-    t.same({it.reason for day in all_days for it in day.register.revocations.values()}, {reason for _, reason in GROUNDS.values()}, "reasons")
-    t.true(sum(day.came["commands and queries"] for day in all_days) > 20_000, "fewer commands and queries than 20,000")
+    t.same(sorted((REFUSALS | FORMS | OPEN_FORMS | {*STATUSES, *OCSP, "import", "schedule", "key-id", "crl", "audit", "tell", "at"}) - came), [], "cases in no day")
+    t.same({it.ground for day in all_days for it in day.register.requests}, set(GROUNDS), "grounds of the requests")
+    t.same({it.reason for day in all_days for it in day.register.revocations.values()}, {reason for _, reason in GROUNDS.values()}, "their reasons")
+    t.true(sum(day.came["commands and queries"] for day in all_days) > 20_000, "only 20,000 commands and queries or fewer")
 
 
 @test(seconds=7)
 def a_difference_is_made_smaller_and_shown(t):
-    # A program with another reply to `decline`.
+    # This program replies `refused` to `decline`, in place of `declined`.
     other = t.room / "other"
     other.write_text(f"#!/bin/sh\n{play.program.program()} \"$@\" | sed 's/^declined$/refused/'\n")
     other.chmod(0o755)
@@ -132,9 +132,9 @@ def a_difference_is_made_smaller_and_shown(t):
     t.true(told is not None, "no difference was found")
     lines = told.splitlines()
     steps = [it for it in lines if it.startswith("  script")]
-    # A declined request needs a subscriber, an order, a certificate, the request and its end.
-    t.same([it.split()[2] for it in steps], ["subscriber", "order", "register", "request", "decline"], "the steps that are left")
-    t.same(lines[-3:], ["  wanted  declined", "  got     refused", "  again   tests/random --seed 3 --count 1 --plan in-memory"], "what is shown")
+    # To decline a request, a script needs only these five commands.
+    t.same([it.split()[2] for it in steps], ["subscriber", "order", "register", "request", "decline"], "the commands of the shortened day")
+    t.same(lines[-3:], ["  wanted  declined", "  got     refused", "  again   tests/random --seed 3 --count 1 --plan in-memory"], "the report")
 
 
 @test

@@ -1,11 +1,11 @@
-"""Calls on a register's files fail: the reply is `F2 store` (internalError of an OCSP request). Opened again, the register has a prefix of the lines, with at
-least all that were answered, and goes on."""
+"""System calls on a register's files fail. The program replies `F2 store`, or internalError to an OCSP request. When the register is opened
+again, it has a prefix of the lines, with at least all answered ones, and accepts the rest."""
 
 from lib import faults
 from lib.faults import LIFE, STORE, Course
 from lib.trial import each
 
-# The file, the kind of call, and the way in which it fails: at its Nth call; in some rows at each call from the Nth on.
+# The files, the kind of call, and how the Nth call fails: with an error, with no byte moved (`=0`), or with all later calls (`+`).
 FAILURES = {
     "a write of the log": ("ca.db-wal", "write", ""),
     "a write of the file": ("ca.db", "write", ""),
@@ -32,7 +32,7 @@ def the_store_fails(t, only, kind, how):
     faults.copy(base, t.room / path)
     text = "".join(f"{asked}\n" for asked, _ in LIFE)
     last = faults.total(t, ["script", path], kind, text, only=only)
-    # Opening reads each page three times: of reads each of the first 30, and then every seventh.
+    # Opening reads each page three times, so only the first 30 reads and then every seventh are tried.
     for at in faults.places(last, 30 if kind == "read" else last, 7):
         met = course.round(STORE, 1, f"{kind} {at}{how} of {only}", only=only, fail=f"{kind}:{at}{how}")
-        t.true(met, f"{kind} {at} of {last} was not met")
+        t.true(met, f"the fault at {kind} {at} of {last} did not occur")

@@ -1,4 +1,4 @@
-"""Standard input, standard output, the signer's socket and the client of the control socket fail, for the commands that faults_pieces leaves out."""
+"""Calls fail, are interrupted or move few bytes: on standard input, output and error, on the signer's socket and on the socket of `desk at`."""
 
 from lib import faults, program
 from lib.faults import DAY_1, DAY_2, LIFE, REGISTERED
@@ -23,7 +23,7 @@ def a_write_of_an_import_fails(t, how, words):
         t.same((ran.status, ran.out, ran.err, count["met"]), (1, replies[: at - 1], b"F5 write\n", 1), f"write {at}")
         # The register has the row whose reply was cut, and no later one.
         stand = 1 if at <= 11 else 2
-        t.same(len(faults.tables(t.room / "ca.db")["cert"]), stand, f"rows that stand after write {at}")
+        t.same(len(faults.tables(t.room / "ca.db")["cert"]), stand, f"certificates in the register after write {at}")
 
 
 @each({"over memory": ["script"], "over a file": ["script", "ca.db"]}, seconds=4)
@@ -63,10 +63,10 @@ def a_first_write_that_fails_is_reported(t, words):
     for how in ("", "=0", "+"):
         ran, count = faults.run(t, words, only="stdout", fail=f"write:1{how}")
         t.same((ran.status, ran.out, ran.err), (1, b"", b"F5 write\n"), f"{words[0]} {how}")
-        t.true(count["met"], "it was met")
+        t.true(count["met"], "the fault did not occur")
 
 
-# A system error, and the line that --why adds after the fault.
+# A system error, and the line that --why adds after `F5 write`.
 CAUSES = {"ENOSPC": b"  disk full (standard output)\n", "EACCES": b"  permission denied, or the file system is read-only (standard output)\n", "EPIPE": b"", "EIO": b"", "ECONNRESET": b""}
 
 
@@ -81,11 +81,11 @@ def an_error_of_the_system_has_its_cause_or_none(t, error, line):
 @test
 def where_nothing_can_be_printed_the_status_stays(t):
     t.register(lines=ENTERED)
-    # A wrong command line is left out: its status is then 1, and not 2.
+    # This test has no wrong command line, because its status does change, from 2 to 1.
     for words, status in ((["crl", "ca.db"], 1), (["script", "none.db"], 1)):
         ran, count = faults.run(t, words, only="stderr", fail="write:1+")
         t.same((ran.status, ran.out, ran.err), (status, b"", b""), words[0])
-        t.true(count["met"], "it was met")
+        t.true(count["met"], "the fault did not occur")
 
 
 @each({"one byte": 1, "seven bytes": 7}, seconds=2)
@@ -97,10 +97,10 @@ def a_signer_in_pieces(t, size):
     asked = list(signer.asked)
     ran, _ = faults.run(t, ["script", "other.db", *SIGNING], TEXT, only="socket", short=size)
     t.same((ran.status, ran.out, ran.err), (0, whole.out, b""))
-    t.same((len(asked), signer.asked[len(asked) :]), (4, asked), "what was to be signed")
+    t.same((len(asked), signer.asked[len(asked) :]), (4, asked), "the messages that the signer received")
 
 
-# Kinds of calls of the four signatures. If one fails, the reply is `F3 signer`.
+# The kinds of calls that request the four signatures. If one fails, the reply is `F3 signer`, or internalError to an OCSP request.
 CALLS = {"a socket": ("socket", ""), "connecting": ("connect", ""), "a write": ("write", ""), "a write of nothing": ("write", "=0"), "a read": ("read", ""),
          "a reset": ("read", "=ECONNRESET")}  # fmt: skip
 
@@ -120,13 +120,13 @@ def a_call_of_the_signer_s_socket_fails(t, kind, how):
             for (line, _), wanted in zip(LIFE, whole):
                 reply = desk.ask(line)
                 if reply != wanted:
-                    # It is answered the next time, and nothing was recorded of it.
+                    # The same line succeeds the next time, so the failed one recorded nothing.
                     t.same(reply, faults.INTERNAL_ERROR if " ocsp " in line else "F3 signer", f"{kind} {at}: {line}")
                     told += 1
                     t.same(desk.ask(line), wanted, f"{kind} {at}: {line} again")
             met = desk.counted["met"]
-            t.same(desk.end(), (0, "", ""), f"{kind} {at}: its end")
-        t.same(faults.tables(t.room / "ca.db"), after, f"{kind} {at}: the tables in the end")
+            t.same(desk.end(), (0, "", ""), f"{kind} {at}: status, rest of the output and standard error")
+        t.same(faults.tables(t.room / "ca.db"), after, f"{kind} {at}: the tables at the end")
         if not met:
             break
     t.true(told >= 4, f"only {told} signatures failed")
@@ -172,6 +172,6 @@ def the_client_of_a_control_socket_fails(t, only, fail, told):
     opened = t.open()
     ran, count = faults.run(t, ["at", "counter"], "counts\n", only=only, fail=fail)
     t.same((ran.status, ran.err, count["met"]), (1, told, 1))
-    t.true(ran.out in (b"", b"good 1 revoked 0 expired 0\n"), f"what it printed: {ran.out!r}")
-    t.same(t.done("at", "counter", given="counts\n"), "good 1 revoked 0 expired 0\n", "the desk answers the next one")
-    t.same(opened.end().err, b"", "what the desk told")
+    t.true(ran.out in (b"", b"good 1 revoked 0 expired 0\n"), f"the standard output of `desk at` is {ran.out!r}")
+    t.same(t.done("at", "counter", given="counts\n"), "good 1 revoked 0 expired 0\n", "the reply to the next client")
+    t.same(opened.end().err, b"", "standard error of the desk")

@@ -1,5 +1,5 @@
-"""Calls of commands over a file fail one by one. The command reports `F2 store`, and the file is as before or as after the command, or the command succeeds. The
-same command succeeds afterwards."""
+"""System calls of a command on a register's file fail. The command succeeds, or it reports `F2 store` and leaves the tables as before or as after
+it (an import may enter some rows). The same command then succeeds, unless `init` has already made the register."""
 
 import re
 
@@ -16,7 +16,7 @@ def text(lines):
 
 ROWS = f"order,serial,notBefore,notAfter\n1,05,{DAY_1},2026-01-10T00:00:00Z\n2,06,{DAY_1},2026-01-10T00:00:00Z\n"
 ORDERS = f"{DAY_1} subscriber acme\n{DAY_1} order 1 398\n{DAY_1} order 1 398\n"
-# Words, what is given, the lines that made the register, and whether the job is one that changes nothing.
+# The words, the standard input, and the lines that make the register (None if there is none yet).
 JOBS = {
     "init": (["init", "ca.db", "--name", program.NAME, "--key", program.KEY], "", None),
     "import": (["import", "ca.db", "--now", DAY_1], ROWS, ORDERS),
@@ -48,10 +48,10 @@ def a_call_fails(t, job, kind, how):
         where = f"{kind} {at}{how}"
         faults.copy(base, t.room / "ca.db")
         ran, count = faults.run(t, words, given, only=FILES, fail=f"{kind}:{at}{how}")
-        t.true(count["met"], f"{where} was not met")
+        t.true(count["met"], f"the fault at {where} did not occur")
         found = faults.tables(t.room / "ca.db")
         if (ran.status, ran.out, ran.err) == (0, usual.out, b""):
-            t.same(found, new, f"{where}: the tables, where it was done")
+            t.same(found, new, f"{where}: the tables after a command that succeeded")
         else:
             told += 1
             judge(t, job, ran, usual, where)
@@ -61,19 +61,19 @@ def a_call_fails(t, job, kind, how):
                 t.true(found in (old, new, None) if job == "init" else found in (old, new), f"{where}: the tables: {found}")
         again = faults.sound_run(t, words, given)
         if job == "import":
-            t.same((again.status, len([it for it in again.lines if it in ("registered", "same")])), (0, 2), f"{where}: the same again")
+            t.same((again.status, len([it for it in again.lines if it in ("registered", "same")])), (0, 2), f"{where}: the same command again")
         elif not (job == "init" and found == new and again.err == b"not-empty\n"):
-            t.same((again.status, again.out, again.err), (0, usual.out, b""), f"{where}: the same again")
-        t.same(faults.tables(t.room / "ca.db"), new, f"{where}: the tables in the end")
-    t.true(told or kind in ("cut", "stat") or (kind, job) in NEVER_TOLD, f"no {kind} of {job} was told")
+            t.same((again.status, again.out, again.err), (0, usual.out, b""), f"{where}: the same command again")
+        t.same(faults.tables(t.room / "ca.db"), new, f"{where}: the tables at the end")
+    t.true(told or kind in ("cut", "stat") or (kind, job) in NEVER_TOLD, f"{job} reported no failed {kind}")
 
 
-# Calls that these jobs need not make, because they only read the register.
+# These jobs only read the register, so they need not make these calls.
 NEVER_TOLD = {(it, job) for it in ("write", "sync") for job in ("crl", "list", "audit")}
 
 
 def judge(t, job, ran, usual, where):
-    """Checks the end of a job that had a fault: its line on standard error, and nothing on standard output except the replies of an import."""
+    """Checks how a job with a fault ended: `F2 store` on standard error, and no standard output. An import may reply `F2 store` to a row instead."""
     if job == "import":
         fits = set(ran.lines) <= {"registered", "F2 store"} and (ran.status, ran.err) in ((0, b""), (1, b"F2 store\n"))
     else:
@@ -83,9 +83,9 @@ def judge(t, job, ran, usual, where):
 
 
 def stands(t, ran, found, old, where):
-    """Checks that after an import the register has each row with an accepted reply. It may also have the row whose commit failed."""
+    """Checks that after an import the register has each row that was answered `registered`. It may also have the row whose commit failed."""
     serials = {row[0][-1] for row in found["cert"]}
     for line, serial in zip(ran.lines, (5, 6)):
         if line == "registered":
-            t.true(serial in serials, f"{where}: row {serial} was answered and does not stand")
+            t.true(serial in serials, f"{where}: serial number {serial} was answered `registered`, but the register lacks it")
     t.same(found["orders"], old["orders"], f"{where}: the orders")

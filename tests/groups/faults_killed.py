@@ -1,4 +1,4 @@
-"""A script and an open desk are killed at random moments, by SIGKILL and by SIGTERM. Opened again, the register has each answered command."""
+"""SIGKILL ends a script, and SIGKILL or SIGTERM an open desk, at random moments. When the register is opened again, it has each answered command."""
 
 import os
 import random
@@ -16,7 +16,7 @@ ROUNDS, LINES = 8, 20_000
 
 
 def feed(process, lines):
-    """Gives lines until there are no more, or the program was ended while it read."""
+    """Writes lines to a program's standard input, until there are no more or the program has ended."""
     try:
         process.stdin.write("".join(lines).encode())
         process.stdin.close()
@@ -25,7 +25,8 @@ def feed(process, lines):
 
 
 def ended_while_fed(t, words, lines, ended, how, after, is_answering):
-    """Feeds lines to a program, and ends it after a while, counted from its start or its first reply. Returns the last id in a reply, or 0."""
+    """Writes lines to a program. After a while, counted from its start or its first reply, a signal ends the process `ended`, by default the program.
+    Returns the id in the last reply, or 0 without a reply."""
     with tempfile.TemporaryFile(dir=t.room) as replies:
         asker = subprocess.Popen(
             [program.program(), *words], cwd=t.room, stdin=subprocess.PIPE, stdout=replies, stderr=subprocess.DEVNULL, env=program.environment()
@@ -69,7 +70,7 @@ def what_was_answered_stands(t, command, how):
                 last = ended_while_fed(t, ["at", "counter"], lines, desk.process, how, after, number % 2)
         again = t.done("script", "ca.db", given=f"{program.moment_of(time.time())} subscriber after-{number}\n")
         following = int(again.split()[1])
-        t.true(following > last, f"round {number}: subscriber {last} was answered and is lost: the next one is {following}")
+        t.true(following > last, f"round {number}: subscriber {last} was answered and is lost: the next subscriber is {following}")
         most = max(most, following)
     t.true(most > ROUNDS, f"only {most} subscribers were entered")
     audited(t, "ca.db", (0, 0, 0), "in the end")

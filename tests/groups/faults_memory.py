@@ -1,5 +1,5 @@
-"""Each allocation fails in turn, until a run has no failing one. A command whose allocation fails reports `F1 memory` and changes nothing, or succeeds. Later
-commands have their usual replies. At first each allocation fails, and then only every Nth: a statement that comes again allocates the same."""
+"""In each run one allocation fails. The command that needed it reports `F1 memory` and changes nothing, or succeeds. Later commands have their
+usual replies. The tests try each of the first allocations, and then only every Nth, because a repeated statement allocates the same."""
 
 from lib import faults, program
 from lib.faults import CHANGES, LIFE, MEMORY, REGISTERED, Course
@@ -9,7 +9,7 @@ from lib.trial import Failed, each, test
 DAY = "2026-01-01T00:00:00Z"
 LATER = "2026-01-02T00:00:00Z"
 SOON = "2026-01-02T00:00:01Z"
-# Each of the first EACH calls fails in turn, and then every STRIDE-th one.
+# Each of the first EACH allocations fails in a run, and then every STRIDE-th one.
 EACH, STRIDE = 200, 37
 PARTS = 4
 
@@ -19,7 +19,7 @@ def script(lines):
 
 
 def part_of(last, part):
-    """One part of the call numbers that are tried, so that tests try the parts in parallel."""
+    """One part of the call numbers to try. Each part is a test of its own, so the parts run in parallel."""
     return faults.places(last, EACH, STRIDE)[part::PARTS]
 
 
@@ -46,7 +46,7 @@ def a_script_of_the_other_commands_goes_on_after_a_refusal(t, part):
         course.round(MEMORY, 0, f"allocation {at}", fail=f"alloc:{at}")
 
 
-# The lines that the two lack: the other queries, and refused lines.
+# Lines that LIFE and CHANGES lack: the other queries, and refused lines.
 QUERIES = [
     (f"{SOON} overdue", "overdue 1 first 1"),
     (f"{SOON} status 05", f"revoked {DAY} reason 0"),
@@ -96,28 +96,28 @@ def a_job_that_is_refused_is_done_the_next_time(t, words, given, base):
     faults.copy(base, t.room / "ca.db")
     before = faults.tables(t.room / "ca.db")
     usual, count = faults.run(t, words, given)
-    t.same((usual.status, usual.err), (0, b""), "without a refusal")
+    t.same((usual.status, usual.err), (0, b""), "status and standard error without a fault")
     after = faults.tables(t.room / "ca.db")
     for at in faults.places(count["alloc"], EACH, STRIDE):
         faults.copy(base, t.room / "ca.db")
         ran, count = faults.run(t, words, given, fail=f"alloc:{at}")
         where, found = f"allocation {at}", faults.tables(t.room / "ca.db")
-        t.same(count["met"], 1, f"{where} was refused")
+        t.same(count["met"], 1, f"{where}: the number of injected faults")
         if (ran.status, ran.out) == (0, usual.out):
-            t.same(found, after, f"{where}: the tables, where it was done as with memory")
+            t.same(found, after, f"{where}: the tables after a command that succeeded")
         elif words[0] == "import" and ran.out == b"F1 memory\n":
-            # A row without memory has this reply, and the import goes on.
-            t.same((ran.status, found), (0, before), f"{where}: a row that was refused")
+            # The import gives this reply to a row that runs out of memory, and goes on.
+            t.same((ran.status, found), (0, before), f"{where}: status and tables after `F1 memory`")
         else:
             t.same((ran.status, ran.out, ran.err), (1, b"", b"F1 memory\n"), where)
             t.true(found in (before, None) or words[0] == "init", f"{where}: the tables: {found}")
         again = program.run(words, given, cwd=t.room)
         if ran.status:
-            t.same((again.status, again.out), (0, usual.out), f"{where}: the same again")
-        t.same(faults.tables(t.room / "ca.db"), after, f"{where}: the tables in the end")
+            t.same((again.status, again.out), (0, usual.out), f"{where}: the same command again")
+        t.same(faults.tables(t.room / "ca.db"), after, f"{where}: the tables at the end")
 
 
-# Requests to an open desk, with the status and the body of each answer; the log's line of a revocation comes after them.
+# HTTP requests to an open desk, with the status and the body of each response. Two lines at the control socket follow them (asked_of).
 ASKED = [
     ("GET", "/counts", None, 200, b'{"expired":0,"good":1,"revoked":0}'),
     ("GET", "/status/05", None, 200, b'{"status":"good"}'),
@@ -131,7 +131,7 @@ ASKED = [
 
 
 def fits(response, status, body):
-    """Whether an answer is the usual one, or reports an allocation failure: in JSON, by the constant text, by internalError, or by a closed connection."""
+    """Whether a response is the usual one, or reports that the desk is out of memory: by status 500 with this JSON or no body, or by its absence."""
     got, lines, told = parted(response)
     no_memory = got == 500 and told in (b'{"error":"F1 memory"}', b"")
     return (got, told) == (status, body) or no_memory or response == b""
@@ -151,16 +151,16 @@ def an_open_desk_goes_on_after_a_refusal(t, part):
             if desk.listens:
                 asked_of(t, desk, at)
             else:
-                t.same(desk.wait().err, b"F1 memory\n", f"allocation {at}, before it listens")
+                t.same(desk.wait().err, b"F1 memory\n", f"allocation {at}, before the desk listens")
             desk.end()
         if not faults.counted(t.room / "count")["met"]:
             last = at
             break
         opened = program.run(["script", "ca.db"], f"{LATER} status 05\n{LATER} subscriber b\n", cwd=t.room)
-        t.same((opened.status, opened.lines[1]), (0, "subscriber 2"), f"opened after allocation {at}")
+        t.same((opened.status, opened.lines[1]), (0, "subscriber 2"), f"the register opened again after allocation {at}")
         faults.audited(t, "ca.db", (1, int(opened.lines[0] != "good"), 0), f"allocation {at}")
         done += 1
-    t.true(last and done > 20, f"{done} allocations were refused, the last before {last}")
+    t.true(last and done > 20, f"{done} allocations failed, and allocation {last} was not reached (0: all were)")
 
 
 def asked_of(t, desk, at):
@@ -172,7 +172,7 @@ def asked_of(t, desk, at):
             try:
                 reply = control.ask(line)
             except OSError:
-                # The line before it had no memory, and the desk closed the connection.
+                # The line before this one ran out of memory, and the desk closed the connection.
                 reply = ""
             t.true(reply in (*wanted, "F1 memory", ""), f"allocation {at}: {line}: {reply!r}")
 

@@ -1,5 +1,5 @@
-"""The disk, the sockets or the clock of an open desk fail. A command is answered `F2 store` and the desk goes on. A fault of a connection ends only that one. A
-clock that can't be read ends the desk with `F4 read`, and the register has each answered command."""
+"""The disk, the sockets or the clock of an open desk fail. If the disk fails, the desk replies `F2 store` and goes on. If a connection fails, only
+that one ends. If the clock can't be read, the desk ends with `F4 read`, and the register has each answered command."""
 
 import contextlib
 import socket
@@ -11,7 +11,7 @@ from lib.program import parted
 from lib.trial import each, test
 
 FILES = "ca.db,ca.db-wal"
-# The file, what fails, and how: at the Nth call, or from it on.
+# The files, the kind of call, and whether only the Nth call fails or all later ones too (`+`).
 FAILURES = {
     "a write of the log": ("ca.db-wal", "write", ""),
     "a sync": (FILES, "sync", ""),
@@ -28,7 +28,7 @@ def the_store_fails_under_an_open_desk(t, only, kind, how):
     at, met = 0, True
     while met:
         at += 1
-        # Opening reads each page three times: of reads each of the first 20, and then every seventh.
+        # Opening reads each page three times, so only the first 20 reads and then every seventh are tried.
         if kind == "read" and at > 20 and at % 7:
             continue
         met = course.round(STORE, 1, f"{kind} {at}{how} of {only}", only=only, fail=f"{kind}:{at}{how}")
@@ -73,28 +73,29 @@ TROUBLES = ("", "=0", "=ECONNRESET")
 
 
 def served(t, base, exchange, where, **told):
-    """One exchange with a fault: the response, whether the fault occurred, and how many requests the register has. The desk answers the next client as usual."""
+    """Sends a request to a desk with a fault, and checks that the desk answers the next client as usual. Returns the response, whether the fault
+    occurred, and how many requests for revocation the register has."""
     faults.copy(base, t.room / "ca.db")
     (t.room / "clock").write_text(str(program.seconds_of(DAY_2)))
     env = faults.environment(count=t.room / "count", same=1, only="socket", **told)
     with program.Opened(["serve", "ca.db", "--requests", "2"], cwd=t.room, clock=t.room / "clock", faults=env) as desk:
         got = desk.send(exchange)
         met = faults.counted(t.room / "count")["met"]
-        t.same(desk.send(COUNTS), COUNTED, f"{where}: the next peer")
+        t.same(desk.send(COUNTS), COUNTED, f"{where}: the response to the next client")
         ended = desk.wait()
-    t.same((ended.status, ended.err), (0, b""), f"{where}: its end")
+    t.same((ended.status, ended.err), (0, b""), f"{where}: status and standard error of the desk")
     return got, met, len(faults.tables(t.room / "ca.db")["request"])
 
 
 @each(EXCHANGES, seconds=15)
 def a_read_from_a_client_fails(t, request, response, entered):
     base = t.register("base.db", text(REGISTERED))
-    # One byte a read: each one fails, also that of the last byte.
+    # Each read moves one byte. Each of them fails in a run, also that of the last byte.
     for at in range(1, len(request) + 1):
         for how in TROUBLES:
             where = f"read {at}{how}"
             got, met, stand = served(t, base, request, where, short=1, fail=f"read:{at}{how}")
-            t.same((got, met, stand), (b"", 1, 0), f"{where}: what the peer got, whether it was met, and what was entered")
+            t.same((got, met, stand), (b"", 1, 0), f"{where}: the response, the faults, the requests in the register")
 
 
 @each(EXCHANGES, seconds=20)
@@ -104,7 +105,7 @@ def a_write_to_a_client_fails(t, request, response, entered):
         for how in TROUBLES[:2] if at % 3 else TROUBLES[2:]:
             where = f"write {at}{how}"
             got, met, stand = served(t, base, request, where, short=1, fail=f"write:{at}{how}")
-            t.same((got, met, stand), (response[: at - 1], 1, entered), f"{where}: what the peer got, whether it was met, and what was entered")
+            t.same((got, met, stand), (response[: at - 1], 1, entered), f"{where}: the response, the faults, the requests in the register")
 
 
 @each({"a read": "read", "a write": "write"}, seconds=2)
@@ -112,7 +113,7 @@ def a_signal_at_a_client_s_socket_changes_nothing(t, kind):
     base = t.register("base.db", text(REGISTERED))
     for at in (1, 2, len(REQUEST)):
         got, met, stand = served(t, base, REQUEST, f"{kind} {at}", short=1, fail=f"{kind}:{at}=EINTR")
-        t.same((got, met, stand), (ANSWER, 1, 1), f"{kind} {at}: what the peer got, whether it was met, and what was entered")
+        t.same((got, met, stand), (ANSWER, 1, 1), f"{kind} {at}: the response, the faults, the requests in the register")
 
 
 @test(seconds=3)
@@ -121,7 +122,7 @@ def pieces_of_any_size_are_the_same(t):
     for name, (request, response, entered) in EXCHANGES.items():
         for size in (1, 2, 3, 7, 64, 10_000):
             got, _, stand = served(t, base, request, f"{name} by {size} bytes", short=size)
-            t.same((got, stand), (response, entered), f"{name} by {size} bytes")
+            t.same((got, stand), (response, entered), f"{name} in pieces of {size} bytes")
 
 
 @test(seconds=3)
@@ -141,19 +142,19 @@ def a_change_by_http_that_is_not_stored_is_reported(t):
                     t.true((status, body) == (200, ENTERED) or (met and (status, body) == (500, b'{"error":"F2 store"}')), f"{kind} {at}: {status} {body}")
                     told += status == 500
                     stood = len(faults.tables(t.room / "ca.db")["request"])
-                    t.true(stood == 1 or status == 500, f"{kind} {at}: what was answered does not stand")
+                    t.true(stood == 1 or status == 500, f"{kind} {at}: the register lacks the answered request")
                     # If the disk may or may not have the change, the desk answers no query until the register is opened again.
                     behind = [parted(desk.send(it))[::2] for it in (STATUS, COUNTS)]
-                    t.true(behind in (KNOWN, UNTOLD if status == 500 else KNOWN), f"{kind} {at}: what is told behind it: {behind}")
+                    t.true(behind in (KNOWN, UNTOLD if status == 500 else KNOWN), f"{kind} {at}: the next responses are {behind}")
                 desk.end()
             (t.room / "counter").unlink(missing_ok=True)
             again = faults.sound_run(t, ["script", "ca.db"], f"{DAY_2} request 05 superseded\n")
             if desk.listens:
-                t.same(again.out, b"request %d due 2026-01-03T00:00:00Z\n" % (stood + 1), f"{kind} {at}: the same again, opened anew")
+                t.same(again.out, b"request %d due 2026-01-03T00:00:00Z\n" % (stood + 1), f"{kind} {at}: the request after reopening")
             faults.audited(t, "ca.db", (1, 0, 0), f"{kind} {at}")
             if not faults.counted(t.room / "count")["met"]:
                 break
-        t.true(told, f"no {kind} failed under a request")
+        t.true(told, f"no {kind} failed during a request")
 
 
 @each({"accept": "accept:1=ECONNABORTED", "poll": "poll:2=EINTR"}, seconds=1)
@@ -162,12 +163,12 @@ def an_interrupted_call_is_repeated(t, fail):
     t.clock(DAY_2)
     opened = t.open(faults=faults.environment(count=t.room / "count", fail=fail))
     t.same([opened.send(COUNTS) for _ in range(3)], [COUNTED] * 3)
-    t.same(faults.counted(t.room / "count")["met"], 1, "the fault was met")
+    t.same(faults.counted(t.room / "count")["met"], 1, "the number of injected faults")
 
 
 @test(seconds=3)
 def a_connection_that_the_kernel_does_not_watch_counts_as_a_request(t):
-    """Else `serve` would wait for ever: it accepts no more connections than requests."""
+    """`serve` accepts no more connections than requests. So a connection for which epoll_ctl fails counts as one, or `serve` would wait for ever."""
     base = t.register("base.db", text(REGISTERED))
     for at in range(1, 20):
         faults.copy(base, t.room / "ca.db")
@@ -184,7 +185,7 @@ def a_connection_that_the_kernel_does_not_watch_counts_as_a_request(t):
             t.same((ended.status, ended.err), (0, b"") if desk.listens else (1, b"F4 read\n"), f"call {at} of epoll_ctl fails")
         if not faults.counted(t.room / "count")["met"]:
             break
-    t.true(2 < at < 19, f"{at - 1} calls")
+    t.true(2 < at < 19, f"{at - 1} calls of epoll_ctl")
 
 
 @each({"a socket": "socket:1", "the port": "bind:1", "listening": "listen:1"}, seconds=1)
@@ -215,17 +216,17 @@ def a_clock_that_can_not_be_read_ends_an_open_desk(t):
                         got += [reply for reply in [control.ask(it)] if reply]
             met = faults.counted(t.room / "count")["met"]
             ended = desk.wait() if met else desk.end()
-        t.same(got, replies[: len(got)], f"look {at}: what was answered")
-        t.same((ended.status, ended.err), (1, b"F4 read\n  the machine's clock can't be read\n") if met else (-15, b""), f"look {at}: its end")
+        t.same(got, replies[: len(got)], f"clock read {at}: the replies")
+        t.same((ended.status, ended.err), (1, b"F4 read\n  the machine's clock can't be read\n") if met else (-15, b""), f"clock read {at}: end")
         stand = faults.sound_run(t, ["script", "ca.db"], f"{DAY_2} status 05\n").out.decode()
-        t.same(stand, f"{replies[3]}\n" if len(got) > 2 else "good\n", f"look {at}: what stands")
+        t.same(stand, f"{replies[3]}\n" if len(got) > 2 else "good\n", f"clock read {at}: the status in the register")
         seen.add(len(got))
-    t.true(len(seen) > 2 and 4 in seen, f"the clock failed behind {seen} replies")
+    t.true(len(seen) > 2 and 4 in seen, f"the clock failed only after these numbers of replies: {seen}")
 
 
 @test(seconds=2)
 def a_clock_that_can_not_be_read_ends_a_clocked_script(t):
-    """After the replies before it. The register has each answered command, and no later line runs."""
+    """If the clock can't be read, `desk script --clock` ends. The register has each command that was answered before, and no later line runs."""
     base, asked = t.register("base.db", text(REGISTERED)), ["counts", "request 05 superseded", "revoke 2", "revoke 1", "status 05"]
     replies = ["good 1 revoked 0 expired 0", "request 1 due 2026-01-03T00:00:00Z", "E17 no-request", "revoked", f"revoked {DAY_2} reason 4"]
     (t.room / "clock").write_text(str(program.seconds_of(DAY_2)))
@@ -234,12 +235,12 @@ def a_clock_that_can_not_be_read_ends_a_clocked_script(t):
         faults.copy(base, t.room / "ca.db")
         given = "".join(f"{it}\n" for it in asked)
         ran, count = faults.run(t, ["script", "ca.db", "--clock", "--why"], given, clock=t.room / "clock", fail=f"clock:{at}+")
-        t.same((ran.status, ran.err), (1, b"F4 read\n  the machine's clock can't be read\n") if count["met"] else (0, b""), f"look {at}: its end")
-        t.same(ran.lines, replies[: len(ran.lines)], f"look {at}: what was answered")
+        t.same((ran.status, ran.err), (1, b"F4 read\n  the machine's clock can't be read\n") if count["met"] else (0, b""), f"clock read {at}: end")
+        t.same(ran.lines, replies[: len(ran.lines)], f"clock read {at}: the replies")
         stand = faults.sound_run(t, ["script", "ca.db"], f"{DAY_2} status 05\n").out.decode()
-        t.same(stand, f"{replies[4]}\n" if len(ran.lines) > 3 else "good\n", f"look {at}: what stands")
+        t.same(stand, f"{replies[4]}\n" if len(ran.lines) > 3 else "good\n", f"clock read {at}: the status in the register")
         seen.add(len(ran.lines))
-    t.same(seen, set(range(len(asked) + 1)), "behind how many replies it failed")
+    t.same(seen, set(range(len(asked) + 1)), "the numbers of replies before the clock failed")
 
 
 @each({"before 1970": (-1, f"E01 clock-back {DAY_1}"), "past 9999": (253_402_300_800, "E02 clock-end")}, seconds=1)
@@ -248,10 +249,10 @@ def a_clock_out_of_range_is_refused(t, seconds, wanted):
     t.clock(DAY_1)
     opened, control = t.open(), t.control()
     t.same(control.ask("counts"), "good 1 revoked 0 expired 0")
-    # The operator has accepted a clock near its end, so that it is not refused as one that is far ahead.
+    # The operator accepts a clock near its last moment, so the desk does not refuse it as far ahead.
     t.same(control.ask("accept-clock 9999-12-21T23:59:59Z"), "clock accepted")
     t.clock(seconds)
-    t.same(control.ask("subscriber late"), wanted, "a line at such a moment")
-    t.same(parted(opened.send(COUNTS))[::2], (409, b'{"error":"%s"}' % wanted.encode()), "a request at such a moment")
+    t.same(control.ask("subscriber late"), wanted, "the reply to a line under this clock")
+    t.same(parted(opened.send(COUNTS))[::2], (409, b'{"error":"%s"}' % wanted.encode()), "the response to a request under this clock")
     t.clock(DAY_1)
     t.same(control.ask("subscriber b"), "subscriber 2", "nothing was entered, and the desk goes on")

@@ -1,5 +1,5 @@
-"""A register of version 1 or 2 is migrated while the disk fails, an allocation fails or the process is killed, and unsynced writes are lost. It is then of the
-old or the new version, as a whole, and the next command migrates it and goes on."""
+"""The migration of a register of version 1 or 2 fails: the disk or an allocation fails, or the process is killed, and unsynced writes may be lost.
+The register then has the old version or the new one, as a whole. The next command migrates it if needed, and succeeds."""
 
 import contextlib
 import sqlite3
@@ -29,19 +29,20 @@ CREATE TABLE listed (serial BLOB NOT NULL PRIMARY KEY REFERENCES revocation (ser
     not_after INTEGER NOT NULL, last_listed INTEGER) STRICT;
 """
 RECORDS = ("office", "subscriber", "orders", "cert", "request", "revocation", "crl")
-# The register goes on: these rows follow from its records, whatever the derived rows were.
+# The lines after the migration. Their replies follow from the records, even if the derived rows were wrong.
 GOES_ON = [(f"{PAST_END} listing 05", "listing first 1 last 2"), (f"{PAST_END} crl", "crl 4 entries 0"), (f"{PAST_END} counts", "good 0 revoked 1 expired 0")]
 SOUND = (1, 1, 4)
 VERSIONS = (1, 2)
 
 
 def one_line(statements):
-    """The statements as the older programs gave them, each table on one line: the register looks at these texts."""
+    """The statements as the older programs wrote them, each on one line: the program compares these texts when it opens a register."""
     return [" ".join(it.split()) for it in statements.split(";") if it.strip()]
 
 
 def older(t, version):
-    """Makes a register of an older version, whose certificate was revoked and listed. In version 2 all its derived rows are wrong."""
+    """Makes a register of an older version from the records of a new one, whose certificate was revoked and listed. In version 2 all its derived
+    rows are wrong. Returns its path, and the tables of the new one."""
     newer = faults.tables(t.register("newer.db", "".join(f"{asked}\n" for asked, _ in LIFE)))
     with contextlib.closing(sqlite3.connect(t.room / "older.db")) as database:
         database.execute("PRAGMA journal_mode = DELETE")
@@ -61,15 +62,15 @@ def older(t, version):
 def course_of(t, version):
     base, newer = older(t, version)
     course = Course(t, base, GOES_ON, SOUND)
-    t.same(course.states[0]["office"][0][1], version, "the older version")
-    t.same(course.states[1], newer, "what it is made into: the register that it was made from")
+    t.same(course.states[0]["office"][0][1], version, "the version before the migration")
+    t.same(course.states[1], newer, "the tables after the migration, in comparison with the new register")
     return course
 
 
 def last_of(t, course, kind, **told):
     faults.copy(course.base, t.room / "ca.db")
     last = faults.total(t, ["script", "ca.db"], kind, "".join(f"{asked}\n" for asked, _ in course.lines), **told)
-    t.true(last > 1, f"only {last} of {kind}")
+    t.true(last > 1, f"only {last} calls of the kind {kind}")
     return last
 
 
@@ -87,7 +88,7 @@ LOSSES = {
 def it_stops(t, version, told):
     course = course_of(t, version)
     for at in range(1, last_of(t, course, "steps", only=FILES) + 1):
-        t.true(course.round(None, 1, f"stopped at step {at}", only=FILES, stop=at, **told), f"step {at} was not met")
+        t.true(course.round(None, 1, f"stopped at step {at}", only=FILES, stop=at, **told), f"the process was not stopped at step {at}")
 
 
 FAILURES = {"write": "", "sync": "", "cut": "", "read": "", "open": "", "stat": "", "lock": "", "every write": "+", "every sync": "+", "every read": "+"}
@@ -97,7 +98,7 @@ FAILURES = {"write": "", "sync": "", "cut": "", "read": "", "open": "", "stat": 
 def the_store_fails(t, version, kind, how):
     course = course_of(t, version)
     for at in faults.places(last_of(t, course, kind, only=FILES), 60, 7):
-        t.true(course.round(STORE, 1, f"{kind} {at}{how}", only=FILES, fail=f"{kind}:{at}{how}"), f"{kind} {at} was not met")
+        t.true(course.round(STORE, 1, f"{kind} {at}{how}", only=FILES, fail=f"{kind}:{at}{how}"), f"the fault at {kind} {at} did not occur")
 
 
 PARTS = 4
@@ -106,6 +107,6 @@ PARTS = 4
 @each({f"version {version}, part {part}": (version, part) for version in VERSIONS for part in range(PARTS)}, seconds=15)
 def memory_is_refused(t, version, part):
     course = course_of(t, version)
-    # Each of the first 300, and then every eleventh.
+    # Each of the first 300 allocations fails in a run, and then every eleventh.
     for at in faults.places(last_of(t, course, "alloc"), 300, 11)[part::PARTS]:
-        t.true(course.round(MEMORY, 1, f"allocation {at}", fail=f"alloc:{at}"), f"allocation {at} was not met")
+        t.true(course.round(MEMORY, 1, f"allocation {at}", fail=f"alloc:{at}"), f"allocation {at} did not fail")

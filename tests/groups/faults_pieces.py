@@ -1,5 +1,5 @@
-"""Reads and writes move one byte: the output is the same, byte for byte. They fail at standard input, standard output and the sockets: `F4 read` comes after the
-replies to the whole lines before it, and after `F5 write` the register has the command whose reply was cut."""
+"""If reads and writes move only a few bytes per call, the output is the same, byte for byte. If a read of standard input fails, a script replies to
+all whole lines before, and prints `F4 read`. If a write of a reply fails, it prints `F5 write`, and the register has the command."""
 
 import re
 
@@ -9,7 +9,7 @@ from lib.trial import each, test
 
 DAY = "2026-01-01T00:00:00Z"
 LATER = "2026-01-02T00:00:00Z"
-# All but the register's own files, where a short read or write is a failure of the store (below).
+# The register's files are left out, because a short read or write of them is a failure of the store (below).
 WIRES = "stdin,stdout,socket"
 SCRIPT = "".join(f"{asked}\n" for asked, _ in LIFE)
 REPLIES = "".join(f"{reply}\n" for _, reply in LIFE)
@@ -49,7 +49,7 @@ def an_open_desk_in_pieces(t, size):
     opened = t.open(faults=faults.environment(only=WIRES, short=size))
     t.same([opened.ask(*it) for it in asked], wanted, "HTTP in pieces")
     ran = t.desk("at", "counter", given="status 05\nrequest 05 asked\nrevoke 1\nstatus 05\n", faults=faults.environment(only=WIRES, short=size))
-    t.same(ran.lines, ["good", "request 1 due 2026-01-03T00:00:00Z", "revoked", f"revoked {LATER} reason 0"], "the counter in pieces")
+    t.same(ran.lines, ["good", "request 1 due 2026-01-03T00:00:00Z", "revoked", f"revoked {LATER} reason 0"], "the control socket in pieces")
 
 
 @each({"standard error": ("stderr", ["--log"]), "a file": ("ca.log", ["--log-file", "ca.log"])})
@@ -92,7 +92,7 @@ def a_read_of_a_script_fails(t, how):
         whole = SCRIPT[: 16 * (at - 1)].count("\n")
         wanted = "".join(f"{reply}\n" for _, reply in LIFE[:whole])
         if not count["met"]:
-            t.same((ran.status, ran.out.decode()), (0, REPLIES), f"read {at}, which was not met")
+            t.same((ran.status, ran.out.decode()), (0, REPLIES), f"read {at}, which did not fail")
             break
         t.same((ran.status, ran.out.decode(), ran.err), (1, wanted, b"F4 read\n"), f"read {at}")
         faults.audited(t, "ca.db", (int(whole > 2), int(whole > 4), [0, 0, 0, 0, 0, 0, 1, 1, 2, 3, 3][whole]), f"read {at}")
@@ -107,7 +107,7 @@ def a_read_of_an_import_fails(t):
         ran, count = faults.run(t, ["import", "ca.db", "--now", DAY], ROWS, only="stdin", short=16, fail=f"read:{at}")
         if count["met"]:
             t.same((ran.status, ran.out, ran.err), (1, b"", b"F4 read\n"), f"read {at}")
-            t.same(faults.tables(t.room / "ca.db"), before, f"the tables after read {at}: nothing ran")
+            t.same(faults.tables(t.room / "ca.db"), before, f"the tables after read {at}, where no row was entered")
 
 
 @each({"fails": "", "fails from then on": "+", "moves nothing": "=0"}, seconds=6)
@@ -119,12 +119,12 @@ def a_write_of_replies_fails(t, how):
         if not count["met"]:
             break
         t.same((ran.status, ran.err), (1, b"F5 write\n"), f"write {at}")
-        t.true(REPLIES.encode().startswith(ran.out), f"write {at}: what was written is no front of the replies: {ran.out!r}")
+        t.true(REPLIES.encode().startswith(ran.out), f"write {at}: the output is no prefix of the replies: {ran.out!r}")
         # The register has the command whose reply was cut, and no later one.
         place = ran.out.count(b"\n") + 1
         rest = "".join(f"{asked}\n" for asked, _ in LIFE[place:])
         again = program.run(["script", "ca.db"], rest, cwd=t.room)
-        t.same(again.out.decode(), "".join(f"{reply}\n" for _, reply in LIFE[place:]), f"the rest behind write {at}")
+        t.same(again.out.decode(), "".join(f"{reply}\n" for _, reply in LIFE[place:]), f"the replies to the remaining lines after write {at}")
 
 
 @each({"a CRL": (["crl", "ca.db"], ""), "an audit": (["audit", "ca.db"], ""), "an import": (["import", "ca.db", "--now", LATER], f"1,05,{DAY},2026-01-10T00:00:00Z\n")})

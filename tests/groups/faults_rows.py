@@ -1,5 +1,5 @@
-"""A register's file with contents of another program. A command that reads a row which no register writes reports `F2 store` and changes nothing. A file that
-is no register is not opened, and stays as it was."""
+"""Another program has changed a register's file. A command that reads a row that `desk` never writes reports `F2 store` and changes nothing. `desk`
+does not open a file that is no register, and leaves it as it was."""
 
 import contextlib
 import sqlite3
@@ -14,7 +14,7 @@ FULL = "".join(f"{asked}\n" for asked, _ in REGISTERED) + (
 
 
 def altered(t, base, statements):
-    """Makes a copy of a register in which another program has run these statements."""
+    """Copies a register to ca.db, or creates an empty database there if `base` is None, and runs these statements in it."""
     faults.copy(base, t.room / "ca.db")
     with contextlib.closing(sqlite3.connect(t.room / "ca.db")) as it:
         it.executescript(statements)
@@ -60,7 +60,7 @@ def the_latest_crl_is_met_by_opening(t):
 
 
 NOT, NEW = "not-a-register", "new-version"
-# Statements, and the report then; None if the file is opened.
+# Statements, and the resulting line on standard error; None if `desk` opens the file.
 OPENED = [
     ("UPDATE office SET days = 0", None),
     ("UPDATE office SET last_at = 253401436799", None),
@@ -102,7 +102,7 @@ OPENED = [
     ),
     ("DROP INDEX standing_due; CREATE INDEX standing_due ON standing (not_after, state)", NOT),
 ]
-# The last of a register's tables and indexes, made anew in their order.
+# Drops the last table of a register and its two indexes, and creates them again in their order.
 AGAIN = (
     "DROP INDEX standing_due; DROP INDEX crl_at; DROP TABLE longest; CREATE TABLE longest (from_at INTEGER PRIMARY KEY, days INTEGER NOT NULL{}){}; "
     "CREATE INDEX crl_at ON crl (number, this_update); CREATE INDEX standing_due ON standing (state, not_after); INSERT INTO longest VALUES (0, 398{})"
@@ -120,14 +120,14 @@ def what_is_opened(t):
     for statements, told in OPENED:
         altered(t, base, statements)
         before = faults.tables(t.room / "ca.db")
-        # The last accepted moment of one row is the last second before the clock's end.
+        # One of the rows of OPENED sets the last accepted moment to 9999-12-21T23:59:59Z, so this line has that moment.
         ran = t.desk("script", "ca.db", given="9999-12-21T23:59:59Z listing 05\n")
         wanted = (0, b"listing none\n", b"") if told is None else (1, b"", f"{told}\n".encode())
         t.same((ran.status, ran.out, ran.err), wanted, statements)
         t.same(faults.tables(t.room / "ca.db"), before, f"the tables: {statements}")
 
 
-# Statements over an older register, which is then not migrated.
+# Statements in an older register that `desk` then does not migrate, and the resulting line on standard error.
 OLDER = [
     ("UPDATE office SET days = 0", NOT),
     ("UPDATE office SET days = 399", NOT),
@@ -167,7 +167,7 @@ def a_register_is_made_in_an_empty_database_alone(t, statements):
     before = t.sql("ca.db", "SELECT sql FROM sqlite_schema")
     ran = t.desk("init", "ca.db", *WORDS)
     t.same((ran.status, ran.out, ran.err), (1, b"", b"not-empty\n"))
-    t.same(t.sql("ca.db", "SELECT sql FROM sqlite_schema"), before, "what it has")
+    t.same(t.sql("ca.db", "SELECT sql FROM sqlite_schema"), before, "the schema after `desk init`")
 
 
 @test

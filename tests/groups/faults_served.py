@@ -1,5 +1,5 @@
-"""Each route of a served register, with one failing allocation. The answer is whole, or reports that the desk is out of memory (of OCSP by internalError), or the
-connection closes without one. The tables are then as before, and the same request again has its answer."""
+"""A client requests each route of `desk serve` while one allocation fails. The response is the usual one, or reports that the desk is out of memory
+(to an OCSP request by internalError), or is missing. In these two cases nothing is entered, and the same request then succeeds."""
 
 from lib import faults, program
 from lib.faults import DAY_1, DAY_2, OCSP_REQUEST, PAST_END
@@ -16,7 +16,7 @@ BY_GET = (
     b" HTTP/1.1\r\n\r\n"
 )
 BODY = b'{"serial":"0A","ground":"superseded"}'
-# Each request, the beginning of its status, and what its body holds; the last alone changes the tables.
+# Each request, its status, and a part of its response. Only the last request changes the tables.
 ROUTES = [
     (b"GET /counts HTTP/1.1\r\n\r\n", b"200", b'{"expired":1,"good":1,"revoked":1}'),
     (b"GET /status/05 HTTP/1.1\r\n\r\n", b"200", b'{"at":"2026-01-02T00:00:00Z","reason":1,"status":"revoked"}'),
@@ -38,31 +38,31 @@ def is_answer(got, status, held):
 
 
 def is_refused(got):
-    """Whether a response reports that the desk is out of memory, or is empty. If there is no memory even for the Date, it is a constant text."""
+    """Whether a response reports that the desk is out of memory, or is empty. If there is no memory even for the Date field, it is NO_MEMORY."""
     told = b"\r\n\r\n" + b'{"error":"F1 memory"}'
     return got in (b"", NO_MEMORY) or (got.startswith(b"HTTP/1.1 500 ") and got.endswith(told)) or got.endswith(b"0\x03\n\x01\x02")
 
 
 def served(t, base, at):
-    """Requests all routes with one failing allocation: the count of allocations when the desk listened, and at the end."""
+    """Requests all routes while allocation `at` fails (0: none). Returns the count of allocations when the desk listened, and at the end."""
     faults.copy(base, t.room / "ca.db")
     env = faults.environment(count=t.room / "count", same=1, fail=f"alloc:{at}" if at else None)
     with program.Opened(["serve", "ca.db", "--requests", "1000"], cwd=t.room, clock=t.room / "clock", faults=env) as desk:
         first = faults.counted(t.room / "count")["alloc"]
         if not desk.listens:
             ended = desk.wait()
-            t.same((ended.status, ended.err), (1, b"F1 memory\n"), f"allocation {at}, before it listens")
+            t.same((ended.status, ended.err), (1, b"F1 memory\n"), f"allocation {at}, before the desk listens")
             return first, first
         for number, (request, status, held) in enumerate(ROUTES):
             got = desk.send(request)
             if not is_answer(got, status, held):
                 t.true(at and is_refused(got), f"allocation {at}: {request[:40]}: {got!r}")
-                t.same(len(faults.tables(t.room / "ca.db")["request"]), 1, f"allocation {at}: requests that stand")
+                t.same(len(faults.tables(t.room / "ca.db")["request"]), 1, f"allocation {at}: requests for revocation in the register")
                 got = desk.send(request)
                 t.true(is_answer(got, status, held), f"allocation {at}: {request[:40]} again: {got!r}")
         desk.end()
     last = faults.counted(t.room / "count")["alloc"]
-    t.same(len(faults.tables(t.room / "ca.db")["request"]), 2, f"allocation {at}: requests in the end")
+    t.same(len(faults.tables(t.room / "ca.db")["request"]), 2, f"allocation {at}: requests for revocation at the end")
     return first, last
 
 
@@ -71,7 +71,7 @@ def a_route_goes_on_after_a_refusal(t, part):
     base = t.register("base.db", LINES)
     (t.room / "clock").write_text(str(program.seconds_of(PAST_END)))
     first, last = served(t, base, 0)
-    t.true(last > first + 100, f"{last - first} allocations of the routes")
-    # Of opening each 61st, of the routes each.
+    t.true(last > first + 100, f"only {last - first} allocations for the routes")
+    # Of the allocations before the desk listens, every 61st fails in a run; of the later ones, each.
     for at in [*faults.places(first, 0, 61), *faults.places(last, last, 1, first + 1)][part::PARTS]:
         served(t, base, at)

@@ -1,5 +1,5 @@
-"""The process is killed in place of its Nth write, truncation or sync of a register's file, and unsynced writes may be lost. Opened again, the register has a
-prefix of the commands, with at least all that were answered, goes on, and is sound."""
+"""The process is killed in place of its Nth call that writes, truncates, syncs, creates or removes a register's file. Unsynced writes may be lost.
+Opened again, the register has a prefix of the commands, with at least all answered ones. It accepts the rest, and its audit is sound."""
 
 from lib import faults, program
 from lib.faults import CHANGES, LIFE, REGISTERED, Course
@@ -73,12 +73,12 @@ def an_import_is_stopped(t, told):
         again = program.run(words, ROWS, cwd=t.room)
         same = again.lines.count("same")
         t.same((again.status, again.lines), (0, ["same"] * same + ["registered"] * (4 - same)), f"imported again after step {at}")
-        t.true(same >= len(ran.lines), f"{len(ran.lines)} rows were answered before a stop at step {at}, and {same} stand")
+        t.true(same >= len(ran.lines), f"{len(ran.lines)} rows were answered before a stop at step {at}, but the register has {same}")
         t.same(faults.tables(t.room / "ca.db"), wanted, f"the tables after step {at}")
         faults.audited(t, "ca.db", (4, 0, 0), f"stopped at step {at}")
 
 
-# The setting, and its reply.
+# The words of each setting, and its reply.
 SET = {"a schedule": (["schedule", "ca.db", *STEPS], b"schedule set\n"), "a key identifier": (["key-id", "ca.db", "0102"], b"key-id set\n")}
 
 
@@ -112,10 +112,10 @@ def a_machine_stops_after_an_answered_command(t, seed):
         t.true(ran.status == 0 and wanted in (None, ran.lines), f"{name}: {ran}")
         after = faults.tables(t.room / "ca.db")
         t.true(after is not None, f"{name}: the register is lost")
-        t.same(len(after["orders"]), 0 if name == "init" else 4, f"{name}: orders that stand")
-        t.same(len(after["cert"]), 0 if name in ("init", "script") else 4, f"{name}: certificates that stand")
-        t.same(len(after["longest"]), 3 if name in ("schedule", "key-id", "a CRL") else 1, f"{name}: steps that stand")
-        t.same(len(after["crl"]), int(name == "a CRL"), f"{name}: CRLs that stand")
+        t.same(len(after["orders"]), 0 if name == "init" else 4, f"{name}: orders in the register")
+        t.same(len(after["cert"]), 0 if name in ("init", "script") else 4, f"{name}: certificates in the register")
+        t.same(len(after["longest"]), 3 if name in ("schedule", "key-id", "a CRL") else 1, f"{name}: steps of the schedule in the register")
+        t.same(len(after["crl"]), int(name == "a CRL"), f"{name}: CRLs in the register")
     faults.audited(t, "ca.db", (4, 0, 1), "in the end")
 
 
@@ -141,7 +141,7 @@ def an_open_desk_is_stopped(t, told):
 
 
 def answered(t, desk, clock):
-    """How many lines the control socket answers, each at its moment, until the desk is killed."""
+    """Sends the lines to the control socket, each under the clock of its moment, until the desk is killed. Returns how many were answered."""
     try:
         with program.Control(t.room / "counter") as control:
             for place, (asked, wanted) in enumerate(LIFE):

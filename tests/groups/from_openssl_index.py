@@ -1,4 +1,4 @@
-"""An index of `openssl ca`, moved into a register by examples/from-openssl-index.py. The tests compare the register's statuses with the
+"""examples/from-openssl-index.py moves an index of `openssl ca` into a register. The tests compare the register's statuses with the
 index, its CRL with that of `openssl ca -gencrl`, and its OCSP answers with those of `openssl ocsp -index`."""
 
 import hashlib
@@ -12,11 +12,11 @@ from lib import authority, program
 from lib.authority import DAY, EXAMPLES, Authority, body_of, listed, moment_of, openssl_time
 from lib.trial import each, test
 
-# How many lines the index has; at ten thousand it takes five times as long.
+# How many lines the index has; with 10,000 the test takes five times as long.
 LINES = 2_000
 MOVE = [sys.executable, EXAMPLES / "from-openssl-index.py"]
 REASONS = ["", "unspecified", "keyCompromise", "affiliationChanged", "superseded", "cessationOfOperation", "CACompromise", "certificateHold"]
-# The CRL reason for each of openssl's words, and the register's reason in its place. 0 is no reason.
+# For each reason word of openssl: the reason code of its own CRL (THEIRS), and that of the register (OURS). 0 is no reason code.
 THEIRS = {"": 0, "unspecified": 0, "keyCompromise": 1, "CACompromise": 2, "affiliationChanged": 3, "superseded": 4, "cessationOfOperation": 5,
           "certificateHold": 6, "keyTime": 1, "CAkeyTime": 2, "holdInstruction": 6}
 OURS = THEIRS | {"CACompromise": 1, "certificateHold": 0, "CAkeyTime": 1, "holdInstruction": 0}
@@ -44,12 +44,12 @@ def asn1(at):
 
 
 def drawn(count, now):
-    """Lines of an index: certificates of 365 days of the last three years, one in six revoked, some as they should not be."""
+    """Certificates of an index: each begins in the last three years and lasts for 365 days. One in six is revoked, some at impossible moments."""
     draw, made, serials = random.Random(5280), [], set()
     while len(serials) < count:
         serials.add(draw.randrange(1, 2 ** draw.choice([16, 63, 159])))
     for at, serial in enumerate(sorted(serials, key=lambda serial: serial * 2654435761 % 2**32)):
-        # Not of the hour that runs: nothing ends while the test does.
+        # No certificate begins or ends within an hour of now, so none expires during the test.
         begun = now - draw.randrange(3600, 3 * 365 * DAY) // 7200 * 7200 - 3600
         holder = f"host{at % (count // 2 + 1)}.example"
         made.append({"serial": serial, "begun": begun, "ends": begun + 365 * DAY, "revoked": None, "reason": "", "holder": holder})
@@ -85,19 +85,19 @@ def reason_of(cert):
 
 
 def is_late(cert):
-    """Revoked after its notAfter: an expired certificate can't be revoked."""
+    """Whether the index has a revocation after notAfter. The register can't revoke an expired certificate."""
     return cert["revoked"] is not None and cert["revoked"] > cert["ends"]
 
 
 def status_of(cert, now):
-    """The expected status line of the register: that of the index, except where a register has no such status."""
+    """The expected reply of the register to `status`: that of the index, except where a register can't have such a revocation."""
     if cert["revoked"] is not None and not is_late(cert):
         return f"revoked {moment_of(min(cert['revoked'], now))} reason {reason_of(cert)}"
     return "expired" if cert["ends"] < now else "good"
 
 
 def answers(t, der):
-    """The answers of an OCSP response as openssl prints them: of each serial number its status, moment and reason."""
+    """The content of an OCSP response as openssl prints it: for each serial number the status, and the moment and reason of its revocation."""
     (t.room / "read.der").write_bytes(der)
     text = t.tool("openssl", "ocsp", "-respin", "read.der", "-noverify", "-resp_text").decode()
     said = {}
@@ -109,7 +109,7 @@ def answers(t, der):
 
 
 def make_ca(t, index=""):
-    """The folder of `openssl ca`: its configuration, its key, and its files."""
+    """Makes a CA in the test's folder, with the configuration and the files of `openssl ca`, and returns it."""
     it = Authority(t)
     (t.room / "newcerts").mkdir()
     attributes = "unique_subject = no\n"
@@ -121,7 +121,7 @@ def make_ca(t, index=""):
 
 def moved(t, *words, status=0):
     ran = t.tried(*MOVE, *words, env={**os.environ, "TZ": "America/New_York"})
-    t.same(ran.returncode, status, f"status of from-openssl-index.py, which told {ran.stderr[-500:]!r}")
+    t.same(ran.returncode, status, f"status of from-openssl-index.py, which printed {ran.stderr[-500:]!r}")
     return ran.stdout.decode(), ran.stderr.decode().splitlines()
 
 
@@ -130,7 +130,7 @@ def asked(t, lines, now, file="ca.db"):
 
 
 def differences(got, wanted):
-    """Only the differences, out of thousands of values."""
+    """The values that differ, so that a failure does not show thousands of equal ones."""
     return {it: (got.get(it), wanted.get(it)) for it in got.keys() | wanted.keys() if got.get(it) != wanted.get(it)}
 
 
@@ -140,26 +140,26 @@ def an_index_of_many_lines(t):
     certs = drawn(LINES, now)
     it = make_ca(t, index_of(certs, now))
     written, told = moved(t, "index.txt", "--days", "365", status=1)
-    t.same((written, "are on hold" in told[0]), ("", True), "certificates on hold are refused unless it is said what becomes of them")
+    t.same((written, "are on hold" in told[0]), ("", True), "nothing is written if certificates are on hold and --hold is missing")
     words = ("index.txt", "--days", "365", "--hold", "revoke", "--crlnumber", "crlnumber", "--now", moment_of(now))
     late = sorted(cert["serial"] for cert in certs if is_late(cert))
     written, told = moved(t, *words, status=1)
-    t.same((written, told[-len(late) :]), ("", [f"{serial:X}" for serial in late]), "revocations that would be lost")
+    t.same((written, told[-len(late) :]), ("", [f"{serial:X}" for serial in late]), "no script, and the revocations that would be lost")
     (t.room / "lost").write_text("# Revoked after their end.\n" + "".join(f"{serial:x} had ended\n" for serial in late))
     script, told = moved(t, *words, "--leave-out", "lost")
     for word in ("on hold", "CACompromise", "invalidity", "still to come", "ended before"):
-        t.true(any(word in line for line in told), f"nothing is told of {word}")
+        t.true(any(word in line for line in told), f"no message has the words {word!r}")
     lines = script.splitlines()
     moments = [line[:20] for line in lines]
-    t.same((moments == sorted(moments), moments[-1] <= moment_of(now)), (True, True), "moments rise, and none is past now")
+    t.same((moments == sorted(moments), moments[-1] <= moment_of(now)), (True, True), "whether the moments rise, and none is in the future")
     revoked = sum(1 for cert in certs if status_of(cert, now).startswith("revoked"))
     t.same(told[-2:], [f"{revoked + len(late)} revocations read, {revoked} entered, {len(late)} left out",
                        f"{LINES} lines of the index, {LINES} certificates, {revoked} revocations, {len(lines)} lines of the script"])
     file = it.register(authority.in_memory(t) / "ca.db")
     replies = t.done("script", file, given=script).splitlines()
-    t.same((len(replies), [reply for reply in replies if re.match("[EF][0-9]", reply)]), (len(lines), []), "no line of the script is refused")
+    t.same((len(replies), [reply for reply in replies if re.match("[EF][0-9]", reply)]), (len(lines), []), "the count of replies, and the refusals")
     got = dict(zip((cert["serial"] for cert in certs), asked(t, [f"status {cert['serial']:x}" for cert in certs], now, file)))
-    t.same(differences(got, {cert["serial"]: status_of(cert, now) for cert in certs}), {}, "the status of each serial number")
+    t.same(differences(got, {cert["serial"]: status_of(cert, now) for cert in certs}), {}, "serial numbers with another status than expected")
     said = [status_of(cert, now).split()[0] for cert in certs]
     t.same(asked(t, ["counts"], now, file), [f"good {said.count('good')} revoked {said.count('revoked')} expired {said.count('expired')}"])
     its_crl_is_that_of_gencrl(t, file, certs, now)
@@ -168,15 +168,15 @@ def an_index_of_many_lines(t):
 
 
 def its_crl_is_that_of_gencrl(t, file, certs, now):
-    # openssl lists the revoked certificates of the index, also the expired ones.
+    # openssl lists all revoked certificates of the index, expired ones too.
     pem = t.tool("openssl", "ca", "-config", "ca.cnf", "-gencrl", "-batch", "-out", "theirs.pem")
     theirs = listed(t, t.tool("openssl", "crl", "-in", "theirs.pem", "-outform", "DER"))
-    t.same(asked(t, ["crl"], now, file)[0].split()[:2], ["crl", str(0x2A)], "the CRL has the number of openssl's next one")
+    t.same(asked(t, ["crl"], now, file)[0].split()[:2], ["crl", str(0x2A)], "the CRL number, which is that of openssl's next CRL")
     ours = listed(t, t.done("crl", file).encode("latin-1"))
     by_serial = {cert["serial"]: cert for cert in certs}
     wanted = {serial: (min(at, now), reason_of(by_serial[serial])) for serial, (at, _) in theirs.items() if not is_late(by_serial[serial])}
-    t.true(len(wanted) > LINES // 8, f"{len(wanted)} entries are few: {pem[-200:]!r}")
-    t.same(differences(ours, wanted), {}, "its entries are those of openssl ca -gencrl, but for those that had ended")
+    t.true(len(wanted) > LINES // 8, f"only {len(wanted)} entries; openssl printed {pem[-200:]!r}")
+    t.same(differences(ours, wanted), {}, "entries that differ from those of openssl ca -gencrl, without late revocations")
 
 
 def its_ocsp_is_that_of_openssl(t, file, it, certs, now):
@@ -189,19 +189,19 @@ def its_ocsp_is_that_of_openssl(t, file, it, certs, now):
         theirs |= answers(t, (t.room / "theirs.der").read_bytes())
         ours |= answers(t, body_of(t, desk.ask("POST", "/ocsp", request)))
     desk.end()
-    t.same(len(ours), len(certs), "each serial number that was asked is answered")
+    t.same(len(ours), len(certs), "how many serial numbers are answered")
     by_serial = {cert["serial"]: cert for cert in certs}
     compared = {serial: said for serial, said in theirs.items() if not is_late(by_serial[serial])}
     wanted = {serial: (status, None if at is None else min(at, now), reason_of(by_serial[serial]) if status == "revoked" else 0)
               for serial, (status, at, _) in compared.items()}
-    t.same(differences({serial: ours[serial] for serial in compared}, wanted), {}, "answers are those of openssl ocsp -index")
-    # It answers none of the lines E; the register answers good, as for each that was not revoked.
+    t.same(differences({serial: ours[serial] for serial in compared}, wanted), {}, "answers that differ from those of openssl ocsp -index")
+    # openssl does not answer for lines of state E. The register answers good, as for each certificate that is not revoked.
     unanswered = {cert["serial"] for cert in certs} - theirs.keys()
-    t.same((len(unanswered) > 0, {ours[serial][0] for serial in unanswered}), (True, {"good"}), "what openssl leaves unanswered")
+    t.same((len(unanswered) > 0, {ours[serial][0] for serial in unanswered}), (True, {"good"}), "what openssl does not answer")
 
 
 def issue(t, *certs):
-    """Has `openssl ca` issue a certificate for each name, of so many days; their serial numbers are 1000, 1001, ..."""
+    """Issues a certificate by `openssl ca` for each pair of a name and a number of days. The serial numbers are 1000, 1001, ..."""
     for name, days in certs:
         key = authority.KEYS["ecdsa-sha256"]
         t.tool("openssl", "req", "-newkey", *key, "-nodes", "-keyout", "x.key", "-out", "x.csr", "-subj", f"/CN={name} & sons")
@@ -213,22 +213,22 @@ def revoke(t, serial, reason):
 
 
 def is_refused_by(t, crl, serial):
-    """Whether openssl refuses a certificate as revoked by this CRL."""
+    """Whether `openssl verify` rejects a certificate because this CRL lists it."""
     told = t.tried("openssl", "verify", "-crl_check", "-CAfile", "ca.pem", "-CRLfile", crl, f"newcerts/{serial}.pem")
-    t.same(told.returncode == 0, b"certificate revoked" not in told.stderr, f"openssl verify of {serial} told {told.stderr!r}")
+    t.same(told.returncode == 0, b"certificate revoked" not in told.stderr, f"openssl verify of {serial} printed {told.stderr!r}")
     return told.returncode != 0
 
 
 @test(seconds=4)
 def a_revocation_that_the_register_can_t_take(t):
-    """A certificate of 731 days whose key was compromised: openssl's CRL lists it, and the register can't. Nothing is written until the operator lists it."""
+    """openssl's CRL lists a certificate of 731 days, which no register takes. Nothing is written until the operator lists it for --leave-out."""
     it = make_ca(t)
     issue(t, ("a", 90), ("b", 730), ("c", 30))
     revoke(t, "1000", "superseded")
     revoke(t, "1001", "keyCompromise")
     revoke(t, "1002", "cessationOfOperation")
     t.tool("openssl", "ca", "-config", "ca.cnf", "-gencrl", "-out", "theirs.pem")
-    # The index that comes to be moved has lost a revocation that was published.
+    # The index that is moved lacks a revocation that openssl's CRL has.
     kept = [line for line in (t.room / "index.txt").read_text().splitlines(keepends=True) if "\t1002\t" not in line]
     (t.room / "kept.txt").write_text("".join(kept))
     words = ("kept.txt", "--certs", "newcerts", "--crlnumber", "crlnumber")
@@ -240,31 +240,31 @@ def a_revocation_that_the_register_can_t_take(t):
                       "from-openssl-index: 1 revocations would be lost; nothing was written. To lose them, list them in a file of --leave-out:", "1001"])
     words = (*words, "--old-crl", "theirs.pem")
     written, told = moved(t, *words, status=1)
-    t.same((written, told[-2:]), ("", ["1001", "1002"]), "and what the old CRL alone has")
+    t.same((written, told[-2:]), ("", ["1001", "1002"]), "the revocations that would be lost, also the one that only the old CRL has")
     lacks = [line.partition(": ")[2] for line in told if "old CRL" in line]
     said = "on the old CRL, and missing from the first new one"
     t.same(lacks, [said, f"{said}; the index has no revocation of it"], "each entry that the first new CRL would lack")
     t.same([line.split(",")[0] for line in told if "old CRL" in line], ["serial number 1001", "serial number 1002"])
     (t.room / "lost").write_text("1001 stays with openssl until it has ended\n")
     written, told = moved(t, *words, "--leave-out", "lost", status=1)
-    t.same((written, told[-1]), ("", "1002"), "one of two is listed")
+    t.same((written, told[-1]), ("", "1002"), "the revocation that --leave-out does not list")
     (t.room / "lost").write_text("# Both.\n\n1001 stays with openssl until it has ended\n1002\n1000\n")
     t.tool("openssl", "crl", "-in", "theirs.pem", "-outform", "DER", "-out", "theirs.crl")
     script, told = moved(t, *words[:-1], "theirs.crl", "--leave-out", "lost")
     t.same(told[-3:-1], ["serial number 1000: entered, although --leave-out lists it", "2 revocations read, 1 entered, 1 left out"])
-    t.same([line for line in told if "crlnumber" in line], [], "the first new CRL has the next number")
+    t.same([line for line in told if "crlnumber" in line], [], "messages that ask for --crlnumber, which is given")
     it.signer()
     it.register()
     t.same([reply for reply in t.done("script", "ca.db", *it.signing(), given=script).splitlines() if reply[0] in "EF"], [], "refusals")
     t.same(t.done("script", "ca.db", "--clock", *it.signing(), given="crl\n"), "crl 43 entries 1\n")
     (t.room / "ours.pem").write_bytes(t.tool("openssl", "crl", given=t.done("crl", "ca.db").encode("latin-1")))
-    t.same([is_refused_by(t, "theirs.pem", serial) for serial in ("1000", "1001", "1002")], [True, True, True], "by openssl's latest CRL")
-    t.same([is_refused_by(t, "ours.pem", serial) for serial in ("1000", "1001", "1002")], [True, False, False], "by the register's first one")
+    t.same([is_refused_by(t, "theirs.pem", serial) for serial in ("1000", "1001", "1002")], [True, True, True], "revoked by openssl's latest CRL")
+    t.same([is_refused_by(t, "ours.pem", serial) for serial in ("1000", "1001", "1002")], [True, False, False], "revoked by the register's first CRL")
 
 
 @test(seconds=3)
 def subscribers_have_the_names_of_register_pem(t):
-    """So the next certificate of one of them is registered for the same subscriber. Two subjects with one common name are two."""
+    """register-pem.sh makes the same names, so it finds a new certificate's subscriber. Two subjects with one common name are two subscribers."""
     it = make_ca(t)
     holders = ["Müller", "Möller", "a & sons", "plain.example"]
     for at, name in enumerate(holders):
@@ -306,13 +306,13 @@ def a_number_that_the_first_crl_would_take_again(t):
 
 @test(seconds=4)
 def a_small_ca_that_openssl_made(t):
-    """With notBefore from its certificates. Each thing that can't be carried over is reported in a line."""
+    """With --certs, from-openssl-index.py reads notBefore from the certificates. It reports each line of the index that it leaves out in one line."""
     it = make_ca(t)
     issue(t, ("a", 90), ("b", 365), ("c", 30), ("d", 3650))
     revoke(t, "1001", "superseded")
     lines = (t.room / "index.txt").read_text()
     first = lines.splitlines()[0]
-    # Lines that openssl never writes: a serial number that comes twice, and one that is too large.
+    # Lines that openssl never writes: one with a serial number of another line, and one with too large a serial number.
     (t.room / "odd.txt").write_text(lines + first + "\n" + first.replace("\t1000\t", "\t" + "F" * 40 + "\t") + "\n")
     script, told = moved(t, "odd.txt", "--certs", "newcerts")
     wanted = ["line 4, serial number 1003", "line 5, serial number 1000", "line 6, serial number " + "F" * 40]
@@ -331,7 +331,7 @@ def a_small_ca_that_openssl_made(t):
         t.has(t.tried("openssl", "ca", "-config", "ca.cnf", "-status", serial).stderr.decode(), wanted)
 
 
-# A line because of which nothing is written, and the message.
+# A second line of an index, because of which nothing is written, and a part of the message.
 UNREADABLE = {
     "too few fields": ("V\t26\n", "bad.txt:2: no line of an index"),
     "another state": ("X\t260101000000Z\t\t06\tunknown\t/CN=a\n", "bad.txt:2: no line of an index"),
@@ -367,17 +367,17 @@ def holds_that_are_said_to_be_good(t):
 
 @test
 def a_certificate_whose_assumed_start_lies_after_today(t):
-    """It was made for more days than --days says: it is reported and left out, and the others are carried over."""
+    """A certificate was made for more days than --days says. from-openssl-index.py reports it, leaves it out, and moves the others."""
     lines = ["V\t260301000000Z\t\t05\tunknown\t/CN=a\n", "V\t261130000000Z\t\t06\tunknown\t/CN=b\n",
              "R\t261130000001Z\t251101000000Z,superseded\t07\tunknown\t/CN=c\n", "V\t260301000001Z\t\t08\tunknown\t/CN=d\n"]
     (t.room / "index.txt").write_text("".join(lines))
     written, told = moved(t, "index.txt", "--days", "90", "--now", "2025-12-01T00:00:00Z", status=1)
-    t.same((written, told[-1]), ("", "7"), "one of them is revoked")
+    t.same((written, told[-1]), ("", "7"), "the serial number of the revocation that would be lost")
     (t.room / "lost").write_text("07\n")
     script, told = moved(t, "index.txt", "--days", "90", "--now", "2025-12-01T00:00:00Z", "--leave-out", "lost")
     unknown = "left out: its notBefore is not known, 90 days before its end are"
     said = "which is still to come: say --certs, or the days that it was made for"
-    # The first begins today, and the last a second later.
+    # By --days 90, the first certificate begins exactly now, and the last one a second later.
     t.same(told, [f"line 2, serial number 06: {unknown} 2026-09-01T00:00:00Z, {said}",
                   f"line 3, serial number 07: {unknown} 2026-09-01T00:00:01Z, {said}; its revocation would be lost",
                   f"line 4, serial number 08: {unknown} 2025-12-01T00:00:01Z, {said}",
@@ -388,6 +388,6 @@ def a_certificate_whose_assumed_start_lies_after_today(t):
     t.done("script", "ca.db", given=script)
     asks = "".join(f"2025-12-01T00:00:00Z status 0{serial}\n" for serial in (5, 6, 7, 8))
     t.same(t.done("script", "ca.db", given=asks), "good\nunknown\nunknown\nunknown\n")
-    # Said as it was made for, each is carried over.
+    # With the right number of days, each certificate is moved.
     script, told = moved(t, "index.txt", "--days", "365", "--now", "2025-12-01T00:00:00Z")
     t.same(told, ["1 revocations read, 1 entered, 0 left out", "4 lines of the index, 4 certificates, 1 revocations, 14 lines of the script"])

@@ -7,7 +7,7 @@ from lib.program import parted, read_all
 from lib.trial import each, test
 
 DAY, LATER = "2026-01-01T00:00:00Z", "2026-01-02T00:00:00Z"
-# Serial number 05 is good, 07 revoked, 08 ended; CRL 3 is there.
+# Serial number 05 is good, 07 is revoked, 08 has expired. Three CRLs were issued.
 ENTERED = "".join(
     f"{it}\n"
     for it in (
@@ -82,7 +82,7 @@ def each_request_is_framed(t):
             t.same(body, b'{"error":"%d"}' % status, f"{sent[:100]!r}")
 
 
-# The target of a GET, the status, the kind, and the body of the answer; None where it is another matter.
+# The target of a GET, and the status, the media type and the body of its response. With None, the body is the latest CRL.
 JSON, CRL, OCSP = "application/json", "application/pkix-crl", "application/ocsp-response"
 GETS = [
     ("/status/05", 200, JSON, b'{"status":"good"}'),
@@ -137,11 +137,11 @@ def each_target_has_its_answer(t):
         t.same((got, [it for it in lines if it.startswith("Content-Type")]), (status, [f"Content-Type: {kind}"]), target)
         if wanted is None:
             latest = latest or body
-            t.true(body == latest and body[:1] == b"\x30", f"{target} is another CRL")
+            t.true(body == latest and body[:1] == b"\x30", f"{target} gives another CRL, or none")
         else:
             t.same(body, wanted, target)
     desk.end()
-    t.true(t.desk("crl", "ca.db").out == latest, "the CRL is that of `desk crl`")
+    t.true(t.desk("crl", "ca.db").out == latest, "`desk crl` gives another CRL than GET /crl")
 
 
 METHODS = [
@@ -190,9 +190,9 @@ def an_ocsp_request_by_get_and_by_post_has_one_answer(t):
                             + "0414a9993e364706816aba3e25717850c26c9cd0d89d" + "020107")
     by_post = parted(desk.ask("POST", "/ocsp", request))
     by_get = parted(desk.ask("GET", "/ocsp/" + base64.b64encode(request).decode().replace("+", "%2B").replace("/", "%2F")))
-    t.same(by_post[2], by_get[2], "the two answers")
-    # revoked [1]: the moment and reason 4 (RFC 6960 4.2.1)
-    t.true(bytes.fromhex("a116180f32303236303130323030303030305aa0030a0104") in by_post[2], f"it does not tell revoked: {by_post[2].hex()}")
+    t.same(by_post[2], by_get[2], "the answers by POST and by GET")
+    # The status revoked [1], with the moment and reason 4 (RFC 6960 4.2.1).
+    t.true(bytes.fromhex("a116180f32303236303130323030303030305aa0030a0104") in by_post[2], f"it is not revoked with reason 4: {by_post[2].hex()}")
 
 
 @test
@@ -203,7 +203,7 @@ def a_moment_before_the_last_is_a_conflict(t):
     for method, target, body in (("GET", "/counts", None), ("GET", "/status/05", None), ("POST", "/requests", b'{"serial":"05","ground":"asked"}')):
         status, _, told = parted(desk.ask(method, target, body))
         t.same((status, told), (409, wanted), target)
-    t.same(parted(desk.ask("GET", "/crl"))[0], 200, "a CRL that was issued is there at any moment")
+    t.same(parted(desk.ask("GET", "/crl"))[0], 200, "GET /crl, although the clock is behind the last command")
 
 
 @test(seconds=3)
@@ -214,8 +214,8 @@ def no_prefix_of_a_request_is_answered(t):
         with desk.connect() as peer:
             peer.sendall(whole[:end])
             peer.shutdown(1)
-            t.same(peer.recv(100), b"", f"{end} bytes of it, and the end")
-    t.same(parted(desk.send(whole))[2], b'{"due":"2026-01-03T00:00:00Z","request":2}', "the whole: none of those before it ran")
+            t.same(peer.recv(100), b"", f"the response to the first {end} bytes of a request")
+    t.same(parted(desk.send(whole))[2], b'{"due":"2026-01-03T00:00:00Z","request":2}', "the whole request, number 2 as no prefix was entered")
 
 
 @each({"one byte": 1, "seven bytes": 7, "4,095 bytes": 4_095}, seconds=3)

@@ -1,5 +1,5 @@
-"""A CA whose certificate has a key identifier of its own, and not the SHA-1 of its key (RFC 5280 4.2.1.2): its CRLs must have that one, or relying parties
-find no CRL. Checked with openssl, Java, GnuTLS and NSS; the output of examples/issuer-words.sh; and its column in the file."""
+"""A CA whose certificate has another key identifier than the SHA-1 of its key (RFC 5280 4.2.1.2). Its CRLs must have the same one, or relying parties
+find no CRL. openssl, Java and GnuTLS check this. Other tests are of examples/issuer-words.sh, and of key identifiers in the column office.name."""
 
 import hashlib
 import random
@@ -47,7 +47,7 @@ class Identified(Authority):
             identifier = identifier(bytes.fromhex(self.words()[3]))
         self.identifier = identifier
         with_key_identifier(self, identifier)
-        # Spelled out: openssl 3.0 copies no key identifier of one or two bytes.
+        # The extension is given in DER, since openssl 3.0 copies no key identifier of one or two bytes.
         named = tlv(0x30, tlv(0x80, bytes.fromhex(identifier))).hex(":")
         (t.room / "leaf.cnf").write_text(f"authorityKeyIdentifier = DER:{named}\nsubjectKeyIdentifier = hash\n")
         for serial in ("05", "06"):
@@ -56,7 +56,7 @@ class Identified(Authority):
                    "-out", f"{serial}.pem")  # fmt: skip
 
     def runs(self, *lines):
-        """Lines of a script at this moment, with its signer; each is accepted."""
+        """Runs lines of a script at the current moment with the CA's signer, checks that none is refused, and returns the replies."""
         at = moment_of(authority.now())
         with self.signer():
             replies = self.t.done("script", "ca.db", *self.signing(), given="".join(f"{at} {it}\n" for it in lines)).splitlines()
@@ -69,7 +69,7 @@ class Identified(Authority):
         self.runs("subscriber acme", "order 1 90", "order 1 90", f"register 1 05 {begins} {ends}", f"register 2 06 {begins} {ends}", "request 05 key-compromise", "revoke 1")
 
     def crl(self, *words):
-        """The latest CRL, as ca.crl in PEM and ca.crl.der."""
+        """A CRL in DER, by default the latest one. Also writes it to ca.crl (PEM) and ca.crl.der."""
         crl = self.t.done("crl", "ca.db", *words).encode("latin-1")
         (self.t.room / "ca.crl.der").write_bytes(crl)
         self.t.tool("openssl", "crl", "-inform", "DER", "-in", "ca.crl.der", "-out", "ca.crl")
@@ -85,7 +85,7 @@ class Identified(Authority):
         return self.t.tool("java", "Pkix.java", self.pem, f"{serial}.pem", "ca.crl.der").decode().strip()
 
     def by_gnutls(self, serial):
-        """certtool's result for a certificate with the CRL."""
+        """certtool's exit status for a certificate with the CRL, and whether it reports it as revoked and as trusted."""
         ran = self.t.tried("certtool", "--verify", "--load-ca-certificate", self.pem, "--load-crl", "ca.crl", "--infile", f"{serial}.pem")
         told = (ran.stdout + ran.stderr).decode().partition("\nChain verification output: ")[2]
         return ran.returncode, "certificate chain is revoked." in told, "The certificate is trusted." in told
@@ -97,14 +97,14 @@ def need_java(t):
     (t.room / "Pkix.java").write_text(JAVA)
 
 
-# Of 20 bytes as a SHA-1 is, and another: RFC 7093 2, by which new versions of Go's crypto/x509 make them.
+# The last one is as long as a SHA-1. New versions of Go's crypto/x509 make such key identifiers, by RFC 7093 2.
 OWN_ONES = {"of 16 bytes": OWN, "of one byte": "00", "of 32 bytes": "5a" * 32, "of 64 bytes": "a5" * 64, "of 20 bytes of a SHA-256": lambda key: hashlib.sha256(key).hexdigest()[:40]}
 
 
 @each(OWN_ONES, seconds=4)
 def openssl_takes_the_crls_of_a_ca_with_its_own_key_identifier(t, identifier):
     it = Identified(t, identifier)
-    t.same(it.words()[4:], ["--key-id", it.identifier], "words of the certificate")
+    t.same(it.words()[4:], ["--key-id", it.identifier], "the last words that issuer-words.sh prints")
     it.register()
     it.registers()
     t.same(it.runs("crl"), ["crl 1 entries 1"])
@@ -120,19 +120,19 @@ def a_register_that_has_the_wrong_one_gets_the_right_one(t):
     it.registers()
     it.runs("crl")
     first = it.crl()
-    t.same((it.by_openssl("05"), it.by_openssl("06")), (NO_CRL, NO_CRL), "by the SHA-1 of its key")
+    t.same((it.by_openssl("05"), it.by_openssl("06")), (NO_CRL, NO_CRL), "results with a CRL that has the SHA-1 of the key")
     t.same(t.done("key-id", "ca.db", OWN), "key-id set\n")
-    t.same(it.crl(), first, "the CRL that was issued")
+    t.same(it.crl(), first, "CRL 1, once the key identifier is set")
     t.same(it.runs("counts", "crl"), ["good 1 revoked 1 expired 0", "crl 2 entries 1"])
     it.verifies(it.crl())
-    t.same((it.by_openssl("05"), it.by_openssl("06")), (REVOKED, "OK"), "by its own")
-    t.same(it.crl("--number", "1"), first, "the CRL that was issued, later")
+    t.same((it.by_openssl("05"), it.by_openssl("06")), (REVOKED, "OK"), "results with a CRL that has the certificate's key identifier")
+    t.same(it.crl("--number", "1"), first, "CRL 1, after CRL 2")
     t.has(t.done("audit", "ca.db"), "sound, ")
 
 
 @test(seconds=4)
 def a_signer_of_this_issuer_alone_signs_them(t):
-    """`examples/signer.py --only-ours` takes the CA certificate's own and the SHA-1 of its key, and no other."""
+    """`examples/signer.py --only-ours` signs CRLs with the key identifier of the CA certificate or with the SHA-1 of its key, and no others."""
     authority.need_cryptography(t)
     it = Identified(t)
     t.same(t.done("init", "ca.db", *it.words()[:4]), "created\n")
@@ -147,7 +147,7 @@ def a_signer_of_this_issuer_alone_signs_them(t):
 
 @test(seconds=4)
 def ocsp_goes_by_the_sha_1_of_the_key(t):
-    """CertIDs and the responderID are the same with a key identifier of its own and without one (RFC 6960 4.1.1, 4.2.1)."""
+    """CertIDs and the responderID have the SHA-1 of the CA's key, also if its certificate has another key identifier (RFC 6960 4.1.1, 4.2.1)."""
     it = Identified(t)
     it.register()
     it.registers()
@@ -167,11 +167,11 @@ def java_takes_the_crls_of_a_ca_with_its_own_key_identifier(t):
     it.registers()
     it.runs("crl")
     it.crl()
-    t.same(it.by_java("06"), "UNDETERMINED_REVOCATION_STATUS", "by the SHA-1 of its key")
+    t.same(it.by_java("06"), "UNDETERMINED_REVOCATION_STATUS", "result with a CRL that has the SHA-1 of the key")
     t.same(t.done("key-id", "ca.db", OWN), "key-id set\n")
     it.runs("crl")
     it.crl()
-    t.same((it.by_java("05"), it.by_java("06")), ("REVOKED", "good"), "by its own")
+    t.same((it.by_java("05"), it.by_java("06")), ("REVOKED", "good"), "results with a CRL that has the certificate's key identifier")
 
 
 @test(seconds=5)
@@ -203,7 +203,7 @@ READ = {
 
 @each(READ, seconds=2)
 def issuer_words_prints_a_key_identifier_that_is_not_the_sha_1_of_the_key(t, said, told):
-    """So a register of the usual CA is made by `--name` and `--key`, and is the one that it was."""
+    """For a certificate with the SHA-1 of its key, or with none, it prints `--name` and `--key` alone, and the register has no key identifier."""
     it = Authority(t)
     name_and_key = it.words()
     t.same((name_and_key[0::2], len(name_and_key)), (["--name", "--key"], 4), "words of a certificate that openssl makes")
@@ -212,23 +212,23 @@ def issuer_words_prints_a_key_identifier_that_is_not_the_sha_1_of_the_key(t, sai
         told = (said,)
     with_key_identifier(it, said)
     wanted = [*name_and_key, *(("--key-id", *told) if told else ())]
-    t.same(it.words(), wanted, "of PEM")
+    t.same(it.words(), wanted, "words for a certificate in PEM")
     t.tool("openssl", "x509", "-in", it.pem, "-outform", "DER", "-out", "ca.der")
-    t.same(t.tool("sh", EXAMPLES / "issuer-words.sh", "ca.der").decode().split(), wanted, "of DER")
+    t.same(t.tool("sh", EXAMPLES / "issuer-words.sh", "ca.der").decode().split(), wanted, "words for a certificate in DER")
     it.register()
     t.done("init", "bare.db", *name_and_key)
-    t.same(t.sql("ca.db", "SELECT name FROM office") == t.sql("bare.db", "SELECT name FROM office"), not told, "what stands in the file is the Name alone")
+    t.same(t.sql("ca.db", "SELECT name FROM office") == t.sql("bare.db", "SELECT name FROM office"), not told, "whether it is the Name alone")
     line, got = f"{moment_of(authority.now())} crl\n", []
     for file in ("ca.db", "bare.db"):
         t.same(t.done("script", file, given=line), "crl 1 entries 0\n")
         got.append(t.desk("crl", file).out)
-    t.same(got[0] == got[1], not told, "the CRL is the same")
+    t.same(got[0] == got[1], not told, "whether the CRL is the same as without --key-id")
     t.has(got[0], tlv(0x30, tlv(0x80, bytes.fromhex(told[0]) if told else hashlib.sha1(bytes.fromhex(name_and_key[3])).digest())), "its authorityKeyIdentifier")
 
 
 @test(seconds=2)
 def issuer_words_of_a_key_identifier_that_no_register_has(t):
-    """Of 65 bytes and more: `init` says so, and no file is made."""
+    """It has 65 bytes. `init` refuses it, and creates no file."""
     it = Authority(t)
     with_key_identifier(it, "a5" * 65)
     t.same(it.words()[4:], ["--key-id", "a5" * 65])
@@ -236,7 +236,7 @@ def issuer_words_of_a_key_identifier_that_no_register_has(t):
     t.same((ran.status, ran.out, ran.err, (t.room / "ca.db").exists()), (1, b"", b"bad-issuer\n", False))
 
 
-# Where they stand in the file
+# Key identifiers in the column office.name
 
 
 def identifier_in(crl):
@@ -248,7 +248,7 @@ def identifier_in(crl):
 
 @test(seconds=6)
 def each_crl_keeps_the_one_that_its_number_has(t):
-    """Over many that are set, some without a CRL between them, and CRLs without one set between them."""
+    """A CRL keeps the key identifier that was set last before it. Between two CRLs, the test sets none, one or two."""
     draws = random.Random(40)
     t.register()
     key = hashlib.sha1(bytes.fromhex(program.KEY)).digest()
@@ -261,8 +261,8 @@ def each_crl_keeps_the_one_that_its_number_has(t):
             t.same(t.done("key-id", "ca.db", current.hex()), "key-id set\n")
         t.same(t.done("script", "ca.db", given=f"{program.moment_of(1_800_000_000 + number)} crl\n"), f"crl {number} entries 0\n")
         kept.append((t.desk("crl", "ca.db").out, current))
-    t.same([identifier_in(crl) for crl, _ in kept], [current for _, current in kept], "what each has")
-    t.same([t.desk("crl", "ca.db", "--number", number).out for number in range(1, 41)], [crl for crl, _ in kept], "and each stays byte for byte")
+    t.same([identifier_in(crl) for crl, _ in kept], [current for _, current in kept], "the key identifier of each CRL")
+    t.same([t.desk("crl", "ca.db", "--number", number).out for number in range(1, 41)], [crl for crl, _ in kept], "each CRL after all later ones")
     t.same(t.done("audit", "ca.db"), "sound, 0 certificates, 0 revoked, 40 CRLs\n")
     (name,) = t.sql("ca.db", "SELECT name FROM office")[0]
     wanted = bytes.fromhex(program.NAME) + b"".join(tlv(0x80, number.to_bytes(8, "big"), kept[number - 1][1]) for number in reversed(firsts))
@@ -274,23 +274,23 @@ NAMES = {f"a Name of {size} bytes": size for size in (3, 15, 129, 131, 258, 260,
 
 
 def name_of(size):
-    """A value with the tag of a Name, of so many bytes in all."""
+    """A value with the tag of a Name, of this many bytes in all."""
     return next(made for made in (tlv(0x30, bytes(it % 256 for it in range(contents))) for contents in range(size)) if len(made) == size)
 
 
 @each(NAMES, seconds=2)
 def the_documents_statement_takes_the_column_apart(t, size):
-    """The key identifiers behind the Name, by the statement of docs/MODEL.md."""
+    """The SQL statement of docs/MODEL.md finds the key identifiers, which follow the Name in office.name."""
     name = name_of(size).hex().upper()
     apart = "\n".join(block("DER (`crates/reg_der/specs`)", "WITH", "MODEL"))
     t.same(t.done("init", "ca.db", "--name", name, "--key", program.KEY), "created\n")
-    t.same(t.sql("ca.db", apart), [], "without any")
+    t.same(t.sql("ca.db", apart), [], "the rows for a register without key identifiers")
     wanted = []
     for number, identifier in ((1, "0A"), (2, "5A" * 64), (3, "00FF")):
         t.done("key-id", "ca.db", identifier)
         t.done("script", "ca.db", given="2026-01-01T00:00:00Z crl\n")
         wanted.insert(0, (f"{number:016X}", identifier))
-        t.same(t.sql("ca.db", apart), wanted, f"with {number}")
+        t.same(t.sql("ca.db", apart), wanted, f"the rows after {number} key identifiers")
 
 
 @test
@@ -299,14 +299,14 @@ def the_documents_worked_example(t):
     lines = block("The tables of a file", "300D", "RULES")
     parts = [line.split("   ")[0].replace(" ", "") for line in lines]
     (modelled,) = block("DER (`crates/reg_der/specs`)", "300D", "MODEL")
-    t.same(modelled.split(), parts, "both have the same octets")
+    t.same(modelled.split(), parts, "the octets in docs/MODEL.md and in docs/RULES.md")
     name = lambda: t.sql("ca.db", "SELECT hex(name) FROM office")[0][0]
     t.register(options=("--key-id", "0A"))
-    t.same(name(), parts[0] + parts[2], "made with 0A")
+    t.same(name(), parts[0] + parts[2], "office.name of a register created with 0A")
     t.done("script", "ca.db", given="2026-01-01T00:00:00Z crl\n")
     t.done("key-id", "ca.db", "0B0C")
-    t.same(name(), "".join(parts), "then given 0B0C")
+    t.same(name(), "".join(parts), "office.name after `key-id 0B0C`")
     t.done("script", "ca.db", given="2026-01-01T00:00:00Z crl\n2026-01-01T00:00:00Z crl\n")
-    t.same([identifier_in(t.desk("crl", "ca.db", "--number", number).out).hex() for number in (1, 2, 3)], ["0a", "0b0c", "0b0c"], "what each CRL has")
+    t.same([identifier_in(t.desk("crl", "ca.db", "--number", number).out).hex() for number in (1, 2, 3)], ["0a", "0b0c", "0b0c"], "key identifiers")
     t.register("bare.db")
-    t.same(t.sql("bare.db", "SELECT hex(name) FROM office"), [(parts[0],)], "with none")
+    t.same(t.sql("bare.db", "SELECT hex(name) FROM office"), [(parts[0],)], "office.name of a register without key identifiers")

@@ -24,9 +24,9 @@ def of_two_at_once_one_makes_the_register(t):
         both = [begun(t, "init", file, *WORDS) for _ in range(2)]
         ended = [(*it.communicate(timeout=program.LONGEST), it.returncode) for it in both]
         made = [it for it in ended if it == (b"created\n", b"", 0)]
-        t.same(len(made), 1, f"round {number}: how many made it, of {ended}")
+        t.same(len(made), 1, f"round {number}: how many created the register, of {ended}")
         out, told, status = next(it for it in ended if it not in made)
-        # The other one came before the register was complete, or after it.
+        # The other process found the register incomplete (F2), or complete.
         t.true((out, status) == (b"", 1) and told in (b"F2 store\n", b"not-empty\n"), f"round {number}: the other said {told!r}, {out!r}, {status}")
         t.same(t.done("script", file, given="2026-01-01T00:00:00Z counts\n"), "good 0 revoked 0 expired 0\n", f"round {number}")
 
@@ -49,7 +49,7 @@ def a_read_only_file_system(t):
 
 @test
 def a_log_that_may_be_there_is_left_alone(t):
-    """Whether a log lies beside the path can't be seen."""
+    """`desk init` can't find out whether a log lies beside the path, so it creates nothing."""
     ran = t.desk("init", "ca.db", *WORDS, faults=faults.environment(fail="stat:1", only="ca.db-wal"))
     t.same((ran.status, ran.out, ran.err), (1, b"", b"F2 store\n"))
     t.same(list(t.room.iterdir()), [], "what is left")
@@ -57,7 +57,7 @@ def a_log_that_may_be_there_is_left_alone(t):
 
 @test
 def a_register_that_another_program_has_open_is_not_removed(t):
-    """The program opened it before `desk init` finds that nobody reads its reply."""
+    """Another desk opens the register before `desk init` finds that nobody reads its reply."""
     reads, writes = os.pipe()
     os.set_blocking(writes, False)
     with contextlib.suppress(BlockingIOError):
@@ -67,7 +67,7 @@ def a_register_that_another_program_has_open_is_not_removed(t):
     it = subprocess.Popen([program.program(), "init", "ca.db", *WORDS], cwd=t.room, stdin=subprocess.DEVNULL, stdout=writes, stderr=subprocess.PIPE)
     t.callback(it.kill)
     os.close(writes)
-    authority.until(lambda: t.desk("audit", "ca.db").status == 0, "that the register is complete")
+    authority.until(lambda: t.desk("audit", "ca.db").status == 0, "the register to be complete")
     desk = t.open()
     os.close(reads)
     t.same((it.communicate(timeout=program.LONGEST)[1], it.returncode), (b"F5 write\n", 1), "the end of `desk init`")
@@ -93,7 +93,7 @@ def a_register_that_can_not_be_synced_is_not_left(t, how):
         else:
             t.same((ran.out, ran.err), (b"created\n", b""), where)
             faults.audited(t, "ca.db", (0, 0, 0), where)
-    t.true(told, "no sync was told")
+    t.true(told, "no failed sync was reported")
 
 
 @test
@@ -106,7 +106,7 @@ def a_log_that_is_a_link_to_nowhere_is_left_alone(t):
 
 @test
 def a_journal_without_its_register_is_left_alone(t):
-    """Only SQLite can play it back. No cause is reported, since nothing is damaged."""
+    """Only SQLite can play back the journal. `--why` reports no cause, since nothing is damaged."""
     journal = bytes.fromhex("d9d505f920a163d7 00000001 00000000 00000001 00000200 00001000".replace(" ", "")) + bytes(484)
     (t.room / "ca.db-journal").write_bytes(journal)
     ran = t.desk("init", "ca.db", *WORDS, "--why")
@@ -116,7 +116,7 @@ def a_journal_without_its_register_is_left_alone(t):
 
 @each({"a URI": "file:ca.db", "a name of SQLite's own": ":memory:"})
 def no_register_gets_a_name_that_sqlite_reads_otherwise(t, name):
-    """No command could open it later."""
+    """No command could open a register of this name later."""
     ran = t.desk("init", name, *WORDS)
     t.same((ran.status, ran.out, ran.err), (1, b"", b"F2 store\n"))
     t.same([it.name for it in t.room.iterdir()], [], "what is left")

@@ -34,10 +34,10 @@ def the_port_is_that_of_the_loopback_address_alone(t):
     t.register()
     t.register("served.db")
     for opened in (t.open(), t.open("served.db", "--requests", 1, command="serve")):
-        t.same(listening_at(opened.port), ["0100007F"], "addresses that are listened at (127.0.0.1)")
+        t.same(listening_at(opened.port), ["0100007F"], "the addresses at which it listens (127.0.0.1)")
         # Every address of 127.0.0.0/8 is this machine's.
         with socket.socket() as other:
-            t.true(other.connect_ex(("127.0.0.2", opened.port)) != 0, "somebody answers at 127.0.0.2")
+            t.true(other.connect_ex(("127.0.0.2", opened.port)) != 0, "it accepts connections at 127.0.0.2")
 
 
 @test
@@ -47,18 +47,18 @@ def the_ipv6_loopback_address_in_place_of_127_0_0_1(t):
     t.register()
     t.register("served.db")
     for opened in (t.open("ca.db", "--listen", "[::1]", "--log-file", "log"), t.open("served.db", "--requests", 2, "--listen=[::1]", command="serve")):
-        t.same(listening_at(opened.port), ["00000000000000000000000001000000"], "addresses that are listened at (::1)")
+        t.same(listening_at(opened.port), ["00000000000000000000000001000000"], "the addresses at which it listens (::1)")
         with socket.create_connection(("::1", opened.port), 10) as client:
             client.sendall(b"GET /counts HTTP/1.1\r\nHost: localhost\r\n\r\n")
             t.same(parted(read_all(client))[0], 200)
         with socket.socket() as other:
-            t.true(other.connect_ex(("127.0.0.1", opened.port)) != 0, "somebody answers at 127.0.0.1")
+            t.true(other.connect_ex(("127.0.0.1", opened.port)) != 0, "it accepts connections at 127.0.0.1")
     t.same((t.room / "log").read_text().split()[1].rpartition(":")[0], "[::1]", "the client in the log")
 
 
 @each({"the register": "ca.db", "a link to it": "link", "its write-ahead log": "ca.db-wal", "its journal": "ca.db-journal"})
 def a_log_in_the_place_of_a_register(t, log):
-    """Log lines would damage a file of the register, so the desk refuses it before it does anything else."""
+    """Log lines would damage a file of the register, so the desk refuses such a log before it does anything else."""
     t.register(lines=ENTERED)
     (t.room / "link").symlink_to("ca.db")
     before = (t.room / "ca.db").read_bytes()
@@ -81,7 +81,7 @@ def a_log_in_the_place_of_that_of_a_register_behind_a_link(t):
 
 @test
 def a_log_on_another_file_system_is_no_file_of_the_register(t):
-    """Although it has the number there that the register's file has on its own one."""
+    """The desk opens a log that has the register's inode number, but on another file system."""
     if os.geteuid():
         raise Skipped("file systems of their own want root")
     need("mount")
@@ -113,7 +113,7 @@ def only_its_owner_can_use_the_control_socket(t):
     t.register()
     t.open()
     mode = os.stat(t.room / "counter").st_mode
-    t.same((stat.S_ISSOCK(mode), oct(stat.S_IMODE(mode))), (True, "0o600"), "the counter")
+    t.same((stat.S_ISSOCK(mode), oct(stat.S_IMODE(mode))), (True, "0o600"), "the control socket")
     t.same(oct(stat.S_IMODE(os.stat(t.room / "ca.db").st_mode)), "0o600", "the register")
 
 
@@ -123,21 +123,21 @@ def a_live_control_socket_is_not_taken_over(t):
     t.register("other.db")
     t.open()
     ran = t.desk("open", "other.db", "--port", free_port(), "--control", "counter", "--unsigned")
-    t.same((ran.status, ran.out, ran.err), (1, b"", b"F4 read\n"), "the second desk at the same counter")
-    t.same(t.done("at", "counter", given="status 05\n"), "good\n", "the first one")
+    t.same((ran.status, ran.out, ran.err), (1, b"", b"F4 read\n"), "the second desk at the same control socket")
+    t.same(t.done("at", "counter", given="status 05\n"), "good\n", "the first desk")
 
 
 @test
 def a_stale_socket_is_taken_over_and_a_file_is_not(t):
     t.register(lines=ENTERED)
     t.open().end()
-    t.true((t.room / "counter").is_socket(), "a desk that was ended leaves its socket behind")
+    t.true((t.room / "counter").is_socket(), "a desk that was ended has removed its socket")
     opened = t.open()
     t.same(t.done("at", "counter", given="status 05\n"), "good\n")
     opened.end()
     (t.room / "file").write_text("no socket")
     ran = t.desk("open", "ca.db", "--port", free_port(), "--control", "file", "--unsigned")
-    t.same((ran.status, ran.out, ran.err), (1, b"", b"F4 read\n"), "a counter that is a file")
+    t.same((ran.status, ran.out, ran.err), (1, b"", b"F4 read\n"), "a control socket at the path of a file")
     t.same((t.room / "file").read_text(), "no socket", "the file")
 
 
@@ -164,7 +164,7 @@ def eight_desks_that_open_at_one_stale_socket(t):
 
 @test
 def the_lock_of_the_folder_of_a_control_socket(t):
-    """A desk waits while another program holds the lock, and releases it before it listens. It runs in another folder."""
+    """A desk waits while another program has the lock. It releases its own lock before it listens. Its working directory is another folder."""
     t.register()
     (t.room / "sockets").mkdir()
     folder = os.open(t.room / "sockets", os.O_RDONLY)
@@ -180,24 +180,24 @@ def the_lock_of_the_folder_of_a_control_socket(t):
     os.close(folder)
 
 
-# What ends `desk at`, and how many of its lines were run.
+# Standard streams that are closed, what `desk at` prints on standard error, and how many of its lines are run.
 CLOSED = {"<&-": (b"F4 read\n", 0), ">&-": (b"F5 write\n", 1), ">&- 2>&-": (b"", 1), "<&- >&- 2>&-": (b"", 0)}
 
 
 @each({closed: (closed, *ends) for closed, ends in CLOSED.items()})
 def no_connection_gets_the_number_of_a_closed_standard_stream(t, closed, told, lines):
-    """Else `desk at` would send the replies to the desk, or wait for a line from it."""
+    """Otherwise `desk at` would send the replies to the desk, or read lines from it."""
     t.register()
     t.open()
     words = ["bash", "-c", f'exec "$@" {closed}', "-", program(), "at", "counter"]
     ran = t.tried(*words, given="subscriber acme\nsubscriber beta\n", timeout=60, env=environment())
     t.same((ran.returncode, ran.stderr), (1, told))
-    t.same(t.control().ask("subscriber last"), f"subscriber {lines + 1}", "a line behind it")
+    t.same(t.control().ask("subscriber last"), f"subscriber {lines + 1}", "the reply to a later line")
 
 
 @test
 def no_file_of_a_register_gets_the_number_of_closed_standard_error(t):
-    """Else the log would be written into that file."""
+    """Otherwise the desk would write its log into that file."""
     t.register()
     port = free_port()
     words = ["open", "ca.db", "--port", str(port), "--control", "counter", "--unsigned", "--log"]
@@ -227,7 +227,7 @@ def moments_are_those_of_the_machines_clock(t):
     told = time.strptime(next(it for it in lines if it.startswith("Date: ")), "Date: %a, %d %b %Y %H:%M:%S GMT")
     seconds = seconds_of(time.strftime("%Y-%m-%dT%H:%M:%SZ", told))
     t.true(before <= seconds <= after, f"Date is {seconds}, which is not between {before} and {after}")
-    # To be decided within a day.
+    # A request with the ground `asked` is due within a day.
     t.true(before + 86_400 <= seconds_of(due) <= after + 86_400, f"the request is due at {due}")
 
 
@@ -271,7 +271,7 @@ JOBS_OF_AT = {
 
 @each(JOBS_OF_AT)
 def a_reply_is_printed_before_the_next_one_comes(t, words, given, line, reply):
-    """Standard input stays open."""
+    """The job prints the first reply although its standard input stays open and no second reply has come."""
     (t.room / "rows").write_text(given)
     with socket.socket(socket.AF_UNIX) as server:
         server.bind(str(t.room / "counter"))
@@ -286,7 +286,7 @@ def a_reply_is_printed_before_the_next_one_comes(t, words, given, line, reply):
             peer.settimeout(20)
             t.same(lines.readline().decode(), f"{line}\n", "the first line that it sends")
             peer.sendall(f"{reply}\n".encode())
-            t.true(lines.readline(), "it sends the second line")
+            t.true(lines.readline(), "it does not send a second line")
             t.true(select.select([it.stdout], [], [], 20)[0], "it prints nothing")
             t.same(it.stdout.readline().decode(), f"{reply}\n", "what it prints")
         it.stdin.close()
@@ -309,12 +309,12 @@ def many_lines_in_one_write_are_all_answered_in_order(t):
                 sent += control.peer.send(text[sent:]) if sent < len(text) else 0
             with contextlib.suppress(BlockingIOError):
                 got = control.peer.recv(65_536)
-                t.true(got, f"the counter ended behind {replies.count(10)} of {len(lines)} replies")
+                t.true(got, f"the control connection ended after {replies.count(10)} of {len(lines)} replies")
                 replies, heard = replies + got, time.monotonic()
-            t.true(time.monotonic() - heard < 60, f"no reply came for 60 s, behind {replies.count(10)} of {len(lines)}")
+            t.true(time.monotonic() - heard < 60, f"no reply came for 60 s, after {replies.count(10)} of {len(lines)}")
             time.sleep(0.0002)
     wanted = b"".join(b"good\n" if serial == 5 else b"unknown\n" for serial in range(1, 20_001))
-    t.true(replies == wanted, "a reply is another, or in another place")
+    t.true(replies == wanted, "a reply is wrong, or in the wrong place")
 
 
 @test
@@ -327,7 +327,7 @@ def a_long_line_is_answered_and_a_longer_one_ends_the_connection(t):
         t.same(control.ask("counts"), "good 0 revoked 0 expired 0")
     with t.control() as control:
         control.peer.sendall(b"x" * 9_000)
-        t.same(control.file.read(), b"", "what a counter hears that sent 9,000 bytes without an end")
+        t.same(control.file.read(), b"", "what a client receives that sent 9,000 bytes without a line end")
 
 
 @test
@@ -388,7 +388,7 @@ def a_strict_script_ends_with_status_3_at_the_first_refusal(t):
     t.register(lines=ENTERED)
     ran = t.desk("script", "ca.db", "--strict", given=f"{DAY} counts\n{DAY} revoke 1\n{DAY} order 1 1\n")
     t.same((ran.status, ran.out, ran.err), (3, b"good 1 revoked 0 expired 0\nE17 no-request\n", b"refused\n"))
-    t.same(t.done("script", "ca.db", given=f"{DAY} order 1 1\n"), "order 2\n", "the line behind it was not run")
+    t.same(t.done("script", "ca.db", given=f"{DAY} order 1 1\n"), "order 2\n", "the next order: the line after the refusal was not run")
 
 
 @test
@@ -403,7 +403,7 @@ def an_audit_names_the_row_that_is_broken(t):
 
 
 def large_register(t, count):
-    """A register whose latest CRL lists so many serial numbers."""
+    """A register whose latest CRL lists this many serial numbers."""
     lines = [f"{DAY} subscriber acme\n"]
     for at in range(1, count + 1):
         lines.append(f"{DAY} order 1 398\n{DAY} register {at} {at:x} {DAY} 2026-12-31T00:00:00Z\n{DAY} request {at:x} superseded\n{DAY} revoke {at}\n")
@@ -412,7 +412,7 @@ def large_register(t, count):
 
 @test(seconds=5)
 def answers_are_sent_whole_at_the_end(t):
-    # An older CRL, which nothing looks into, is made larger than what a socket of loopback holds unread.
+    # The test makes CRL 1, which `serve` does not parse, larger than the buffers of a loopback connection.
     t.register(lines=f"{DAY} crl\n{DAY} crl\n")
     t.sql("ca.db", "UPDATE crl SET der = zeroblob(12000000) WHERE number = 1")
     t.clock(DAY)
@@ -426,7 +426,7 @@ def answers_are_sent_whole_at_the_end(t):
         while piece := slow.recv(1_000_000):
             got += len(piece)
             time.sleep(0.01)
-    t.true(got > 12_000_000, f"the reader that was slow got {got} bytes of some 12,000,150")
+    t.true(got > 12_000_000, f"the slow client got {got} bytes of some 12,000,150")
     t.same(opened.wait().status, 0, "status")
 
 
@@ -456,4 +456,4 @@ def a_crl_of_many_entries_is_printed_whole(t):
     text = t.tool("openssl", "crl", "-inform", "DER", "-noout", "-text", given=der).decode()
     t.same(text.count("Serial Number:"), 300, "entries")
     opened = t.open()
-    t.true(parted(opened.ask("GET", "/crl"))[2] == der, "GET /crl gives other bytes")
+    t.true(parted(opened.ask("GET", "/crl"))[2] == der, "GET /crl gives another CRL")

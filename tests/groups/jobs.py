@@ -40,11 +40,11 @@ def own_addresses():
 def listens_at_127_0_0_1_alone(t, command, words):
     t.register()
     opened = t.open("ca.db", *words, command=command)
-    t.same(listeners(opened.port), ["%08X" % struct.unpack("=I", socket.inet_aton("127.0.0.1"))], "where it listens")
+    t.same(listeners(opened.port), ["%08X" % struct.unpack("=I", socket.inet_aton("127.0.0.1"))], "the addresses at which it listens")
     for address in own_addresses():
         with socket.socket() as it:
             it.settimeout(5)
-            t.true(it.connect_ex((address, opened.port)) != 0, f"it takes connections at {address}")
+            t.true(it.connect_ex((address, opened.port)) != 0, f"it accepts connections at {address}")
     t.same(program.parted(opened.ask("GET", "/counts"))[0], 200)
 
 
@@ -72,7 +72,7 @@ def a_live_control_socket_is_not_taken_over(t):
         ran = t.desk("open", "other.db", "--port", program.free_port(), "--control", path, "--unsigned")
         t.same((ran.status, ran.out, ran.err), (1, b"", b"F4 read\n"), f"a second desk at {path}")
     t.same((t.room / "plain").read_text(), "left as it is")
-    # It is the first register that answers, at the socket's path too.
+    # The first desk still answers, at the control socket and at its port.
     t.same(t.control().ask("subscriber acme"), "E05 name-taken 1")
     t.same(program.parted(opened.ask("GET", "/counts"))[0], 200)
 
@@ -87,7 +87,7 @@ def lines_in_one_piece_are_answered_in_order(t):
     t.open()
     control = t.control()
     given = b"".join(b"subscriber n%d\n" % it for it in range(1, LINES + 1))
-    # It reads no more while its replies are not taken: so they are taken while it writes.
+    # The desk reads no more lines while its replies are unread. So a thread sends lines while the test reads replies.
     writer = threading.Thread(target=control.peer.sendall, args=(given,))
     writer.start()
     got = [control.file.readline() for _ in range(LINES)]
@@ -126,19 +126,19 @@ def at_ends_with_1_where_the_desk_ends_meanwhile(t):
     with peer:
         peer.stdin.write(b"counts\n")
         peer.stdin.flush()
-        # A reply comes as soon as its line is whole, though the input goes on.
+        # `desk at` prints a reply although its input has not ended.
         t.same(peer.stdout.readline(), b"good 0 revoked 0 expired 0\n")
         opened.end()
         with contextlib.suppress(BrokenPipeError):
             peer.stdin.write(b"counts\n")
             peer.stdin.flush()
         out, told = peer.communicate(timeout=program.LONGEST)
-    # Whether its write or its read meets the end first is the machine's.
-    t.same((peer.returncode, out), (1, b""), f"status and standard output, with {told!r} told")
-    t.true(told in (b"F4 read\n", b"F5 write\n"), f"told {told!r}")
+    # Its write or its read fails first, depending on the machine.
+    t.same((peer.returncode, out), (1, b""), f"status and standard output, with {told!r} on standard error")
+    t.true(told in (b"F4 read\n", b"F5 write\n"), f"standard error has {told!r}")
 
 
-# The machine's clock, where nothing sets it
+# The machine's clock, which these tests do not set
 
 def near(t, moment, what):
     late = time.time() - moment
@@ -170,13 +170,13 @@ def in_two(t, opened, given, at):
     """Sends a request in two pieces, the second after the first was read."""
     with opened.connect() as peer:
         peer.sendall(given[:at])
-        authority.until(lambda: program.is_read(peer), "that the first piece is read")
+        authority.until(lambda: program.is_read(peer), "the desk to read the first piece")
         peer.sendall(given[at:])
         return program.parted(program.read_all(peer))
 
 
 def head_of(size, first="GET /counts HTTP/1.1"):
-    """A head of so many bytes, its empty line among them."""
+    """A head of this many bytes, including its empty line."""
     lines = f"{first}\r\nHost: ca.example\r\n"
     return (lines + "X: " + "x" * (size - len(lines) - 7) + "\r\n\r\n").encode()
 
@@ -188,7 +188,7 @@ def a_long_head(t, size, status):
     given = head_of(size)
     t.same(len(given), size)
     for at in (10, 4_096, size - 1):
-        t.same(in_two(t, opened, given, at)[0], status, f"parted at {at}")
+        t.same(in_two(t, opened, given, at)[0], status, f"split at {at}")
 
 
 @each({"65,536 bytes": (65_536, 200), "a byte more": (65_537, 413)})
@@ -198,9 +198,9 @@ def a_long_body(t, size, status):
     head = f"POST /ocsp HTTP/1.1\r\nHost: ca.example\r\nContent-Type: application/ocsp-request\r\nContent-Length: {size}\r\n\r\n".encode()
     for at in (len(head), len(head) + 1, len(head) + 32_768):
         got, _, body = in_two(t, opened, head + bytes(size), at)
-        t.same(got, status, f"parted at {at}")
+        t.same(got, status, f"split at {at}")
         if status == 200:
-            # No request: malformedRequest (RFC 6960 2.3), unsigned.
+            # The body is no OCSP request: the answer is malformedRequest (RFC 6960 2.3), which has no signature.
             t.same(body.hex(), "30030a0101")
 
 
@@ -249,7 +249,7 @@ def a_long_script_shows_its_progress_on_a_terminal(t):
     os.close(theirs)
     job.stdin.write(f"{DAY} subscriber acme\n".encode() + half)
     job.stdin.flush()
-    # It prints its progress after a line, each second since its start. It has started when the first reply is there.
+    # It prints its progress after a line, once a second since its start. When the first reply is there, it has started.
     authority.until(lambda: (t.room / "replies").stat().st_size, "a reply")
     time.sleep(1.3)
     job.stdin.write(half)
@@ -261,7 +261,7 @@ def a_long_script_shows_its_progress_on_a_terminal(t):
             told += piece
     os.close(ours)
     t.same(job.wait(program.LONGEST), 0)
-    t.true(re.search(rb"\d+ lines done, \d+ a second", told), f"it does not tell how far it is: {told!r}")
+    t.true(re.search(rb"\d+ lines done, \d+ a second", told), f"it does not show its progress: {told!r}")
     t.same((t.room / "replies").read_text(), "subscriber 1\n" + "".join(f"order {it}\n" for it in range(1, count + 1)))
 
 
@@ -314,7 +314,7 @@ def a_full_disk(t):
     try:
         ran = t.desk("init", "disk/ca.db", "--name", program.NAME, "--key", program.KEY, "--why")
         t.same((ran.status, ran.out, ran.err), (1, b"", b"F2 store\n  disk full (FILE)\n"))
-        t.same(list((t.room / "disk").iterdir()), [], "what is left on it")
+        t.same(list((t.room / "disk").iterdir()), [], "files that are left on the disk")
     finally:
         subprocess.run(["umount", t.room / "disk"], check=True)
 

@@ -1,5 +1,5 @@
-"""`./desk` in a small repository of its own, beside a toolchain that is played by shell scripts: when it runs the unproved program, which it keeps, and when
-it builds the proved one. Both programs are scripts that print which one they are, and their words."""
+"""`./desk` in a small repository of its own, with shell scripts in place of the toolchain. It runs the unproved program, which it keeps, or builds
+the proved one. Both programs are scripts that print which one they are, and their words."""
 
 import os
 import shutil
@@ -147,7 +147,7 @@ def words_that_might_name_a_file_wait_for_the_proved_program(t):
         (it.top / "crates/reg_desk/out/reg_desk").unlink(missing_ok=True)
         status, out, err = it.desk(*words)
         t.same((status, out), (0, " ".join(["proved", *words]) + "\n"), f"status and standard output of {words}")
-        t.true(UNPROVED not in err, f"nothing of an unproved program on standard error of {words}: {err!r}")
+        t.true(UNPROVED not in err, f"standard error of {words} says that the program is unproved: {err!r}")
     t.same(it.builds(), 1, "unproved programs that were built")
 
 
@@ -173,8 +173,8 @@ def a_build_is_trimmed_unless_it_is_to_be_kept(t, words):
     t.same(it.desk(*words.split())[0], 0, "status")
     t.same(ran(), BUILDS[words], "what was run")
     for again in ("build", "build --keep"):
-        t.same(it.desk(*again.split())[:2], (0, ""), f"status and standard output of {again}, where nothing has changed")
-    t.same(ran(), BUILDS[words], "nothing more is run, and nothing is removed, where nothing has changed")
+        t.same(it.desk(*again.split())[:2], (0, ""), f"status and standard output of {again} after no change")
+    t.same(ran(), BUILDS[words], "what was run, including two builds after no change")
 
 
 @test
@@ -189,7 +189,7 @@ def a_build_takes_none_of_the_input_and_prints_nothing_among_the_replies(t):
 
 @test
 def a_build_that_finds_nothing_to_do_is_tried_once(t):
-    """As after an edit of a comment, which leaves the program older than its source."""
+    """After an edit of a comment, for example, the program stays older than its source."""
     it = Repository(t)
     t.same(it.desk("build")[0], 0)
     put(it.top / "tools/build.py", '#!/bin/sh\necho "build $*" >>"$(dirname "$0")/../ran"\n', is_program=True)
@@ -223,10 +223,10 @@ def tunables_that_are_set_already_come_behind_that_of_large_pages(t):
 def the_words_of_a_build(t):
     it = Repository(t)
     status, out, _ = it.desk("build", "--help")
-    t.same((status, "--keep" in out), (0, True), "status, and what is told")
+    t.same((status, "--keep" in out), (0, True), "status, and whether the help names --keep")
     for words in (("build", "--kept"), ("build", "reg_core"), ("build", "--keep", "--keep")):
         t.same(it.desk(*words), (2, "", "usage: ./desk build [--keep]\n"), f"status, standard output and standard error of {words}")
-    t.true(not (it.top / "ran").exists(), "nothing is built")
+    t.true(not (it.top / "ran").exists(), "something was built")
 
 
 MB = 1_000_000
@@ -236,7 +236,7 @@ MADE = {"office": ("store", 0.9, 3, 0), "core": ("", 0.3, 1, 0), "laws": ("core"
 
 
 def made_up(t):
-    """Folders out/ of the shape that rt leaves, below a crates.txt."""
+    """A repository with a crates.txt, and with folders out/ such as rt leaves."""
     top = t.room / "made"
     for name in ("trim.py", "build.py", "build-times.txt"):
         (top / "tools").mkdir(parents=True, exist_ok=True)
@@ -264,7 +264,7 @@ def left_of(top):
 
 
 PROGRAM = ["reg_desk/out/reg_desk", "reg_desk/out/reg_desk.stamp"]
-# How many megabytes may be kept, and the crates whose libraries then are. A library that depends on one that does not fit is not kept, although it would fit itself.
+# The megabytes that trim.py may keep, and the crates whose libraries it keeps. If a library does not fit, it keeps none that depends on it.
 LIMITS = {"2000": ["core", "laws", "office", "store"], "1.5": ["core", "laws", "store"], "1.2": ["core", "laws"], "0.4": ["core"], "0": []}
 
 
@@ -276,10 +276,10 @@ def what_a_trim_leaves(t, limit):
     t.same((ran.returncode, ran.stdout), (0, b""), "status and standard output")
     t.has(ran.stderr, b"GB kept", "standard error")
     t.same(left_of(top), sorted([*PROGRAM, *(f"{name}/out/rlib" for name in LIMITS[limit])]), "what is left")
-    t.same([(top / f"crates/{name}/out/rlib/stamp").read_text() for name in LIMITS[limit]], [f"stamp of {name}" for name in LIMITS[limit]], "the libraries are whole")
+    t.same([(top / f"crates/{name}/out/rlib/stamp").read_text() for name in LIMITS[limit]], [f"stamp of {name}" for name in LIMITS[limit]], "stamps of the libraries")
     t.same(t.tool(top / "crates/reg_desk/out/reg_desk"), b"proved\n", "the program runs")
     t.same({it: it.read_bytes() for it in top.glob("crates/*/src/*")}, sources, "the sources")
-    t.same(sorted(it.name for it in (top / "tools").iterdir()), ["build-times.txt", "build.py", "trim.py"], "nothing else is made")
+    t.same(sorted(it.name for it in (top / "tools").iterdir()), ["build-times.txt", "build.py", "trim.py"], "the files in tools/")
 
 
 @test
@@ -291,7 +291,7 @@ def a_trim_with_nothing_built(t):
     t.same(left_of(top), [])
 
 
-# The toolchain's part of a build: a library or the program, with all files that it leaves beside them.
+# A stub of rt, which makes a library or the program, and all files that rt leaves beside them.
 MAKES = """
 name=$(basename "$PWD")
 case $1 in
@@ -382,14 +382,14 @@ def the_tests_take_the_unproved_program_and_say_so(t):
     put(tests / "cases/one", "")
     put(tests / "cases/one.stdout", "unproved script\n")
     status, out, err = it.run(tests / "run", "--proved")
-    t.same((status, out, it.builds()), (1, "", 0), "of the proved program alone, which is not there")
+    t.same((status, out, it.builds()), (1, "", 0), "status, standard output and builds with --proved, without a proved program")
     t.has(err, "not built")
     status, out, _ = it.run(tests / "run")
     t.same((status, out.splitlines()[-1], it.builds()), (0, "1 passed, 0 failed, 0 skipped", 1), "status, last line and builds")
-    t.true(out.splitlines()[-2].endswith("; the program that was tested is unproved"), f"the line before the last: {out!r}")
+    t.true(out.splitlines()[-2].endswith("; the program that was tested is unproved"), f"nothing says that the program is unproved: {out!r}")
     put(tests / "cases/one.stdout", "proved script\n")
     t.same(it.desk("build")[0], 0)
     for words in ((), ("--proved",)):
         status, out, _ = it.run(tests / "run", *words)
         t.same((status, out.splitlines()[-1]), (0, "1 passed, 0 failed, 0 skipped"), "status and last line")
-        t.true("unproved" not in out, f"the proved program is not told as unproved: {out!r}")
+        t.true("unproved" not in out, f"the proved program is called unproved: {out!r}")

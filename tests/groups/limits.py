@@ -31,14 +31,14 @@ MANY = 100_001
 
 
 def cert_ids(count):
-    """The CertIDs of an OCSP request for so many serial numbers of two octets of another issuer (RFC 6960 4.1.1), each in its own request."""
+    """The CertIDs of an OCSP request for this many serial numbers of two octets of another issuer (RFC 6960 4.1.1), each in its own Request."""
     issuer = bytes.fromhex("300906052B0E03021A05000414" + "00" * 20 + "0414" + "00" * 20)
     for serial in range(0x1100, 0x1100 + count):
         yield der.value(0x30, der.value(0x30, issuer + der.integer(serial)))
 
 
 def asks(count):
-    """An OCSP request with so many CertIDs."""
+    """An OCSP request with this many CertIDs."""
     return der.value(0x30, der.value(0x30, der.value(0x30, b"".join(cert_ids(count)))))
 
 
@@ -63,7 +63,7 @@ def a_control_socket_with_a_full_queue_is_not_taken_over(t):
         before = (t.room / "counter").stat().st_ino
         ran = t.desk("open", "ca.db", "--port", free_port(), "--control", "counter", "--unsigned")
         t.same((ran.status, ran.out, ran.err), (1, b"", b"F4 read\n"), "the second program at the socket")
-        t.same((t.room / "counter").stat().st_ino, before, "the socket")
+        t.same((t.room / "counter").stat().st_ino, before, "the inode of the socket")
 
 
 @test(seconds=4)
@@ -73,7 +73,7 @@ def clients_that_connect_before_the_mode_is_set_are_disconnected(t):
         opening = pool.submit(t.open, faults=faults.environment(slow_chmod=t.room / "connected"))
         authority.until(lambda: (t.room / "counter").is_socket(), "the socket")
         early = [clients.enter_context(Control(t.room / "counter")) for _ in range(20)]
-        t.true(oct((t.room / "counter").stat().st_mode & 0o777) != "0o600", "the mode was set before the clients came")
+        t.true(oct((t.room / "counter").stat().st_mode & 0o777) != "0o600", "the mode was set before the clients connected")
         for it in early:
             with contextlib.suppress(BrokenPipeError):
                 it.peer.sendall(b"subscriber mallory\n")
@@ -83,14 +83,14 @@ def clients_that_connect_before_the_mode_is_set_are_disconnected(t):
             reply = b""
             with contextlib.suppress(ConnectionResetError, BrokenPipeError):
                 reply = it.file.readline()
-            t.same(reply, b"", f"the reply to client {at} that came before the mode was set")
+            t.same(reply, b"", f"the reply to client {at}, which connected before the mode was set")
     with t.control() as control:
         t.same(control.ask("subscriber owner"), "subscriber 1", "the owner's line")
 
 
 @test(seconds=4)
 def a_thousand_clients_that_connect_before_the_mode_is_set_are_disconnected(t):
-    """Or as many as the socket's queue takes."""
+    """If the socket's queue takes fewer clients, the test connects only those."""
     _, hard = resource.getrlimit(resource.RLIMIT_NOFILE)
     if hard < 2_000 and hard != resource.RLIM_INFINITY:
         raise Skipped("the system has no descriptors for 1,000 connections: ulimit -n 2000")
@@ -105,12 +105,12 @@ def a_thousand_clients_that_connect_before_the_mode_is_set_are_disconnected(t):
                 client.setblocking(False)
                 client.connect(str(t.room / "counter"))
                 early.append(client)
-        t.true(oct((t.room / "counter").stat().st_mode & 0o777) != "0o600", "the mode was set before the clients came")
+        t.true(oct((t.room / "counter").stat().st_mode & 0o777) != "0o600", "the mode was set before the clients connected")
         (t.room / "connected").touch()
         opening.result()
         for it in reversed(early):
             it.settimeout(20)
-            t.same(it.recv(1), b"", f"what one of {len(early)} clients hears that came before the mode was set")
+            t.same(it.recv(1), b"", f"what a client receives that connected before the mode was set, one of {len(early)}")
 
 
 @test
@@ -120,13 +120,13 @@ def a_link_to_a_socket_is_not_taken_over(t):
     os.rename(t.room / "counter", t.room / "stale")
     os.symlink("stale", t.room / "counter")
     ran = t.desk("open", "ca.db", "--port", free_port(), "--control", "counter", "--unsigned")
-    t.same((ran.status, ran.out, ran.err), (1, b"", b"F4 read\n"), "a control socket at a link")
+    t.same((ran.status, ran.out, ran.err), (1, b"", b"F4 read\n"), "a desk whose control socket is at a link")
     t.same((os.readlink(t.room / "counter"), (t.room / "stale").is_socket()), ("stale", True), "the link and the socket")
 
 
 @test
 def a_control_socket_that_may_not_be_used_is_not_taken_over(t):
-    """Its desk may be another user's, to which this one may not connect."""
+    """The socket may be that of another user's desk, to which this user may not connect."""
     t.register()
     t.register("other.db")
     t.open()
@@ -136,7 +136,7 @@ def a_control_socket_that_may_not_be_used_is_not_taken_over(t):
     t.same(desk.listens, False, "whether the second desk listens")
     ended = desk.wait()
     t.same((ended.status, ended.err, faults.counted(t.room / "count")["met"]), (1, b"F4 read\n", 1), "the second desk")
-    t.same((t.room / "counter").stat().st_ino, before, "the socket")
+    t.same((t.room / "counter").stat().st_ino, before, "the inode of the socket")
     t.same(t.control().ask("counts"), "good 0 revoked 0 expired 0", "the first desk")
 
 
@@ -178,7 +178,7 @@ def a_crl_whose_line_ends_in_cr_lf_holds_up_nobody(t):
             # The second line waits for the signature of the first.
             authority.until(lambda: signers.asked and program.is_read(control.peer), "a signature request")
             with t.at_once("GET /counts"):
-                t.same(parted(desk.send(COUNTS))[0], 200, f"GET /counts behind {line[:5]!r}")
+                t.same(parted(desk.send(COUNTS))[0], 200, f"GET /counts after {line[:5]!r}")
 
 
 @test(seconds=3)
@@ -193,7 +193,7 @@ def the_sixth_crl_of_a_connection_holds_up_nobody(t):
         t.same([control.ask("crl") for _ in range(5)], [f"crl {it} entries 0" for it in range(1, 6)])
         signs.clear()
         control.peer.sendall(b"crl\n")
-        t.true(signers.until(1), "a signature is requested")
+        t.true(signers.until(1), "no signature is requested")
         with t.at_once("GET /counts"):
             t.same(parted(desk.send(COUNTS))[0], 200, "GET /counts meanwhile")
         signs.set()
@@ -205,10 +205,10 @@ def at_waits_for_room_in_the_queue_of_a_control_socket(t):
     tried = lambda: (t.room / "count").exists() and faults.counted(t.room / "count")["connect"]
     with ThreadPoolExecutor(1) as pool, full_queue(t, "counter") as server:
         ran = pool.submit(t.desk, "at", "counter", given="counts\n", faults=faults.environment(count=t.room / "count"))
-        authority.until(tried, "that it connects")
+        authority.until(tried, "`desk at` to connect")
         # Time in which it could give up.
         time.sleep(0.5)
-        t.true(not ran.done(), "it has ended")
+        t.true(not ran.done(), "`desk at` has ended")
         server.accept()[0].close()
         peer, _ = server.accept()
         with peer:
@@ -242,7 +242,7 @@ def revoked_rows(count):
 
 @test(seconds=20)
 def as_many_replies_as_lines_and_rows(t):
-    """More than a hundred thousand, at the control socket, in a script by the clock, in a script with moments, and in an import."""
+    """Each job reads more than a hundred thousand lines, and prints a reply to each: `desk at`, scripts by the clock and with moments, an import."""
     t.register()
     t.clock(DAY)
     t.open()
@@ -265,13 +265,13 @@ def a_reply_of_more_than_8_kib_is_written_whole(t):
     t.open()
     line = f"ocsp {asks(60).hex()}"
     reply = t.control().ask(line)
-    t.true(len(reply) > 8_192, f"it has {len(reply)} characters")
+    t.true(len(reply) > 8_192, f"the reply has only {len(reply)} characters")
     t.same(t.done("at", "counter", given=f"{line}\ncounts\n"), f"{reply}\ngood 0 revoked 0 expired 0\n")
 
 
 @test(seconds=10)
 def a_desk_answers_more_than_a_million_lines(t):
-    """At one control connection, of which the event loop takes one line in each iteration. So it has more than a million iterations."""
+    """The event loop takes one line of a control connection in each iteration. So it has more than a million iterations."""
     lines, reply = 1_000, b"why nothing\n"
     t.register()
     desk = t.open()
@@ -279,10 +279,10 @@ def a_desk_answers_more_than_a_million_lines(t):
         for piece in range(1_001):
             control.peer.sendall(b"why\n" * lines)
             replies = b"".join(control.file.readline() for _ in range(lines))
-            t.true(replies == reply * lines, f"replies to the lines from {piece * lines} on: {replies[-200:]!r}")
-        t.same(control.ask("counts"), "good 0 revoked 0 expired 0", "a line behind them")
-    t.same(parted(desk.send(COUNTS))[0], 200, "GET /counts behind them")
-    t.same(desk.process.poll(), None, "the desk has ended")
+            t.true(replies == reply * lines, f"wrong replies to the lines from {piece * lines} on: {replies[-200:]!r}")
+        t.same(control.ask("counts"), "good 0 revoked 0 expired 0", "a later line")
+    t.same(parted(desk.send(COUNTS))[0], 200, "GET /counts after them")
+    t.same(desk.process.poll(), None, "the exit status of the desk, which must still run")
 
 
 @test(seconds=2)
@@ -311,7 +311,7 @@ def as_many_replies_as_a_file_has_rows(t, option, rows, reply):
 
 @test
 def a_log_of_more_than_a_hundred_thousand_lines(t):
-    """Its last line has the only command."""
+    """The last line of the log has its only command."""
     t.register()
     t.clock(DAY)
     t.open()
@@ -321,7 +321,7 @@ def a_log_of_more_than_a_hundred_thousand_lines(t):
 
 @test(seconds=5)
 def a_log_of_more_than_a_million_lines(t):
-    """As of a desk that was asked by many clients. Its last line has the only command."""
+    """The log is that of a desk with many clients. Its last line has its only command."""
     t.register()
     t.clock(DAY)
     t.open()
@@ -334,7 +334,7 @@ def a_log_of_more_than_a_million_lines(t):
 
 @test(seconds=2)
 def the_last_answer_is_sent_whole_in_forty_thousand_writes(t):
-    """Each takes a byte. `desk serve` has answered its last request."""
+    """Each write takes one byte. `desk serve` ends only after the last byte of its last answer."""
     size = 40_000
     t.register(lines=f"{DAY} crl\n{DAY} crl\n")
     t.sql("ca.db", f"UPDATE crl SET der = zeroblob({size}) WHERE number = 1")
@@ -347,7 +347,7 @@ def the_last_answer_is_sent_whole_in_forty_thousand_writes(t):
 
 @test(seconds=3)
 def the_last_answer_is_sent_whole_however_long_it_takes(t):
-    """Once `desk serve` has answered its last request, a client that still sends has the event loop go round."""
+    """After the last request of `desk serve`, a client that sends on causes iterations of the event loop. The answer of a slow client stays whole."""
     t.register(lines=f"{DAY} crl\n{DAY} crl\n")
     t.sql("ca.db", "UPDATE crl SET der = zeroblob(12000000) WHERE number = 1")
     t.clock(DAY)
@@ -374,14 +374,14 @@ def the_oldest_connection_is_evicted_after_a_thousand_others_too(t):
     held = []
     for others in (500, 700):
         for _ in range(others):
-            t.same(parted(desk.desk.send(COUNTS))[0], 200, "another one")
+            t.same(parted(desk.desk.send(COUNTS))[0], 200, "the answer to another client")
         held.append(desk.comes(COUNTS[:9]))
     with desk.desk.connect() as newest:
         held[0].settimeout(20)
-        t.same(read_all(held[0]), b"", "the oldest is evicted, with no answer")
+        t.same(read_all(held[0]), b"", "what the oldest client receives, whose connection is evicted")
         for it in (held[1], newest):
             it.sendall(COUNTS[9:] if it is held[1] else COUNTS)
-            t.same(parted(read_all(it))[0], 200, "the others")
+            t.same(parted(read_all(it))[0], 200, "the answers to the other clients")
 
 
 # File descriptors
@@ -396,7 +396,7 @@ def a_thousand_clients_have_connections_at_once(t):
     t.register()
     desk = t.open()
     clients = [t.enter_context(desk.connect()) for _ in range(1_000)]
-    # The last one is answered once all were accepted.
+    # The desk answers the last one once it has accepted all.
     for it in reversed(clients):
         it.sendall(COUNTS)
         t.same(parted(read_all(it))[0], 200, "GET /counts")
@@ -412,11 +412,11 @@ def a_thousand_clients_are_late_together(t):
     desk = Passing(t)
     for _ in range(1_000):
         t.enter_context(desk.desk.connect()).sendall(COUNTS[:9])
-    authority.until(lambda: desk.files == desk.before + 1_000, "that all are accepted")
+    authority.until(lambda: desk.files == desk.before + 1_000, "the desk to accept all")
     desk.set_forward(30_000)
-    authority.until(lambda: desk.files == desk.before, "that all are closed", seconds=10)
+    authority.until(lambda: desk.files == desk.before, "the desk to close all", seconds=10)
     desk.advance(0)
-    t.same([why for _, why in desk.lost], ["late"] * 1_000, "each is lost, and why")
+    t.same([why for _, why in desk.lost], ["late"] * 1_000, "why each connection was lost")
 
 
 @each({f"{it}, {what}": (error, what) for it, error in (("the process has no descriptor left", "EMFILE"), ("the machine has none", "ENFILE")) for what in ("an answer", "a CRL")}, seconds=3)
@@ -433,7 +433,7 @@ def a_signature_is_requested_again_once_there_is_a_descriptor(t, error, what):
     else:
         response = parted(desk.ask("POST", "/ocsp", asks(1)))[2]
         t.true(ANY_SIGNATURE in response, f"the answer has no signature: {response.hex()}")
-    t.same(faults.counted(t.room / "count")["met"], 1, "faults that were met")
+    t.same(faults.counted(t.room / "count")["met"], 1, "injected faults")
 
 
 ACCEPTS = [*((error, place) for error in ("EMFILE", "ENFILE", "EINTR") for place in ("port", "control socket")), ("ECONNABORTED", "port")]
@@ -442,8 +442,8 @@ ACCEPTS = [*((error, place) for error in ("EMFILE", "ENFILE", "EINTR") for place
 @each({f"{error} at the {place}": (error, place) for error, place in ACCEPTS}, seconds=3)
 def a_client_is_accepted_although_accept_failed_once(t, error, place):
     t.register()
-    # The second poll is behind the calls of accept(2) at the start.
-    waits = lambda count: authority.until(lambda: faults.counted(t.room / count)["poll"] >= 2, "that the desk waits for clients")
+    # The desk polls for the second time after its calls of accept(2) at the start.
+    waits = lambda count: authority.until(lambda: faults.counted(t.room / count)["poll"] >= 2, "the desk to wait for clients")
     desk = t.open("ca.db", faults=faults.environment(count=t.room / "usual"))
     waits("usual")
     before = faults.counted(t.room / "usual")["accept"]
@@ -454,7 +454,7 @@ def a_client_is_accepted_although_accept_failed_once(t, error, place):
         t.same(parted(desk.send(COUNTS))[0], 200, "GET /counts")
     else:
         t.same(t.control("second").ask("counts"), "good 0 revoked 0 expired 0", "a line")
-    t.same((faults.counted(t.room / "count")["met"], desk.process.poll()), (1, None), "faults that were met, and whether the desk has ended")
+    t.same((faults.counted(t.room / "count")["met"], desk.process.poll()), (1, None), "injected faults, and the exit status of the desk")
 
 
 # Time
@@ -466,7 +466,7 @@ def is_idle(t, desk):
     time.sleep(0.3)
     before = ticks()
     time.sleep(2)
-    t.true(ticks() - before < 20, f"{ticks() - before} clock ticks in two seconds")
+    t.true(ticks() - before < 20, f"the desk took {ticks() - before} clock ticks in two seconds")
 
 
 def eight_control_connections(t, desk):
@@ -477,17 +477,17 @@ def eight_control_connections(t, desk):
 def a_silent_client(t, desk):
     client = t.enter_context(desk.connect())
     client.sendall(COUNTS[:9])
-    authority.until(lambda: program.is_read(client), "that it is read")
+    authority.until(lambda: program.is_read(client), "the desk to read it")
 
 
 def a_client_that_closed_its_side(t, desk):
-    """And waits for a signature."""
+    """The client waits for a signature."""
     signers = t.enter_context(Signers(t.room / "ca.sign", lambda message: t.ends.wait(60) and ANY_SIGNATURE))
     client, request = t.enter_context(desk.connect()), asks(1)
     client.sendall(b"POST /ocsp HTTP/1.1\r\nContent-Length: %d\r\n\r\n" % len(request))
-    authority.until(lambda: program.is_read(client), "that the head is read")
+    authority.until(lambda: program.is_read(client), "the desk to read the head")
     client.sendall(request)
-    t.true(signers.until(1), "its signature is requested")
+    t.true(signers.until(1), "its signature is not requested")
     client.shutdown(socket.SHUT_WR)
 
 
@@ -496,20 +496,20 @@ def a_signer_that_had_no_room(t, desk):
     before = connects()
     with ThreadPoolExecutor(1) as pool, full_queue(t) as server:
         answer = pool.submit(desk.ask, "POST", "/ocsp", asks(1))
-        authority.until(lambda: connects() > before + 1, "that it is asked again")
+        authority.until(lambda: connects() > before + 1, "the desk to ask the signer again")
         signs(server)
         t.true(ANY_SIGNATURE in answer.result(), "the answer has no signature")
 
 
 def descriptors_that_ran_out_for_a_time(t, desk):
     pid, counted = desk.process.pid, lambda kind: faults.counted(t.room / "count")[kind]
-    # The second poll is behind the calls of accept(2) at the start.
-    authority.until(lambda: counted("poll") >= 2, "that the desk waits for clients")
+    # The desk polls for the second time after its calls of accept(2) at the start.
+    authority.until(lambda: counted("poll") >= 2, "the desk to wait for clients")
     before, usual = counted("accept"), resource.prlimit(pid, resource.RLIMIT_NOFILE)
     resource.prlimit(pid, resource.RLIMIT_NOFILE, (len(os.listdir(f"/proc/{pid}/fd")), usual[1]))
     client = t.enter_context(desk.connect())
     client.sendall(COUNTS)
-    authority.until(lambda: counted("accept") >= before + 2, "that accept(2) has failed")
+    authority.until(lambda: counted("accept") >= before + 2, "accept(2) to fail")
     resource.prlimit(pid, resource.RLIMIT_NOFILE, usual)
     t.same(parted(read_all(client))[0], 200, "the answer, once there is a descriptor")
 
@@ -534,12 +534,12 @@ def a_desk_that_waits_seldom_wakes_up(t, begin, most):
 def seldom_wakes_up(t, most):
     polls = lambda: faults.counted(t.room / "count")["poll"]
     found = []
-    # On a slow machine it may still have something to do in the first of these seconds.
+    # On a slow machine the desk may still be busy in the first of these seconds.
     while len(found) < 4 and min(found, default=most + 1) > most:
         before = polls()
         time.sleep(1)
         found.append(polls() - before)
-    t.true(min(found) <= most, f"so often in each second: {found}")
+    t.true(min(found) <= most, f"polls in each second: {found}; at most {most} are right")
 
 
 @test(seconds=3)
@@ -549,7 +549,7 @@ def a_desk_seldom_wakes_up_once_a_signer_without_room_has_had_its_ten_seconds(t)
     with ThreadPoolExecutor(1) as pool, full_queue(t):
         desk = t.open("ca.db", *SIGNING, faults=faults.environment(passed=t.room / "passed", count=t.room / "count"))
         answer = pool.submit(desk.ask, "POST", "/ocsp", asks(1))
-        authority.until(lambda: faults.counted(t.room / "count")["connect"], "that it is asked")
+        authority.until(lambda: faults.counted(t.room / "count")["connect"], "the desk to ask the signer")
         have_passed(t, 10_000)
         t.true(answer.result(20).endswith(authority.INTERNAL), "the answer is signed")
         seldom_wakes_up(t, 1)
@@ -575,10 +575,10 @@ def a_desk_uses_no_processor_time_during_signatures_and_after_them(t):
     with ThreadPoolExecutor(2) as pool, t.control() as control:
         answer = pool.submit(desk.ask, "POST", "/ocsp", asks(1))
         line = pool.submit(control.ask, "crl")
-        t.true(signers.until(2), "both signatures are requested")
+        t.true(signers.until(2), "a signature is not requested")
         is_idle(t, desk)
         ends.set()
-        t.true(ANY_SIGNATURE in answer.result(), "the answer is signed")
+        t.true(ANY_SIGNATURE in answer.result(), "the answer has no signature")
         t.same(line.result(), "crl 1 entries 0", "the CRL")
         is_idle(t, desk)
 
@@ -589,13 +589,13 @@ def a_lost_connection_is_logged_although_nothing_else_happens(t):
     desk = Passing(t)
     desk.comes(COUNTS[:9])
     desk.set_forward(30_000)
-    authority.until(lambda: desk.lost, "the line of the log")
+    authority.until(lambda: desk.lost, "the line of the log for the lost connection")
     t.same([why for _, why in desk.lost], ["late"], "why it was lost")
 
 
 @test
 def a_client_is_late_after_49_days_too(t):
-    """Then the milliseconds of the monotonic clock have more than 32 bits."""
+    """The milliseconds of the monotonic clock then have more than 32 bits."""
     t.register()
     desk = Passing(t)
     desk.advance(2**32 - 10_000 - desk.millis)
@@ -606,11 +606,11 @@ def a_client_is_late_after_49_days_too(t):
 
 @test
 def a_client_that_comes_after_a_pause_has_30_seconds(t):
-    """The desk has waited for 30 seconds when it connects."""
+    """The desk has waited for 30 seconds when the client connects."""
     t.register()
     desk = Passing(t)
     t.same(parted(desk.desk.send(COUNTS))[0], 200, "an answer before the pause")
-    authority.until(lambda: desk.files == desk.before, "that nobody is connected")
+    authority.until(lambda: desk.files == desk.before, "the end of all connections")
     desk.set_forward(30_000)
     client = desk.comes(COUNTS[:9])
     client.sendall(COUNTS[9:])
@@ -619,38 +619,38 @@ def a_client_that_comes_after_a_pause_has_30_seconds(t):
 
 @test
 def a_connection_ends_with_its_answer(t):
-    """The desk waits for no more of a client whose request had nothing behind it. No time passes."""
+    """If nothing follows a request, the desk closes the connection right after the answer. The elapsed time does not change."""
     t.register()
     desk = Passing(t)
     with desk.desk.connect() as client:
         client.sendall(COUNTS)
         t.same(parted(read_all(client))[0], 200, "its answer")
-        authority.until(lambda: desk.files == desk.before, "that its descriptor is free", seconds=10)
+        authority.until(lambda: desk.files == desk.before, "the desk to close the connection", seconds=10)
 
 
 @test
 def a_signed_answer_has_a_second_to_be_read_if_its_client_sends_on(t):
-    """If the desk closed the connection with unread bytes, the client could lose its answer. No time passes."""
+    """If the desk closed the connection with unread bytes, the client could lose its answer. Only the test advances the elapsed time."""
     t.register(key=P256_KEY)
     t.enter_context(Signers(t.room / "ca.sign"))
     desk, request = Passing(t, *SIGNING), asks(1)
     client = desk.comes(b"POST /ocsp HTTP/1.1\r\nContent-Length: %d\r\n\r\n" % len(request) + request + b"more")
     t.true(ANY_SIGNATURE in read_all(client), "the answer has no signature")
-    authority.until(lambda: desk.files == desk.before + 1, "that it has its connection, and no other client has one", seconds=10)
+    authority.until(lambda: desk.files == desk.before + 1, "its connection to be the only one", seconds=10)
     desk.advance(1_000)
-    authority.until(lambda: desk.files == desk.before, "that its connection is closed", seconds=10)
+    authority.until(lambda: desk.files == desk.before, "the desk to close its connection", seconds=10)
 
 
 @test(seconds=2)
 def all_that_follows_a_request_is_read_before_its_connection_is_closed(t):
-    """If the desk closed the connection with unread bytes, the client could lose its answer. The desk takes a byte with each read. No time passes."""
+    """If the desk closed the connection with unread bytes, the client could lose its answer. Each read takes one byte. The elapsed time is fixed."""
     t.register()
     have_passed(t, 0)
     desk = t.open("ca.db", faults=faults.environment(passed=t.room / "passed", short=1, only="socket"))
     with desk.connect() as client:
         client.sendall(COUNTS + b"x" * 1_000)
         t.same(parted(read_all(client))[0], 200, "its answer")
-        authority.until(lambda: program.is_read(client), "that the desk has read all that followed", seconds=10)
+        authority.until(lambda: program.is_read(client), "the desk to read all that followed", seconds=10)
 
 
 @test(seconds=2)
@@ -663,7 +663,7 @@ def a_client_that_sends_more_during_a_long_answer_gets_all_of_it(t):
         got = len(client.recv(1))
         client.sendall(COUNTS)
         got += len(client.recv(8_000_000, socket.MSG_WAITALL))
-        # Time in which the desk sends the rest, which the sockets hold.
+        # Time in which the desk sends the rest to the buffers of the sockets.
         time.sleep(0.3)
         got += len(read_all(client))
     t.true(got > 12_000_000, f"{got} bytes of more than 12,000,000")
@@ -671,7 +671,7 @@ def a_client_that_sends_more_during_a_long_answer_gets_all_of_it(t):
 
 @test
 def who_did_not_take_an_answer_is_lost_at_the_end(t):
-    """`desk serve` has answered its last request, and waits for a client of a long answer."""
+    """`desk serve` has answered its last request, but another client does not read its long answer."""
     t.register(lines=f"{DAY} crl\n{DAY} crl\n")
     t.sql("ca.db", "UPDATE crl SET der = zeroblob(12000000) WHERE number = 1")
     desk = Passing(t, "--requests", 2, command="serve")
@@ -680,13 +680,13 @@ def who_did_not_take_an_answer_is_lost_at_the_end(t):
         t.same(slow.recv(1), b"H", "its answer has begun")
         t.same(parted(desk.desk.send(COUNTS))[0], 200, "the last request")
         desk.set_forward(30_000)
-        t.same(desk.desk.wait().status, 0, "its status")
+        t.same(desk.desk.wait().status, 0, "the status of `serve`")
         t.same(desk.lost, [(str(slow.getsockname()[1]), "late")], "lost connections")
 
 
 @test(seconds=3)
 def a_client_that_sends_on_while_it_waits_holds_up_nobody(t):
-    """The desk takes a byte with each read, and the client always has sent more."""
+    """The desk reads one byte at a time, and the client has always sent more."""
     ends = threading.Event()
     t.callback(ends.set)
     t.register(key=P256_KEY)
@@ -703,7 +703,7 @@ def a_client_that_sends_on_while_it_waits_holds_up_nobody(t):
     with ThreadPoolExecutor(1) as pool:
         pool.submit(sends)
         try:
-            t.true(signers.until(1), "its signature is requested")
+            t.true(signers.until(1), "its signature is not requested")
             with t.at_once("GET /counts"):
                 t.same(parted(desk.send(COUNTS, timeout=20))[0], 200, "GET /counts")
         finally:
@@ -722,18 +722,18 @@ def a_client_whose_request_took_29_seconds_gets_its_signature(t):
     client = desk.comes(b"POST /ocsp HTTP/1.1\r\nHost: ca\r\nContent-Length: %d\r\n\r\n" % len(request))
     desk.advance(29_000)
     client.sendall(request)
-    t.true(signers.until(1), "its signature is requested")
+    t.true(signers.until(1), "its signature is not requested")
     desk.advance(2_000)
     ends.set()
     response = read_all(client)
     t.same(parted(response)[0], 200, "its status")
-    t.true(ANY_SIGNATURE in response, "its signature")
+    t.true(ANY_SIGNATURE in response, "the answer has no signature")
 
 
 # Times in the log, in replies and on a terminal
 
 
-# Each reading of the elapsed time is so many milliseconds later than the one before.
+# Each reading of the elapsed time is this many milliseconds later than the one before.
 TICK = 7
 
 
@@ -746,7 +746,7 @@ def the_log_has_the_time_between_two_readings(t):
         control.ask("subscriber acme")
     found = dict(re.findall(r"^(desk_exchange_seconds_\w+|desk_http_response_seconds_sum\S+) ([\d.]+)$", desk.ask("GET", "/metrics").decode(), re.MULTILINE))
     t.same((float(found["desk_exchange_seconds_sum"]), found["desk_exchange_seconds_count"]), (2 * TICK / 1_000, "2"), "seconds in the metrics")
-    t.same(float(found['desk_http_response_seconds_sum{route="/counts"}']), TICK / 1_000, "those of the route")
+    t.same(float(found['desk_http_response_seconds_sum{route="/counts"}']), TICK / 1_000, "seconds of the route")
     t.same([it.rsplit(" ", 1)[1] for it in desk.end().err_lines[:2]], [f"{1_000 * TICK}"] * 2, "microseconds in the log")
 
 
@@ -758,7 +758,7 @@ def a_copy_reports_the_time_between_two_readings(t):
 
 @each({"a job": "job", "a line": "line"}, seconds=2)
 def a_copy_reports_the_time_that_passes_during_it(t, what):
-    """A second and a half, while its folder is opened."""
+    """A second and a half passes while the desk opens the folder of the copy."""
     t.register()
     (t.room / "copies").mkdir()
     have_passed(t, 0)
@@ -769,7 +769,7 @@ def a_copy_reports_the_time_that_passes_during_it(t, what):
         else:
             t.open(faults=told)
             reply = pool.submit(t.control().ask, "copy copies/copy.db")
-        authority.until(lambda: (t.room / "goes-on.waits").exists(), "that the desk opens the folder")
+        authority.until(lambda: (t.room / "goes-on.waits").exists(), "the desk to open the folder")
         have_passed(t, 1_500)
         (t.room / "goes-on").touch()
         t.same(reply.result().rstrip("\n").split(" in ")[1], "1500 ms")
@@ -785,7 +785,7 @@ def the_log_has_the_time_until_a_signature_came(t):
     desk = Passing(t, *SIGNING)
     with ThreadPoolExecutor(2) as pool, t.control() as control:
         waits = [pool.submit(desk.desk.ask, "POST", "/ocsp", asks(1)), pool.submit(control.ask, "crl")]
-        t.true(signers.until(2), "both signatures are requested")
+        t.true(signers.until(2), "a signature is not requested")
         desk.advance(1_500)
         t.clock("2026-01-01T00:00:02Z")
         ends.set()
@@ -823,10 +823,10 @@ def a_terminal_shows_the_lines_and_how_many_a_second(t):
     given = f"{DAY} counts\n".encode() * 3
     t.same(on_a_terminal(t, "script", "ca.db", given=given, tick=1_000), [f"{at} lines done, 1 a second" for at in (1, 2, 3)])
     replies = ["good 0 revoked 0 expired 0"] * 3
-    t.same(on_a_terminal(t, "script", "ca.db", given=given, replies=pty, tick=1_000), replies, "where the replies are shown, too")
-    t.same(t.desk("script", "ca.db", given=given, faults=faults.environment(tick=1_000)).err, b"", "where standard error is no terminal")
+    t.same(on_a_terminal(t, "script", "ca.db", given=given, replies=pty, tick=1_000), replies, "a terminal that is also standard output")
+    t.same(t.desk("script", "ca.db", given=given, faults=faults.environment(tick=1_000)).err, b"", "standard error that is no terminal")
     (t.room / "passed").write_bytes(bytes(8))
-    t.same(on_a_terminal(t, "script", "ca.db", given=given, passed=t.room / "passed"), [], "what it shows in less than a second")
+    t.same(on_a_terminal(t, "script", "ca.db", given=given, passed=t.room / "passed"), [], "what the terminal shows in less than a second")
 
 
 # The words of each job, and the lines or rows that it reads.
@@ -858,19 +858,19 @@ def a_terminal_shows_the_rows_and_crls_of_an_audit(t):
     t.done("script", "ca.db", given="9999-01-01T00:00:00Z counts\n")
     shown = on_a_terminal(t, "audit", "ca.db", tick=1_000)
     found = [re.fullmatch(r"(\d+) rows read, (\d+) CRLs compared", it) for it in shown]
-    t.true(all(found), f"what it shows: {shown}")
+    t.true(all(found), f"the terminal shows another line: {shown}")
     rows, crls = zip(*((int(it[1]), int(it[2])) for it in found))
-    t.same((list(rows), list(crls)), (sorted(rows), sorted(crls)), "they grow")
-    t.true(rows[-1] >= 50, f"{rows[-1]} rows of more than 50 certificates")
+    t.same((list(rows), list(crls)), (sorted(rows), sorted(crls)), "rows and CRLs, which never decrease")
+    t.true(rows[-1] >= 50, f"only {rows[-1]} rows, of 50 certificates and more")
     t.same(crls[-1], 4, "CRLs")
-    t.same(t.desk("audit", "ca.db", faults=faults.environment(tick=1_000)).err, b"", "where standard error is no terminal")
+    t.same(t.desk("audit", "ca.db", faults=faults.environment(tick=1_000)).err, b"", "standard error that is no terminal")
     (t.room / "passed").write_bytes(bytes(8))
-    t.same(on_a_terminal(t, "audit", "ca.db", passed=t.room / "passed"), [], "what it shows in less than a second")
+    t.same(on_a_terminal(t, "audit", "ca.db", passed=t.room / "passed"), [], "what the terminal shows in less than a second")
 
 
 @each({"a script": (["script", "ca.db"], f"{DAY} counts\n"), "an audit": (["audit", "ca.db"], "")})
 def a_terminal_shows_nothing_in_the_first_second(t, words, given):
-    """However long the machine has run before."""
+    """The elapsed time of the machine before the job does not count."""
     t.register(lines=f"{DAY} subscriber acme\n{DAY} crl\n")
     have_passed(t, 5_000)
     t.same(on_a_terminal(t, *words, given=given.encode(), passed=t.room / "passed"), [])
@@ -883,7 +883,7 @@ def a_terminal_shows_that_a_large_file_is_opened(t):
         os.truncate(t.room / "large.db", size)
         t.same([it for it in on_a_terminal(t, "crl", "large.db") if it.startswith("opening")], shown, f"a file of {size} bytes")
     os.truncate(t.room / "large.db", 67_108_864)
-    t.true(b"opening" not in t.desk("crl", "large.db").err, "it is shown where standard error is no terminal")
+    t.true(b"opening" not in t.desk("crl", "large.db").err, "it is shown although standard error is no terminal")
     opens = ("--port", free_port(), "--control", "counter", "--unsigned")
     for words in (["script"], ["script", "--clock"], ["import", "--now", DAY], ["serve", *opens[:2], "--requests", 1], ["open", *opens], ["schedule", f"{DAY}=90"],
                   ["key-id", "0102"], ["list", "orders"], ["audit"]):
@@ -911,7 +911,7 @@ def a_copy_reports_milliseconds(t):
     t.register()
     begun = time.monotonic()
     told = re.fullmatch(r"copied \d+ bytes in (\d+) ms\n", t.done("copy", "ca.db", "copy.db"))
-    t.true(int(told[1]) <= 1_000 * (time.monotonic() - begun) + 1, f"{told[0]!r} took longer than the run")
+    t.true(int(told[1]) <= 1_000 * (time.monotonic() - begun) + 1, f"{told[0]!r} is longer than the whole run")
 
 
 @test(seconds=4)
@@ -944,15 +944,15 @@ def late_and_evicted_connections_are_counted(t):
     desk.comes(COUNTS[:9])
     desk.advance(30_000)
     t.same(lost_by(desk.desk), {"broken": 0, "late": 1, "crowded": 0, "memory": 0}, "one that was late")
-    # There is a descriptor for one connection.
+    # The desk has a descriptor for one connection only.
     t.tool("prlimit", "--pid", desk.desk.process.pid, f"--nofile={desk.before + 1}:{desk.before + 1}")
     desk.comes(COUNTS[:9])
-    authority.until(lambda: lost_by(desk.desk) == {"broken": 0, "late": 1, "crowded": 1, "memory": 0}, "the one that was evicted in the metrics")
+    authority.until(lambda: lost_by(desk.desk) == {"broken": 0, "late": 1, "crowded": 1, "memory": 0}, "the evicted connection in the metrics")
 
 
 @test(seconds=3)
 def a_lost_control_connection_is_counted(t):
-    """It closes with replies that it has not read."""
+    """The client closes the connection with unread replies."""
     t.register()
     desk = t.open()
     with Control(t.room / "counter") as control, contextlib.suppress(TimeoutError):
@@ -972,22 +972,22 @@ def a_connection_that_the_kernel_does_not_watch_is_lost_as_broken(t):
     os.remove(t.room / "counter")
     desk = t.open("ca.db", "--log", faults=faults.environment(count=t.room / "count", fail=f"watch:{before + 1}"))
     with desk.connect() as client:
-        t.same(read_all(client), b"", "what the client hears")
+        t.same(read_all(client), b"", "what the client receives")
     lost = lambda: [it.rsplit(" lost ", 1)[1] for it in desk.log if " lost " in it]
     authority.until(lost, "a line of the log for the lost connection", seconds=20)
     t.same((lost(), lost_by(desk)), (["broken"], {"broken": 1, "late": 0, "crowded": 0, "memory": 0}), "why it was lost, in the log and in the metrics")
-    t.same(faults.counted(t.room / "count")["met"], 1, "faults that were met")
+    t.same(faults.counted(t.room / "count")["met"], 1, "injected faults")
 
 
 @test
 def a_client_whose_answer_makes_room_is_not_lost(t):
-    """There is a descriptor for one connection. Its request is whole when another client comes."""
+    """The desk has a descriptor for one connection only. The request on it is complete when another client connects."""
     t.register()
     desk = Passing(t)
     t.tool("prlimit", "--pid", desk.desk.process.pid, f"--nofile={desk.before + 1}:{desk.before + 1}")
     with desk.desk.connect() as first:
         first.sendall(COUNTS[:9])
-        authority.until(lambda: program.is_read(first), "that it is read")
+        authority.until(lambda: program.is_read(first), "the desk to read it")
         desk.desk.process.send_signal(signal.SIGSTOP)
         first.sendall(COUNTS[9:])
         with desk.desk.connect() as second:
@@ -1007,9 +1007,9 @@ def closed_connections_are_counted_no_more(t):
             clients.enter_context(Control(t.room / "counter")).ask("counts")
             silent = clients.enter_context(desk.connect())
             silent.sendall(COUNTS[:9])
-            authority.until(lambda: program.is_read(silent), "that it is read")
-        t.same(found(), {"port": "4", "counter": "3"}, "open connections, that of /metrics among them")
-    authority.until(lambda: found() == {"port": "1", "counter": "0"}, "that they are closed")
+            authority.until(lambda: program.is_read(silent), "the desk to read it")
+        t.same(found(), {"port": "4", "counter": "3"}, "open connections, including that of /metrics")
+    authority.until(lambda: found() == {"port": "1", "counter": "0"}, "the desk to close them")
 
 
 # Long requests
@@ -1026,7 +1026,7 @@ def a_long_ocsp_request_by_get_is_answered_as_by_post(t):
     t.same(parted(desk.ask("GET", f"/ocsp/{text}"))[2], parted(desk.ask("POST", "/ocsp", request))[2], "the answer by GET")
     status, _, body = parted(desk.ask("GET", "/list/certificates?" + "x" * 1_000))
     t.same((status, body), (400, b'{"error":"E22 syntax"}'), "a query of a thousand characters")
-    t.same(desk.end().err_lines[0].split('"')[1], f"GET /ocsp/{text}"[:256], "what the log has of the answer that was signed")
+    t.same(desk.end().err_lines[0].split('"')[1], f"GET /ocsp/{text}"[:256], "the request line in the log")
 
 
 # Signers
@@ -1042,7 +1042,7 @@ def a_signer_that_reads_nothing_is_given_up_after_ten_seconds(t):
         begun = time.monotonic()
         with ThreadPoolExecutor(1) as pool:
             waits = pool.submit(t.desk, "script", "ca.db", *SIGNING, given="2026-01-02T00:00:00Z crl\n")
-            # A connection is there: the register is open, and the CRL is made.
+            # Once the desk connects, the register is open and the CRL is made.
             select.select([silent], [], [], program.LONGEST)
             connected = time.monotonic()
             ran = waits.result()
@@ -1076,7 +1076,7 @@ def a_script_waits_for_a_signer_whose_queue_is_full(t):
         ran = t.desk("script", "ca.db", *SIGNING, given=f"{DAY} crl\n", faults=faults.environment(count=t.room / "count"))
         t.same((ran.status, ran.lines, ran.err), (0, ["crl 1 entries 0"], b""), "the CRL")
         attempts = faults.counted(t.room / "count")["connect"]
-        t.true(attempts <= 100 * (time.monotonic() - begun) + 1, f"{attempts} attempts, with fewer than ten milliseconds between two")
+        t.true(attempts <= 100 * (time.monotonic() - begun) + 1, f"{attempts} attempts, some of them less than ten milliseconds apart")
 
 
 @contextlib.contextmanager
@@ -1090,7 +1090,7 @@ def full_queue(t, path="ca.sign"):
 
 
 def signs(server):
-    """Makes room, and answers the client that comes."""
+    """Makes room in the queue by one accept(2), and answers the next client with a signature."""
     server.accept()[0].close()
     peer, _ = server.accept()
     with peer:
@@ -1100,14 +1100,14 @@ def signs(server):
 
 def have_passed(t, millis):
     """Sets the elapsed time of a program that reads it in the file `passed`."""
-    # It is shared with the program, so it is never empty.
+    # The program has mapped the file, so it must never be empty.
     with open(t.room / "passed", "r+b" if (t.room / "passed").exists() else "wb") as it:
         it.write(millis.to_bytes(8, "little"))
 
 
 @test(seconds=2)
 def a_script_waits_for_a_signer_through_thousands_of_attempts(t):
-    """The desk does not sleep between them, and no time passes."""
+    """The desk does not sleep between the attempts, and the elapsed time does not change."""
     t.register(key=P256_KEY)
     have_passed(t, 0)
     tried = lambda: (t.room / "count").exists() and faults.counted(t.room / "count")["connect"]
@@ -1115,7 +1115,7 @@ def a_script_waits_for_a_signer_through_thousands_of_attempts(t):
         told = faults.environment(passed=t.room / "passed", awake=1, count=t.room / "count")
         ran = pool.submit(t.desk, "script", "ca.db", *SIGNING, given=f"{DAY} crl\n", faults=told)
         authority.until(lambda: tried() > 2_000 or ran.done(), "2,000 attempts", seconds=20)
-        t.true(not ran.done(), "it has ended")
+        t.true(not ran.done(), "the script has ended")
         signs(server)
         t.same((ran.result().status, ran.result().lines), (0, ["crl 1 entries 0"]), "the CRL")
 
@@ -1138,7 +1138,7 @@ def the_time_in_a_signer_s_queue_counts(t):
 
 @test(seconds=2)
 def a_signer_that_reads_slowly_has_ten_seconds_for_a_whole_message(t):
-    """It reads a part of a CRL that is longer than a socket's buffers, and another one in the tenth second."""
+    """The signer reads a part of a CRL that is longer than a socket's buffers, and another part in the tenth second. It gets no more time."""
     registers.make_revoked(t.room / "ca.db", 20_000, P256_KEY)
     have_passed(t, 0)
     with ThreadPoolExecutor(1) as pool, socket.socket(socket.AF_UNIX) as slow:
@@ -1159,7 +1159,7 @@ def a_signer_that_reads_slowly_has_ten_seconds_for_a_whole_message(t):
 
 @test
 def a_script_does_not_ask_a_signer_again_for_ten_seconds(t):
-    """After a timeout: when ten seconds have passed, the signer sends a byte and nothing more."""
+    """The signer exceeds its ten seconds: it sends one byte when they have passed, and nothing more."""
     t.register(key=P256_KEY)
     have_passed(t, 0)
     line, unsigned = f"{DAY} ocsp {asks(1).hex()}", "ocsp 30030a0102"
@@ -1174,7 +1174,7 @@ def a_script_does_not_ask_a_signer_again_for_ten_seconds(t):
             peer.sendall(b"0")
             t.same(late.result(), unsigned, "the line that waited")
         have_passed(t, 19_999)
-        t.same((desk.ask(line), select.select([server], [], [], 0)[0]), (unsigned, []), "a line behind it, and whether the signer was asked")
+        t.same((desk.ask(line), select.select([server], [], [], 0)[0]), (unsigned, []), "a later line, and whether the signer was asked")
         have_passed(t, 20_000)
         signed = pool.submit(desk.ask, line)
         peer, _ = server.accept()
@@ -1209,31 +1209,31 @@ def a_signer_whose_queue_stays_full_has_ten_seconds(t, waits, fault):
     with ThreadPoolExecutor(1) as pool, full_queue(t):
         desk = t.open("ca.db", *SIGNING, faults=faults.environment(passed=t.room / "passed", count=t.room / "count"))
         reply = pool.submit(waits, t, desk)
-        authority.until(connects, "that the signer is asked")
+        authority.until(connects, "the desk to ask the signer")
         for millis in (9_999, 10_000):
             t.same(reply.done(), False, f"whether it has ended before {millis} ms")
             have_passed(t, millis)
-            # An iteration of the event loop, and what is left of it, is behind two answers.
+            # After two answers, the event loop has made a whole iteration since the time was set.
             t.same([parted(desk.send(COUNTS))[0] for _ in range(2)], [200, 200])
         t.same(reply.result(20), fault)
 
 
 @each(WAITS, seconds=2)
 def a_signer_whose_queue_is_full_is_soon_asked_again(t, waits):
-    """A hundred times a second, although nothing else happens."""
+    """The desk asks it up to a hundred times a second, although nothing else happens."""
     t.register(key=P256_KEY)
     connects = lambda: faults.counted(t.room / "count")["connect"]
     with ThreadPoolExecutor(1) as pool, full_queue(t):
         desk = t.open("ca.db", *SIGNING, faults=faults.environment(count=t.room / "count"))
         pool.submit(waits, t, desk)
-        authority.until(connects, "that the signer is asked")
+        authority.until(connects, "the desk to ask the signer")
         found = []
-        # A slow machine has four seconds, of the ten that the signer has.
+        # A slow machine may take four of the ten seconds that the signer has.
         while len(found) < 4 and max(found, default=0) < 20:
             before = connects()
             time.sleep(1)
             found.append(connects() - before)
-    t.true(max(found) >= 20, f"so often in each second: {found}")
+    t.true(max(found) >= 20, f"attempts in each second: {found}")
 
 
 @test
@@ -1244,11 +1244,11 @@ def a_signer_that_has_no_room_is_asked_again_after_ten_milliseconds(t):
         desk = t.open("ca.db", *SIGNING, faults=faults.environment(passed=t.room / "passed", count=t.room / "count"))
         client, request = t.enter_context(desk.connect()), asks(1)
         client.sendall(b"POST /ocsp HTTP/1.1\r\nContent-Length: %d\r\n\r\n" % len(request) + request)
-        authority.until(lambda: program.is_read(client), "that the request is read")
+        authority.until(lambda: program.is_read(client), "the desk to read the request")
         asked = []
         for millis in (0, 0, 9, 9, 10):
             have_passed(t, millis)
-            # An iteration of the event loop, and what is left of it, is behind two answers.
+            # After two answers, the event loop has made a whole iteration since the time was set.
             t.same([parted(desk.send(COUNTS))[0] for _ in range(2)], [200, 200])
             asked.append(faults.counted(t.room / "count")["connect"])
         t.same([it - asked[0] for it in asked], [0, 0, 0, 0, 1], "further attempts")
@@ -1284,19 +1284,19 @@ def a_copy_is_reported_once_its_folder_is_synced(t):
     t.true(count["sync"] >= 1, "the folder was not synced")
     desk = t.open(faults=faults.environment(count=t.room / "open", only="copies"))
     with t.control() as control:
-        t.true(control.ask("copy copies/second.db").startswith("copied "), "a copy of an open register")
+        t.true(control.ask("copy copies/second.db").startswith("copied "), "the open register is not copied")
     t.true(faults.counted(t.room / "open")["sync"] >= 1, "the folder was not synced before the reply")
     desk.end()
 
 
 @test
 def a_copy_has_one_name_before_its_folder_is_synced(t):
-    """If a file has two names when the machine stops, it is not opened."""
+    """If the machine stopped while the copy had two names, the desk would never open the copy."""
     t.register()
     (t.room / "copies").mkdir()
     with ThreadPoolExecutor(1) as pool:
         ran = pool.submit(t.desk, "copy", "ca.db", "copies/copy.db", faults=faults.environment(slow_open=t.room / "goes-on", only="copies"))
-        authority.until(lambda: (t.room / "goes-on.waits").exists(), "that the desk opens the folder")
+        authority.until(lambda: (t.room / "goes-on.waits").exists(), "the desk to open the folder")
         names = sorted(it.name for it in (t.room / "copies").iterdir())
         (t.room / "goes-on").touch()
         t.same((names, ran.result().status), (["copy.db"], 0), "its names, and the status")
@@ -1304,11 +1304,11 @@ def a_copy_has_one_name_before_its_folder_is_synced(t):
 
 @each({"an audit": ["audit", "ca.db"], "a copy": ["copy", "ca.db", "copy.db"]})
 def a_register_is_locked_before_its_log_is_opened(t, words):
-    """Else another program could copy the log into the file meanwhile, and begin a new one."""
+    """Otherwise another program could meanwhile copy the log into the file, and begin a new log."""
     t.register()
     with ThreadPoolExecutor(1) as pool:
         ran = pool.submit(t.desk, *words, faults=faults.environment(slow_open=t.room / "goes-on", only="ca.db-wal"))
-        authority.until(lambda: (t.room / "goes-on.waits").exists(), "that the desk opens the log")
+        authority.until(lambda: (t.room / "goes-on.waits").exists(), "the desk to open the log")
         other = t.desk("script", "ca.db", "--why", given=f"{DAY} subscriber acme\n")
         (t.room / "goes-on").touch()
         t.same((other.status, other.out, other.err), (1, b"", b"F2 store\n  in use by another program (FILE)\n"), "the other program")
@@ -1317,7 +1317,7 @@ def a_register_is_locked_before_its_log_is_opened(t, words):
 
 @each({"an empty one": b"", "one that begins with a zero": bytes(512)})
 def a_journal_that_has_nothing_to_play_back_is_passed_over(t, octets):
-    """As SQLite does (its file format, 3)."""
+    """SQLite ignores such a journal too (its file format, 3)."""
     t.register()
     (t.room / "ca.db-journal").write_bytes(octets)
     t.same(t.done("audit", "ca.db"), "sound, 0 certificates, 0 revoked, 0 CRLs\n")
@@ -1340,7 +1340,7 @@ def a_register_with_a_second_name_is_not_opened(t, path):
 
 
 def hot_journal():
-    """The head of a rollback journal (SQLite's file format 3), and a page."""
+    """The header of a rollback journal for one page (SQLite's file format 3), without the page."""
     return bytes.fromhex("d9d505f920a163d7 00000001 00000000 00000001 00000200 00001000".replace(" ", "")) + bytes(484)
 
 
@@ -1351,7 +1351,7 @@ def a_second_name(path):
 
 @each({"a URI": "file:ca.db", "a name of SQLite's own": ":memory:"})
 def a_file_whose_name_sqlite_reads_otherwise_is_not_read(t, name):
-    """SQLite would not open the file of that name."""
+    """SQLite would take such a name for something else, and would not open the file."""
     t.register()
     os.rename(t.room / "ca.db", t.room / name)
     for words in (["audit", name], ["copy", name, "copy.db"], ["crl", name]):
@@ -1370,17 +1370,17 @@ JOURNALS = {
 
 @each({f"{what} beside a register{more}": (lay, bool(more)) for what, lay in JOURNALS.items() for more in ("", " with a log")})
 def what_may_be_a_journal_is_not_passed_over(t, lay, has_log):
-    """Only SQLite can play back a rollback journal. A register beside which one may lie is not read, whether it has a log or none."""
+    """Only SQLite can play back a rollback journal. The desk reads no register beside which one may lie, with or without a log."""
     t.register()
     if has_log:
         desk = t.open()
         t.same(t.control().ask("subscriber acme"), "subscriber 1")
         desk.end()
         os.remove(t.room / "counter")
-        t.true((t.room / "ca.db-wal").stat().st_size > 0, "its log")
+        t.true((t.room / "ca.db-wal").stat().st_size > 0, "the register has no log")
     else:
         t.sql("ca.db", "PRAGMA wal_checkpoint(TRUNCATE)")
-        t.true(not (t.room / "ca.db-wal").exists(), "its log is in the file")
+        t.true(not (t.room / "ca.db-wal").exists(), "the register still has a log")
     lay(t.room / "ca.db-journal")
     for words in (["audit", "ca.db"], ["copy", "ca.db", "copy.db"], ["crl", "ca.db"], ["open", "ca.db", "--port", free_port(), "--control", "counter", "--unsigned"]):
         ran = t.desk(*words)
@@ -1395,7 +1395,7 @@ def a_register_behind_a_link_is_read_with_its_own_log(t):
     desk = t.open("folder/ca.db")
     t.same([t.control().ask(f"subscriber {it}") for it in ("acme", "second")], ["subscriber 1", "subscriber 2"])
     desk.end()
-    t.true((t.room / "folder/ca.db-wal").stat().st_size > 0, "its log")
+    t.true((t.room / "folder/ca.db-wal").stat().st_size > 0, "the register has no log")
     (t.room / "link.db").symlink_to("folder/ca.db")
     for what in ("no log", "another register's log"):
         t.same(t.done("copy", "link.db", "copy.db").split()[0], "copied")
@@ -1423,7 +1423,7 @@ def a_log_that_is_a_link_is_not_read(t):
 
 @test
 def a_job_leaves_nothing_in_the_log(t):
-    """At its end the log is copied into the file."""
+    """At its end, the job copies the log into the file."""
     t.register(lines=f"{DAY} subscriber acme\n{DAY} crl\n")
     size = (t.room / "ca.db-wal").stat().st_size
     t.true(size < 4_096, f"the log has {size} bytes, which are a page and more")
@@ -1431,15 +1431,15 @@ def a_job_leaves_nothing_in_the_log(t):
 
 @test
 def a_large_file_is_read_once(t):
-    """The page cache has room for all of it."""
+    """SQLite's page cache has room for the whole file."""
     t.register(lines=f"{DAY} crl\n{DAY} crl\n")
     t.sql("ca.db", "UPDATE crl SET der = zeroblob(12000000) WHERE number = 1")
     desk = t.open(faults=faults.environment(count=t.room / "count", only="ca.db"))
     reads = []
     for _ in range(2):
-        t.true(len(desk.ask("GET", "/crl/1")) > 12_000_000, "its answer")
+        t.true(len(desk.ask("GET", "/crl/1")) > 12_000_000, "the answer is cut off")
         reads.append(faults.counted(t.room / "count")["read"])
-    t.true(reads[1] - reads[0] < reads[0] / 100, f"reads after each answer: {reads}")
+    t.true(reads[1] - reads[0] < reads[0] / 100, f"reads until each answer: {reads}")
 
 
 @test
@@ -1462,7 +1462,7 @@ def a_file_that_a_link_replaces_is_not_read(t, words):
     t.register("other.db", lines=f"{DAY} subscriber other\n")
     with ThreadPoolExecutor(1) as pool:
         ran = pool.submit(t.desk, *words, faults=faults.environment(slow_open=t.room / "replaced", only="ca.db"))
-        authority.until(lambda: (t.room / "replaced.waits").exists(), "that the desk opens it")
+        authority.until(lambda: (t.room / "replaced.waits").exists(), "the desk to open the file")
         os.rename(t.room / "ca.db", t.room / "moved.db")
         (t.room / "ca.db").symlink_to("other.db")
         (t.room / "replaced").touch()
@@ -1471,8 +1471,8 @@ def a_file_that_a_link_replaces_is_not_read(t, words):
 
 @test
 def init_beside_a_log_makes_no_register(t):
-    """Whether a register lies there can't be seen."""
+    """The desk can't find out whether a register lies there, so it creates none."""
     (t.room / "ca.db-wal").write_bytes(b"all that is left of a register")
     ran = t.desk("init", "ca.db", "--name", program.NAME, "--key", program.KEY, faults=faults.environment(fail="stat:1+", only="ca.db"))
     t.same((ran.status, ran.out, ran.err), (1, b"", b"F2 store\n"))
-    t.same(sorted(it.name for it in t.room.iterdir()), ["ca.db-wal"], "what lies there")
+    t.same(sorted(it.name for it in t.room.iterdir()), ["ca.db-wal"], "the files in the folder")

@@ -1,4 +1,4 @@
-"""Lists: the rows of each, by `desk list` and by the pages of an open desk, beside those that the register as plain lists has."""
+"""Lists: `desk list` and the pages of an open desk must give the rows that the model of the register has (tests/model)."""
 
 import csv
 import io
@@ -26,14 +26,14 @@ MOST = 250
 
 
 def played(lines):
-    """The register as plain lists after these lines."""
+    """The model of the register after these lines."""
     register = Register()
     for line in lines.encode().splitlines():
         model_lines.reply(register, line)
     return register
 
 
-# The rows of each list, from the plain lists
+# The rows of each list, by the model
 
 
 def serial_text(serial):
@@ -136,7 +136,7 @@ FIRST, NOW = read(b"2026-01-01T00:00:00Z"), read(b"2026-01-20T12:00:00Z")
 
 
 def entered(count=24):
-    """Lines that register some certificates of all names; some are revoked, ended, asked to be revoked, declined or late."""
+    """Lines that register certificates for subscribers of all names. Certificates expire or are revoked; requests are open, declined or late."""
     told = [f"{text_of(FIRST)} subscriber {name}" for name in NAMES]
     serials = [it * 2**151 + 5 if it % 3 else it + 1 for it in range(count)]
     for at, serial in enumerate(serials):
@@ -172,11 +172,11 @@ def each_list_has_its_rows(t):
             t.same(t.done(*asked(t, word, before, "--now", text_of(now))), as_csv(word, rows), f"{word} as CSV")
             t.same(t.done(*asked(t, word, before, "--now", text_of(now), "--json")), as_lines(rows), f"{word} as JSON")
     for word in WORDS:
-        t.true(rows_of(register, NOW, word), f"no row of {word} came")
-    t.same({it["status"] for it in rows_of(register, NOW, "certificates")}, {"good", "revoked", "expired"}, "statuses that came")
-    # Each state occurs, and of each one a request in time and a late one; a declined request is neither.
+        t.true(rows_of(register, NOW, word), f"the model has no row of {word}")
+    t.same({it["status"] for it in rows_of(register, NOW, "certificates")}, {"good", "revoked", "expired"}, "statuses that occur")
+    # Each state occurs, and each but `declined` with a request in time and a late one.
     requests = rows_of(register, NOW, "requests") + rows_of(register, NOW + 400 * DAY, "requests")
-    t.same({it["state"] for it in requests}, {"open", "declined", "revoked", "expired"}, "states that came")
+    t.same({it["state"] for it in requests}, {"open", "declined", "revoked", "expired"}, "states that occur")
     for state in ("open", "revoked", "expired"):
         t.same({it["lateness"] > 0 for it in requests if it["state"] == state}, {True, False}, f"late and in time, of {state}")
 
@@ -190,7 +190,7 @@ def other_programs_read_a_list(t):
     t.same(rows, [{name: "" if it[name] is None else str(it[name]) for name in OF_CERTIFICATES} for it in wanted], "by Python's csv")
     told = t.done("list", "ca.db", "certificates", "--now", text_of(NOW), "--json").splitlines()
     t.same([json.loads(it) for it in told], [in_fields("certificates", it) for it in wanted], "by Python's json")
-    t.same([it["serial"] for it in wanted], sorted(it["serial"] for it in wanted), "in the order of their text, too")
+    t.same([it["serial"] for it in wanted], sorted(it["serial"] for it in wanted), "serial numbers, in the order of their text")
 
 
 @test
@@ -237,7 +237,7 @@ def is_wanted(word, row, told):
 
 
 def takes(word, told):
-    """The rows of a list that pass the filter."""
+    """Whether a list takes this filter."""
     wanted = {it.removeprefix("--") for it in told}
     return not wanted & {"crls": {"subscriber", "serial"}, "subscribers": {"serial", "from", "to"}, "orders": {"from", "to"}}.get(word, set())
 
@@ -281,8 +281,8 @@ def page(t, desk, word, **told):
     status, lines, body = parted(desk.ask("GET", f"/list/{word}" + (f"?{query}" if query else "")))
     t.same((status, [it for it in lines if it.startswith("Content-Type")]), (200, ["Content-Type: application/json"]), f"{word} {query}")
     it = json.loads(body)
-    t.same(body.decode(), json.dumps(it, separators=(",", ":")), "the form of a page")
-    t.same((list(it), it["list"]), (["list", "next", "rows"], word), "a page")
+    t.same(body.decode(), json.dumps(it, separators=(",", ":")), "the JSON text of a page")
+    t.same((list(it), it["list"]), (["list", "next", "rows"], word), "the fields of a page, and its list")
     return it
 
 
@@ -294,7 +294,7 @@ def pages(t, desk, word, limit, **told):
         rows, counts, behind = [*rows, *it["rows"]], [*counts, len(it["rows"])], it["next"]
         if behind is None:
             return rows, counts
-        t.true(len(counts) < 200, "pages without end")
+        t.true(len(counts) < 200, "the pages do not end")
 
 
 @each({str(it): (it,) for it in (1, 2, 5, 6, 8, 12, 24, 25, 250, 1000)})
@@ -307,7 +307,7 @@ def pages_have_the_rows_of_a_list(t, limit):
         rows, counts = pages(t, desk, word, limit, **told)
         t.same(rows, wanted, f"{word} by {limit}")
         t.true(max(counts) <= limit, f"a page of {word} has {max(counts)} rows")
-    # 24 certificates: where pages meet exactly at the end, one more comes, which has no row.
+    # There are 24 certificates. If the last page is full, an empty page follows.
     rows, counts = pages(t, desk, "certificates", limit)
     t.same(counts, [limit] * (24 // limit) + [24 % limit], "rows of each page")
 
@@ -376,10 +376,10 @@ def what_is_told_may_stand_in_any_order_and_be_quoted(t):
     desk = t.open()
     before = text_of(NOW + 7 * DAY)
     wanted = parted(desk.ask("GET", f"/list/ending?before={before}&limit=3&after=05"))
-    t.true(len(json.loads(wanted[2])["rows"]) in range(4), "a page of three rows at most")
+    t.true(len(json.loads(wanted[2])["rows"]) in range(4), "the page has more than three rows")
     for told in (f"limit=3&after=5&before={before}", f"after=0005&before={before.replace(':', '%3A')}&limit=003", f"%61fter=05&limit=3&before={before}"):
         t.same(parted(desk.ask("GET", f"/list/ending?{told}"))[2], wanted[2], told)
-    t.same(parted(desk.send(b"\r\nGET /list/crls? HTTP/1.0\r\n\r\n"))[2], parted(desk.ask("GET", "/list/crls"))[2], "behind an empty line, and with nothing told")
+    t.same(parted(desk.send(b"\r\nGET /list/crls? HTTP/1.0\r\n\r\n"))[2], parted(desk.ask("GET", "/list/crls"))[2], "after an empty line, with an empty query")
     t.same(len(rows_of(register, NOW, "crls")), 3)
 
 
@@ -391,10 +391,10 @@ def a_key_that_no_row_has_is_a_place_all_the_same(t):
     wanted = [in_fields("certificates", it) for it in rows_of(register, NOW, "certificates")]
     for serial in (1, 2, 100, 2**151, 2**152 + 6, 2**159 - 1):
         it = page(t, desk, "certificates", after=f"{serial:x}")
-        t.same(it["rows"], [row for row in wanted if int(row["serial"], 16) > serial], f"behind {serial:x}")
+        t.same(it["rows"], [row for row in wanted if int(row["serial"], 16) > serial], f"rows after {serial:x}")
     for number in (0, 3, 24, 25, 10**18 - 1):
         it = page(t, desk, "orders", after=number)
-        t.same([row["order"] for row in it["rows"]], [id for id in range(1, 26) if id > number], f"behind {number}")
+        t.same([row["order"] for row in it["rows"]], [id for id in range(1, 26) if id > number], f"rows after {number}")
 
 
 @test

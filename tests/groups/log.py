@@ -1,4 +1,4 @@
-"""The log: one line an exchange, byte for byte, whatever came."""
+"""The log has one line for each exchange, byte for byte, whatever a client sends."""
 
 import re
 import socket
@@ -66,7 +66,7 @@ SIGNERS = {
 
 @each(SIGNERS, seconds=2)
 def a_signature_that_did_not_come_is_the_line_s_last_word(t, answer, failing):
-    """The word is in the line of an OCSP answer that is internalError for lack of a signature, although its HTTP status is 200; and in no other line."""
+    """The word `signer` ends the line of an OCSP answer that is internalError for lack of a signature, with HTTP status 200. No other line has it."""
     t.register(key=program.P256_KEY)
     t.clock(DAY)
     if answer is not None:
@@ -93,20 +93,20 @@ def a_crl_that_nobody_signs_has_the_word_too(t):
 
 @test
 def an_answer_that_the_store_does_not_give_has_no_such_word(t):
-    """This answer is internalError too, because of a row that no register writes."""
+    """The answer is internalError because of a row that the desk never writes. Its line does not have the word `signer`."""
     t.register(lines=f"{DAY} subscriber acme\n{DAY} order 1 398\n{DAY} register 1 05 {DAY} 2026-01-10T00:00:00Z\n")
     t.sql("ca.db", "UPDATE cert SET not_after = -1")
     t.clock(DAY)
     desk = t.open("ca.db", "--log")
-    # A request for its serial number 05 (RFC 6960 A.1).
+    # An OCSP request for serial number 05 (RFC 6960 A.1).
     path = "/ocsp/MGcwZTA%2BMDwwOjAJBgUrDgMCGgUABBRxHTl2ccn6zyJCCVkll5oGmORrEQQUqZk%2BNkcGgWq6PiVxeFDCbJzQ2J0CAQWiIzAhMB8GCSsGAQUFBzABAgQSBBAAAQIDBAUGBwgJCgsMDQ4P"
-    t.same(desk.ask("GET", path).endswith(INTERNAL), True, "internalError")
+    t.same(desk.ask("GET", path).endswith(INTERNAL), True, "whether the answer is internalError")
     (line,) = desk.end().err_lines
     t.true(re.search(r'"HTTP/1\.1 200 OK" \d+ \d+$', line), line)
 
 
 def within(desk, what):
-    """The log, once a line of it ends so."""
+    """The log, once one of its lines ends with this text."""
     authority.until(lambda: any(it.endswith(what) for it in desk.log), f"a line that ends with {what!r}")
     return desk.log
 
@@ -119,8 +119,8 @@ def a_client_that_resets_has_a_line_after_that_of_its_exchange(t):
     with desk.connect() as peer:
         port = peer.getsockname()[1]
         peer.sendall(b"GET /counts")
-        authority.until(lambda: program.is_read(peer), "that it is read")
-        # Closing sends a reset.
+        authority.until(lambda: program.is_read(peer), "the desk to read it")
+        # With this option, close(2) sends a reset.
         peer.setsockopt(socket.SOL_SOCKET, socket.SO_LINGER, b"\1\0\0\0\0\0\0\0")
     told = within(desk, "lost broken")
     t.same([re.sub(r" \d+$", "", it) for it in told], [f'{DAY} 127.0.0.1:{port} "GET /counts" "" 0', f"{DAY} 127.0.0.1:{port} lost broken"])
@@ -141,4 +141,4 @@ def a_control_connection_that_closes_before_its_reply_is_lost(t):
         except TimeoutError:
             pass
     told = within(desk, "control lost broken")
-    t.same([it for it in told if " lost " in it], [f"{DAY} control lost broken"], "what was lost: not the connection that had its reply")
+    t.same([it for it in told if " lost " in it], [f"{DAY} control lost broken"], "lost connections, without the one that had its reply")

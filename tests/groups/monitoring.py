@@ -44,23 +44,23 @@ def metrics(t, desk):
     """Each sample of /metrics, by its series. Checks their form (Prometheus, "Text-based format", version 0.0.4)."""
     status, kind, body = asked(t, desk, "/metrics")
     t.same((status, kind), (200, "text/plain; version=0.0.4; charset=utf-8"))
-    t.true(body.endswith(b"\n"), "it ends with a line's end")
+    t.true(body.endswith(b"\n"), "the body has no line end at its end")
     found, families, family = {}, [], ""
     for line in body.decode().splitlines():
         if told := re.fullmatch(r"# (HELP|TYPE) ([a-z_]+) (.+)", line):
             if told[1] == "HELP":
                 family = told[2]
                 families.append(family)
-            t.same(told[2], family, "a line of type is of the family before it")
+            t.same(told[2], family, "the family of a HELP or TYPE line")
             if told[1] == "TYPE":
-                t.same(told[3] == "counter", family.endswith("_total"), f"{family} is {told[3]}")
+                t.same(told[3] == "counter", family.endswith("_total"), f"whether {family} is a counter: its type is {told[3]}")
             continue
         one = re.fullmatch(r"([a-z_]+)(\{[a-z_]+=\"[^\"]*\"(?:,[a-z_]+=\"[^\"]*\")*\})? (\d+(?:\.\d+)?)", line)
-        t.true(one and re.fullmatch(re.escape(family) + "(_bucket|_sum|_count)?", one[1]), f"a sample of {family}: {line!r}")
+        t.true(one and re.fullmatch(re.escape(family) + "(_bucket|_sum|_count)?", one[1]), f"not a sample of {family}: {line!r}")
         series = one[1] + (one[2] or "")
-        t.true(series not in found, f"{series} twice")
+        t.true(series not in found, f"{series} occurs twice")
         found[series] = float(one[3])
-    t.same(len(families), len(set(families)), "each family once")
+    t.same(len(families), len(set(families)), "the number of families, and of different ones")
     return found
 
 
@@ -82,7 +82,7 @@ def a_register_that_was_just_made(t):
     t.same(of(found, "desk_crl"), {"_number": 0, "_due_timestamp_seconds": 0})
     t.same({value for series, value in found.items() if series.startswith(("desk_certificates", "desk_requests_o", "desk_sign", "desk_lines", "desk_store"))}, {0})
     t.same(found["desk_register_readable"], 1)
-    t.same(of(found, "desk_http_responses_total"), {}, "no answer yet: this one is counted behind itself")
+    t.same(of(found, "desk_http_responses_total"), {}, "answers by route: an answer is counted once it is made, so this one is not")
     version = t.done("--version").split()[-1]
     t.same(of(found, "desk_build_info"), {f'{{version="{version}"}}': 1})
     t.same(of(found, "desk_ocsp_internal_errors_total"), {'{cause="signer"}': 0, '{cause="store"}': 0})
@@ -120,7 +120,7 @@ def requests_are_counted_once_a_minute(t):
     t.same(told(), {"open": 1, "overdue": 0, "counted_timestamp_seconds": FIRST + 60}, "a minute later")
     t.done("at", "counter", given="revoke 1\n")
     t.clock(program.moment_of(FIRST + 120))
-    t.same(told()["open"], 0, "one that was granted is open no more")
+    t.same(told()["open"], 0, "open requests after the only one was granted")
 
 
 @test
@@ -130,7 +130,7 @@ def a_clock_that_is_set_back(t):
     t.clock(program.moment_of(FIRST - 90))
     found = metrics(t, desk)
     t.same((found["desk_clock_behind_seconds"], found["desk_register_readable"]), (90, 0))
-    t.same([it for it in found if it.startswith(("desk_certificates", "desk_crl", "desk_last"))], [], "what the register has is left out")
+    t.same([it for it in found if it.startswith(("desk_certificates", "desk_crl", "desk_last"))], [], "metrics of the register, which are left out")
 
 
 @test
@@ -165,12 +165,12 @@ def lines_connections_and_seconds(t):
     t.same((found['desk_connections{at="port"}'], found['desk_connections{at="counter"}'], found["desk_connections_accepted_total"]), (1, 1, 2))
     seconds = of(found, "desk_exchange_seconds")
     ranges = [seconds[f'_bucket{{le="{it}"}}'] for it in ENDS]
-    t.same(ranges, sorted(ranges), "each range has those below it")
-    t.same((ranges[-1], seconds["_count"]), (5, 5), "four lines and an answer")
-    t.true(0 < seconds["_sum"] < 60, f"their sum: {seconds['_sum']}")
+    t.same(ranges, sorted(ranges), "the buckets, each of which includes those below it")
+    t.same((ranges[-1], seconds["_count"]), (5, 5), "exchanges: four lines and one answer")
+    t.true(0 < seconds["_sum"] < 60, f"the sum of their seconds: {seconds['_sum']}")
     by_route = of(found, "desk_http_response_seconds")
     t.same({it: value for it, value in by_route.items() if it.startswith("_count") and value}, {'_count{route="/counts"}': 1})
-    t.true(0 < by_route['_sum{route="/counts"}'] < seconds["_sum"], f"the answer's: {by_route}")
+    t.true(0 < by_route['_sum{route="/counts"}'] < seconds["_sum"], f"the seconds of /counts, and of other routes: {by_route}")
     for path in ("/counts", "/nowhere"):
         desk.ask("GET", path)
     by_route = of(metrics(t, desk), "desk_http_response_seconds")
@@ -184,8 +184,8 @@ def a_reset_connection_is_counted_as_lost(t):
     desk = opened(t)
     with desk.connect() as peer:
         peer.sendall(b"GET /counts")
-        authority.until(lambda: program.is_read(peer), "that it is read")
-        # Closing sends a reset.
+        authority.until(lambda: program.is_read(peer), "the desk to read it")
+        # With this option, close(2) sends a reset.
         peer.setsockopt(1, 13, b"\1\0\0\0\0\0\0\0")
     wanted = {'{why="broken"}': 1, '{why="late"}': 0, '{why="crowded"}': 0, '{why="memory"}': 0}
     authority.until(lambda: of(metrics(t, desk), "desk_connections_lost_total") == wanted, "the lost connection")
@@ -193,7 +193,7 @@ def a_reset_connection_is_counted_as_lost(t):
 
 @test(seconds=2)
 def an_ocsp_answer_is_counted_that_the_store_failed(t):
-    """A sync that fails shuts the register: from then on each answer is internalError."""
+    """After a failed sync the desk closes the register. From then on each OCSP answer is internalError."""
     t.register()
     t.clock(DAY)
     t.open("ca.db", faults=faults.environment(count=t.room / "usual")).end()
@@ -206,7 +206,7 @@ def an_ocsp_answer_is_counted_that_the_store_failed(t):
 
 @test(seconds=2)
 def signatures_and_failures(t):
-    """Of CRLs and of OCSP answers each by itself, since when the last one did not come."""
+    """The metrics count signatures and failures of CRLs and of OCSP answers separately. They also say since when each kind has failed."""
     fails = set()
     t.signer(answer=lambda message, call: None if call in fails else ANY_SIGNATURE)
     desk = opened(t, *SIGNING, key=program.P256_KEY)
@@ -214,27 +214,27 @@ def signatures_and_failures(t):
     both = lambda crl, ocsp: {'{of="crl"}': crl, '{of="ocsp"}': ocsp}
     fails.update({1, 4, 5})
     desk.ask("POST", "/ocsp", OCSP)
-    t.same(signs(), [both(0, 0), both(0, 1), both(0, 0), both(0, FIRST), both(0, FIRST)], "an answer that nobody signed")
+    t.same(signs(), [both(0, 0), both(0, 1), both(0, 0), both(0, FIRST), both(0, FIRST)], "after an answer without a signature")
     t.same(health(t, desk), (503, {"crl": "at-once", "ocsp_signer": DAY}))
     t.same(of(metrics(t, desk), "desk_ocsp_internal_errors_total"), {'{cause="signer"}': 1, '{cause="store"}': 0})
     t.clock(program.moment_of(FIRST + 1))
     t.done("at", "counter", given="crl\n")
-    t.same(signs(), [both(1, 0), both(0, 1), both(FIRST + 1, 0), both(0, FIRST), both(0, FIRST)], "and a CRL")
+    t.same(signs(), [both(1, 0), both(0, 1), both(FIRST + 1, 0), both(0, FIRST), both(0, FIRST)], "after a signed CRL")
     desk.ask("POST", "/ocsp", OCSP)
     desk.ask("POST", "/ocsp", b"abc")
-    t.same(signs(), [both(1, 1), both(0, 1), both(FIRST + 1, FIRST + 1), both(0, FIRST), both(0, 0)], "an answer; one that refuses is not signed")
+    t.same(signs(), [both(1, 1), both(0, 1), both(FIRST + 1, FIRST + 1), both(0, FIRST), both(0, 0)], "after a signed answer and a malformedRequest")
     t.same(health(t, desk), (200, {}))
-    t.same(of(metrics(t, desk), "desk_ocsp_internal_errors_total"), {'{cause="signer"}': 1, '{cause="store"}': 0}, "neither is internalError")
+    t.same(of(metrics(t, desk), "desk_ocsp_internal_errors_total"), {'{cause="signer"}': 1, '{cause="store"}': 0}, "no further internalError")
     for later in (2, 3):
         t.clock(program.moment_of(FIRST + later))
         t.same(t.desk("at", "counter", given="crl\n").lines, ["F3 signer"])
-    t.same(signs(), [both(1, 1), both(2, 1), both(FIRST + 1, FIRST + 1), both(FIRST + 3, FIRST), both(FIRST + 2, 0)], "two CRLs that nobody signed")
+    t.same(signs(), [both(1, 1), both(2, 1), both(FIRST + 1, FIRST + 1), both(FIRST + 3, FIRST), both(FIRST + 2, 0)], "after two CRLs failed")
     t.same(health(t, desk), (503, {"crl_signer": program.moment_of(FIRST + 2)}))
 
 
 @test
 def a_crl_with_a_placeholder_digest_and_a_new_signer(t):
-    """The next CRL is due at once where the latest has a placeholder digest and the desk has a signer; and not where it has none."""
+    """If the latest CRL has a placeholder digest, the next one is due at once for a desk with a signer, and not for one without."""
     t.register(lines=f"{DAY} subscriber acme\n{DAY} crl\n", key=program.P256_KEY)
     signer = t.signer()
     why = "why CRL 1 has a placeholder digest: the next one is due at once"
@@ -256,7 +256,7 @@ def a_crl_with_a_placeholder_digest_and_a_new_signer(t):
         desk.end()
     t.same(len(signer.asked), 1, "signatures")
     desk = t.open("ca.db", *SIGNING)
-    t.same(health(t, desk), (200, {}), "opened again: the latest CRL is signed")
+    t.same(health(t, desk), (200, {}), "opened again, now that the latest CRL is signed")
 
 
 @test
@@ -264,16 +264,16 @@ def an_ocsp_line_at_the_control_socket_is_signed_too(t):
     t.signer(answer=lambda message, call: None if call == 2 else ANY_SIGNATURE)
     desk = opened(t, *SIGNING, key=program.P256_KEY)
     with t.control() as control:
-        t.true(len(control.ask(f"ocsp {OCSP.hex()}")) > 100, "signed")
-        t.same(control.ask(f"ocsp {OCSP.hex()}"), "ocsp 30030a0102", "not signed")
-        t.same(control.ask("ocsp 00"), "ocsp 30030a0101", "none")
+        t.true(len(control.ask(f"ocsp {OCSP.hex()}")) > 100, "the reply has no signature")
+        t.same(control.ask(f"ocsp {OCSP.hex()}"), "ocsp 30030a0102", "internalError, since the signer fails")
+        t.same(control.ask("ocsp 00"), "ocsp 30030a0101", "malformedRequest, which is not signed")
     found = metrics(t, desk)
     t.same((found['desk_signatures_total{of="ocsp"}'], found['desk_signature_failures_total{of="ocsp"}'], found['desk_signature_failures_total{of="crl"}']), (1, 1, 0))
 
 
 @test(seconds=3)
 def an_answer_that_waits_for_its_signature(t):
-    """It is counted when it is made, by its request, and with all the time that it took."""
+    """The answer is counted once it is made, under the route of its request, and with all the time that it took."""
     release = threading.Event()
     t.callback(release.set)
     signers = t.enter_context(Signers(t.room / "ca.sign", lambda message: (release.wait(60), ANY_SIGNATURE)[1]))
@@ -281,38 +281,38 @@ def an_answer_that_waits_for_its_signature(t):
     begun = time.monotonic()
     with ThreadPoolExecutor(1) as pool:
         waits = pool.submit(desk.ask, "POST", "/ocsp", OCSP)
-        t.true(signers.until(1), "a signature is asked for")
+        t.true(signers.until(1), "no signature is requested")
         time.sleep(0.4)
         found = metrics(t, desk)
-        t.same((of(found, "desk_http_responses_total"), found["desk_exchange_seconds_count"]), ({}, 0), "while it waits")
+        t.same((of(found, "desk_http_responses_total"), found["desk_exchange_seconds_count"]), ({}, 0), "while the answer waits")
         release.set()
         waits.result()
     found = metrics(t, desk)
     t.same(of(found, "desk_http_responses_total"), {'{route="/ocsp",code="200"}': 1, '{route="/metrics",code="200"}': 1})
     t.same((found['desk_signatures_total{of="ocsp"}'], found['desk_signature_failures_total{of="ocsp"}']), (1, 0))
-    t.true(0.4 <= found["desk_exchange_seconds_sum"] <= 2 * (time.monotonic() - begun), f"the seconds of both: {found['desk_exchange_seconds_sum']}")
+    t.true(0.4 <= found["desk_exchange_seconds_sum"] <= 2 * (time.monotonic() - begun), f"seconds of both: {found['desk_exchange_seconds_sum']}")
 
 
 @test
 def a_disk_that_fails(t):
-    """Until a command is entered: queries don't show whether the disk can be written."""
+    """/health reports the failing store until a command is entered. A query does not end this, since it writes nothing."""
     base, files = t.register("base.db"), "ca.db-wal,ca.db"
     t.clock(DAY)
     faults.copy(base, t.room / "ca.db")
     t.open("ca.db", faults=faults.environment(count=t.room / "count", only=files)).end()
     (t.room / "counter").unlink(missing_ok=True)
     faults.copy(base, t.room / "ca.db")
-    # The first write behind those of the opening.
+    # The first write after those of the opening fails.
     desk = t.open("ca.db", faults=faults.environment(only=files, fail=f"write:{faults.counted(t.room / 'count')['write'] + 1}"))
     with t.control() as control:
         t.same(control.ask("subscriber acme"), "F2 store")
         t.same(health(t, desk), (503, {"crl": "at-once", "store": DAY}))
         t.clock(program.moment_of(FIRST + 5))
         t.same(control.ask("counts"), "good 0 revoked 0 expired 0")
-        t.same(health(t, desk), (503, {"crl": "at-once", "store": DAY}), "a query was answered")
+        t.same(health(t, desk), (503, {"crl": "at-once", "store": DAY}), "after a query")
         t.same(metrics(t, desk)["desk_store_failing_since_timestamp_seconds"], FIRST)
         t.same(control.ask("subscriber acme"), "subscriber 1")
-    t.same(health(t, desk), (503, {"crl": "at-once"}), "a command was entered")
+    t.same(health(t, desk), (503, {"crl": "at-once"}), "after a command was entered")
 
 
 @test
@@ -333,7 +333,7 @@ def it_changes_nothing(t):
     for path in ("/metrics", "/health"):
         asked(t, desk, path)
     t.clock("2026-01-02T00:00:00Z")
-    t.same(t.done("at", "counter", given="order 1 90\n"), "order 1\n", "a command before the moment at which it was asked")
+    t.same(t.done("at", "counter", given="order 1 90\n"), "order 1\n", "a command at an earlier moment than that of the two requests")
 
 
 # ---- Prometheus
@@ -354,7 +354,7 @@ rule_files: [{rules}]
 evaluation_interval: 1m
 tests:
 """
-# Series over the minutes, and the alerts of which one is there after an hour.
+# Series with a value for each minute, and the alerts that fire after 59 minutes.
 CASES = {
     "all is well": (["desk_requests_overdue{job='desk'} 0x60", "up{job='desk'} 1x60", "desk_clock_behind_seconds 0x60", "desk_signer_failing_since_timestamp_seconds{of='crl'} 0x60",
                      "desk_clock_timestamp_seconds 0+60x60", "desk_crl_due_timestamp_seconds 604800x60"], []),
@@ -441,8 +441,8 @@ def a_real_prometheus_scrapes_it(t):
         with contextlib.suppress(Failed):
             authority.until(has_scraped, "a scrape")
         t.same(got, wanted, f"what it has after a scrape; it said {(t.room / 'prometheus.log').read_text()[-1000:]}")
-        t.true(abs(float(value_of(port, "desk_clock_timestamp_seconds - timestamp(desk_clock_timestamp_seconds)"))) < 10, "both clocks")
-        t.same(value_of(port, 'count({__name__=~"desk_.+"}) > bool 40'), "1", "how many series it has")
+        t.true(abs(float(value_of(port, "desk_clock_timestamp_seconds - timestamp(desk_clock_timestamp_seconds)"))) < 10, "the two clocks differ")
+        t.same(value_of(port, 'count({__name__=~"desk_.+"}) > bool 40'), "1", "whether it has more than 40 series")
 
 
 def value_of(port, query):

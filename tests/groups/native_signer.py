@@ -1,5 +1,5 @@
 """The native signer, signer/desk-signer: signatures that openssl verifies, keys in files and tokens, the messages that it refuses (the same as
-examples/only_ours.py), clients of any manner, and how it is confined. The last tests have it sign for the desk."""
+examples/only_ours.py), slow and broken clients, and how it is confined. The last tests have it sign for the desk."""
 
 import copy
 import fcntl
@@ -40,14 +40,14 @@ def filter_module():
 
 def verifies(t, it, message, signed, what=""):
     filter_ = filter_module()
-    t.true(filter_.is_verified(signed, message, filter_.issuer_of(it.pem)), f"openssl verifies the signature of {what or message[:40]!r}: {signed.hex()}")
+    t.true(filter_.is_verified(signed, message, filter_.issuer_of(it.pem)), f"openssl rejects the signature of {what or message[:40]!r}: {signed.hex()}")
 
 
 # Messages as the desk writes them, by hand
 
 
 def crl_by_hand(issuer, serials=(b"\x05", b"\0\x80", b"\x7f" + bytes(19)), identifier=None):
-    """A TBSCertList with these serial numbers; every second one has a reason, and every third one is of 2050."""
+    """A TBSCertList with these serial numbers; every second one has a reason, and every third one was revoked in 2050."""
     rows = b"".join(
         tlv(SEQUENCE, tlv(INTEGER, it), tlv(GENERAL, b"20500101000000Z") if at % 3 == 2 else tlv(UTC, b"260101000000Z"),
             bytes.fromhex("300C300A0603551D150403") + b"\x0A\x01\x01" if at % 2 else b"")
@@ -81,7 +81,7 @@ def named_messages(issuer):
 
 
 def values_octets(printed):
-    """The SEQUENCE in what openssl printed, which may have a line about what it does before it or behind it."""
+    """The SEQUENCE in the output of openssl, which may also print a line of text before or after it."""
     begin = printed.index(b"\x30\x77")
     return printed[begin : begin + 0x79]
 
@@ -97,7 +97,7 @@ def openssl_verifies_what_it_signs(t, algorithm):
     t.same((t.room / "ca.sign").stat().st_mode & 0o777, 0o600, "the socket's mode")
     for message in (b"", b"a", bytes(150), random.Random(1).randbytes(4095), bytes(4096), random.Random(2).randbytes(5_000_000)):
         signed = signature(t.room / "ca.sign", message)
-        t.true(0 < len(signed) <= 4096, f"{len(message)} bytes are signed")
+        t.true(0 < len(signed) <= 4096, f"the signature of {len(message)} bytes has {len(signed)} bytes")
         # openssl verifies no Ed25519 signature of an empty file.
         if message or algorithm != "ed25519":
             verifies(t, it, message, signed)
@@ -120,7 +120,7 @@ def a_key_of_another_algorithm(t, *key):
 
 @test(seconds=2)
 def a_key_whose_signatures_don_t_verify(t):
-    """Its private key is another one than that of its public key: with --only-ours this is noticed at the start."""
+    """The private key in the file does not belong to its public key. With --only-ours the signer notices this at its start."""
     it = Authority(t)
     whole = bytearray(values_octets(t.tool("openssl", "ec", "-in", it.key, "-outform", "DER")))
     # ECPrivateKey (RFC 5915 3): the private key has 32 octets behind the version.
@@ -133,14 +133,14 @@ def a_key_whose_signatures_don_t_verify(t):
 
 
 def with_wrong_libcrypto():
-    """Words before those of the signer: libcrypto changes each signature, and ends the process where a nonce is drawn ahead (tests/wrong_libcrypto.c)."""
+    """Words before those of the signer: libcrypto changes each signature, and ends a process that draws a nonce ahead (tests/wrong_libcrypto.c)."""
     native.need_libcrypto()
     return ["env", f"LD_PRELOAD={native.made('wrong_libcrypto.so', 'cc', '-shared', '-fPIC', '-O2', TESTS / 'wrong_libcrypto.c', '-ldl', '-o')}"]
 
 
 @each(ALGORITHMS, seconds=2)
 def signatures_that_don_t_verify(t, algorithm):
-    """With --only-ours the signer notices them, and gives none away."""
+    """With --only-ours the signer notices them at its start, and fails."""
     it = Authority(t, algorithm)
     ran = t.tried(*with_wrong_libcrypto(), native.signer(), "--only-ours", it.pem, it.key)
     t.same((ran.returncode, ran.stdout), (1, b""), "status and output")
@@ -150,14 +150,14 @@ def signatures_that_don_t_verify(t, algorithm):
 
 @test(seconds=2)
 def with_fresh_nonces_none_is_drawn_ahead(t):
-    """Where one is drawn, the process ends, as it does without the option."""
+    """libcrypto ends a process that draws a nonce ahead, as the signer without the option does."""
     it = Authority(t)
     drawing = started(t, it.key, path="drawing.sign", before=with_wrong_libcrypto())
     fresh = started(t, "--fresh-nonces", it.key, path="fresh.sign", before=with_wrong_libcrypto())
-    t.true(signature(t.room / "drawing.sign", b"a message") != b"", "the one that draws nonces signs")
-    authority.until(lambda: drawing.poll() is not None, "that it draws a nonce")
+    t.true(signature(t.room / "drawing.sign", b"a message") != b"", "the signer without the option gives no signature")
+    authority.until(lambda: drawing.poll() is not None, "the signer without the option to draw a nonce")
     for _ in range(2):
-        t.true(signature(t.room / "fresh.sign", b"a message") != b"", "the other one signs")
+        t.true(signature(t.room / "fresh.sign", b"a message") != b"", "the signer with the option gives no signature")
         # Time in which it could draw a nonce.
         time.sleep(0.3)
     t.same(ended(fresh), (0, []), "its status and standard error")
@@ -189,7 +189,7 @@ def a_command_line_that_can_t_be_read(t):
 
 @test(seconds=3)
 def files_that_are_pipes_or_too_long(t):
-    """A key and a passphrase that come in parts through pipes are read whole; of longer files nothing is used."""
+    """The signer reads a key and a passphrase whole that come in parts through pipes. It refuses files that are too long."""
     it = Authority(t)
     t.tool("openssl", "pkcs8", "-topk8", "-in", it.key, "-passout", "pass:a word", "-out", "locked.key")
     key = (t.room / "locked.key").read_bytes()
@@ -253,7 +253,7 @@ def occurrences(process, octets):
 
 @each(ALGORITHMS, seconds=12)
 def it_refuses_what_only_ours_py_refuses(t, algorithm):
-    """Each message by its name, at the socket: signed if examples/only_ours.py accepts it, and else refused with a reason."""
+    """The signer signs each message that examples/only_ours.py accepts, and refuses all others with a reason."""
     filter_, it = filter_module(), Authority(t, algorithm)
     issuer = filter_.issuer_of(it.pem)
     process = started(t, "--only-ours", it.pem, it.key)
@@ -268,7 +268,7 @@ def it_refuses_what_only_ours_py_refuses(t, algorithm):
             refused.append(f"{NAME}refused to sign {len(message)} bytes")
     status, told = ended(process)
     t.same((status, [": ".join(line.split(": ")[:2]) for line in told]), (0, refused), "a line for each refusal")
-    t.true(len(refused) > 50, f"{len(refused)} are refused")
+    t.true(len(refused) > 50, f"only {len(refused)} messages are refused")
 
 
 def is_accepted(filter_, message, issuer, responder=None):
@@ -287,7 +287,7 @@ def checker(name="only-ours", *words):
 
 
 def accepted(t, messages, it, responder=None):
-    """Of each message, whether signer/only_ours.c accepts it."""
+    """For each message, whether signer/only_ours.c accepts it."""
     given = b"".join(struct.pack(">I", len(message)) + message for message in messages)
     more = {"RESPONDER": str(responder.pem)} if responder else {}
     told = t.tool(checker(), given=given, env={"CA": str(it.pem), **more}).decode()
@@ -326,7 +326,7 @@ def changed(message, dice):
 
 @each(ALGORITHMS, seconds=6)
 def each_octet_is_changed(t, algorithm):
-    """All changes of one bit, all shortenings, and some thousand changes: the program accepts what examples/only_ours.py accepts."""
+    """All changes of one bit, all shortenings, and some thousand changes: signer/only_ours.c accepts what examples/only_ours.py accepts."""
     it = Authority(t, algorithm)
     issuer = filter_module().issuer_of(it.pem)
     messages, dice = list(named_messages(issuer).values()), random.Random(59)
@@ -383,7 +383,7 @@ def with_other_values(message, dice):
 
 @each(ALGORITHMS, seconds=8)
 def each_value_is_changed(t, algorithm):
-    """As each_octet_is_changed, with lengths that fit: changes reach all checks."""
+    """As in each_octet_is_changed, but all lengths stay right, so that the changes reach all checks."""
     it = Authority(t, algorithm)
     issuer, dice = filter_module().issuer_of(it.pem), random.Random(62)
     messages = [with_other_values(message, dice) for message in ours(issuer) for _ in range(1500)]
@@ -393,8 +393,8 @@ def each_value_is_changed(t, algorithm):
 
 @test(seconds=6)
 def certificates_of_other_forms(t):
-    """The key identifier of the certificate is another one than the SHA-1, too long, or absent; the subject is long, and the keyUsage is no BIT STRING;
-    the certificate is in DER."""
+    """The key identifier of the CA certificate is not the SHA-1, is too long, or is absent. Another certificate has a long subject and a keyUsage
+    that is no BIT STRING, and is also read in DER."""
     identifiers = {"another": "01:02:03", "of 64": ":".join(["AB"] * 64), "too long": ":".join(["AB"] * 65), "absent": "none"}
     for name, identifier in identifiers.items():
         it = Authority(t, name=name.replace(" ", "-"))
@@ -418,7 +418,7 @@ def authority_key_identifier(count):
 
 @test(seconds=6)
 def a_responder_signs_its_answers_alone(t):
-    """As examples/only_ours.py --responder: no CRL, no answer of the CA's key, and only `unknown` about another issuer's certificates."""
+    """With --responder, the signer refuses CRLs and answers of the CA's key. About another issuer's certificates, it signs only `unknown`."""
     filter_, it, responder = filter_module(), Authority(t), Authority(t, name="ocsp", subject="/CN=R")
     issuer, theirs = filter_.issuer_of(it.pem), filter_.issuer_of(responder.pem)
     process = started(t, "--only-ours", it.pem, "--responder", responder.pem, responder.key)
@@ -427,7 +427,7 @@ def a_responder_signs_its_answers_alone(t):
     for refused in (crl_by_hand(issuer), answer_by_hand(issuer), crl_by_hand(theirs), answer_by_hand(theirs)):
         t.same(signature(path, refused), b"", f"{refused.hex()} is refused")
     dice = random.Random(60)
-    t.true(compared(t, [message, *ours(issuer), *ours(theirs), *(changed(message, dice) for _ in range(3000))], it, responder) > 1, "some are accepted")
+    t.true(compared(t, [message, *ours(issuer), *ours(theirs), *(changed(message, dice) for _ in range(3000))], it, responder) > 1, "too few accepted")
     t.has("\n".join(ended(process)[1]), "refused to sign ")
 
 
@@ -450,7 +450,7 @@ def a_certificate_of_another_key_is_not_taken(t):
 
 @test(seconds=3)
 def a_crl_of_many_entries(t):
-    """Some megabytes, signed whole and in time; with its last entry cut short it is refused."""
+    """The signer signs a CRL of some megabytes whole and in time. It refuses the CRL with reason 0 in one entry."""
     it = Authority(t)
     issuer = filter_module().issuer_of(it.pem)
     started(t, "--only-ours", it.pem, it.key)
@@ -458,7 +458,7 @@ def a_crl_of_many_entries(t):
     with t.at_once("a signature, for which the desk waits for ten seconds"):
         signed = signature(t.room / "ca.sign", message)
     verifies(t, it, message, signed, "a long CRL")
-    t.same(signature(t.room / "ca.sign", message.replace(b"\x0A\x01\x01\x30", b"\x0A\x01\x00\x30", 1)), b"", "one with reason 0")
+    t.same(signature(t.room / "ca.sign", message.replace(b"\x0A\x01\x01\x30", b"\x0A\x01\x00\x30", 1)), b"", "the CRL with reason 0 in one entry")
 
 
 # Clients
@@ -483,7 +483,7 @@ def a_slow_client_blocks_nobody(t):
                 t.true(signature(path, b"a message") != b"", "another client has no signature")
             silent.settimeout(0.3)
             try:
-                t.same(silent.recv(1), b"", "the bytes that a slow client gets")
+                t.same(silent.recv(1), b"", "the bytes that the silent client gets")
                 open_ones.discard(silent)
             except socket.timeout:
                 pass
@@ -507,7 +507,7 @@ def clients_that_end_early(t):
         if ends == "close" or ends == "half" and not octets:
             client.close()
         verifies(t, it, message, signature(path, message), f"a message beside a client with {len(octets)} bytes that {ends}s")
-    t.true(all(line.startswith((f"{NAME}refused to sign ", f"{NAME}a connection failed: ")) for line in ended(process)[1]), "standard error")
+    t.true(all(line.startswith((f"{NAME}refused to sign ", f"{NAME}a connection failed: ")) for line in ended(process)[1]), "there is another line")
 
 
 @test(seconds=6)
@@ -517,14 +517,14 @@ def a_message_of_64_mib_and_one_that_is_longer(t):
     path, message = t.room / "ca.sign", bytes(64 << 20)
     signed = signature(path, message)
     verifies(t, it, message, signed, "64 MiB")
-    t.same(signature(path, message + b"\0"), b"", "a byte more")
+    t.same(signature(path, message + b"\0"), b"", "the signature of a message that is a byte longer")
     with connected(path) as client:
         try:
             while client.send(bytes(1 << 20)):
                 pass
         except (BrokenPipeError, ConnectionResetError):
             pass
-    t.true(signature(path, b"a message") != b"", "it goes on")
+    t.true(signature(path, b"a message") != b"", "the signer gives no signature afterwards")
     t.same(ended(process), (0, [f"{NAME}a connection failed: its message is longer than 64 MiB"] * 2), "standard error")
 
 
@@ -548,7 +548,7 @@ def two_hundred_clients_at_once(t, count):
 
 @test(seconds=3)
 def the_slowest_of_256_makes_room(t):
-    """The signer closes a slow connection only if another client comes, and the oldest one first."""
+    """With 256 open connections, the signer closes one only if another client connects: the oldest one whose message is incomplete."""
     it = Authority(t)
     process = started(t, it.key)
     clients = [connected(t.room / "ca.sign") for _ in range(256)]
@@ -556,7 +556,7 @@ def the_slowest_of_256_makes_room(t):
         client.sendall(b"a")
     for client in clients[1:]:
         client.sendall(b"b")
-    t.true(signature(t.room / "ca.sign", b"a message") != b"", "the 257th is served")
+    t.true(signature(t.room / "ca.sign", b"a message") != b"", "the 257th client gets no signature")
     gone = []
     for at, client in enumerate(clients):
         try:
@@ -571,7 +571,8 @@ def the_slowest_of_256_makes_room(t):
 
 @test(seconds=4)
 def a_rate(t):
-    """Twenty a second, in two processes: 30 signatures take at least 1.45 s, and 11 after a pause at least 0.5 s. Refused messages don't count, and the signer doesn't sign for a client that has disconnected."""
+    """At --rate 20 with two processes, 30 signatures take at least 1.45 s, and 11 after a pause at least 0.5 s. Refused messages don't count, and the
+    signer doesn't sign for a client that has disconnected."""
     it = Authority(t)
     message = answer_by_hand(filter_module().issuer_of(it.pem))
     process = started(t, "--rate", 20, "--processes", 2, "--only-ours", it.pem, it.key)
@@ -593,44 +594,44 @@ def a_rate(t):
     t.same([it for it in (signature(path, message) for _ in range(11)) if not it], [], "clients without a signature after a pause")
     waited = time.monotonic() - began
     t.true(waited >= 0.5, f"11 signatures after a pause took {waited:.2f} s")
-    t.same(len(ended(process)[1]), 1, "lines that are told")
+    t.same(len(ended(process)[1]), 1, "lines on standard error")
 
 
 @test(seconds=3)
 def a_rate_goes_on_though_the_clock_is_set_back(t):
-    """By a day, between two signatures."""
+    """The clock is set back by a day between two signatures."""
     it = Authority(t)
     (t.room / "clock").write_text("1800000000")
     started(t, "--rate", 20, it.key, before=["env", f"LD_PRELOAD={os.environ['DESK_FAULTS_LIBRARY']}", f"FAULTS_CLOCK={t.room / 'clock'}"])
-    t.true(signature(t.room / "ca.sign", b"a message") != b"", "a signature before")
+    t.true(signature(t.room / "ca.sign", b"a message") != b"", "there is no signature before the clock is set back")
     (t.room / "clock").write_text("1799913600")
-    t.true(signature(t.room / "ca.sign", b"a message") != b"", "a signature behind it")
+    t.true(signature(t.room / "ca.sign", b"a message") != b"", "there is no signature after the clock was set back")
 
 
 @test(seconds=4)
 def clients_that_disconnect_together_take_no_other_connection(t):
-    """Eight clients wait for their turn at two signatures a second. The signer notices at once that four have gone, and signs for the others."""
+    """Eight clients wait for their turn at two signatures a second. The signer notices at once that four disconnect, and signs for the others."""
     it = Authority(t)
     process = started(t, "--rate", 2, it.key)
-    t.true(signature(t.room / "ca.sign", b"a message") != b"", "the first signature")
+    t.true(signature(t.room / "ca.sign", b"a message") != b"", "the first client gets no signature")
     clients = [t.enter_context(connected(t.room / "ca.sign")) for _ in range(8)]
     for client in clients:
         client.settimeout(20)
         client.sendall(b"a message")
         client.shutdown(socket.SHUT_WR)
-        authority.until(lambda: program.is_read(client), "that its message is read")
+        authority.until(lambda: program.is_read(client), "the signer to read its message")
     process.send_signal(signal.SIGSTOP)
     for client in clients[::2]:
         client.close()
     process.send_signal(signal.SIGCONT)
     for at in range(1, 8, 2):
-        t.true(program.read_all(clients[at]) != b"", f"the signature of client {at}")
+        t.true(program.read_all(clients[at]) != b"", f"client {at} gets no signature")
     t.same(ended(process)[0], 0, "its status")
 
 
 @test(seconds=4)
 def the_oldest_client_is_signed_for_first(t):
-    """Five a second: all clients have sent their messages before the second signature."""
+    """At --rate 5, all clients have sent their messages before the second signature."""
     it = Authority(t)
     started(t, "--rate", 5, it.key)
     clients = [connected(t.room / "ca.sign") for _ in range(6)]
@@ -640,7 +641,7 @@ def the_oldest_client_is_signed_for_first(t):
     came, waiting = [], list(clients)
     while waiting:
         for client in select.select(waiting, [], [])[0]:
-            t.true(program.read_all(client), "a signature")
+            t.true(program.read_all(client), "a client gets no signature")
             came.append(clients.index(client))
             waiting.remove(client)
     t.same(came, list(range(6)), "the order in which they got signatures")
@@ -648,53 +649,53 @@ def the_oldest_client_is_signed_for_first(t):
 
 @test(seconds=4)
 def what_long_messages_take_is_given_back(t):
-    """Forty of 4 MiB and more: for each the signer makes room for 16 MiB, of which it has 512 MiB in all."""
+    """For each of forty messages of more than 4 MiB the signer allocates 16 MiB. It may have 512 MiB in all, so it must free them."""
     it = Authority(t)
     process = started(t, it.key)
     size = lambda: int(status_of(process.pid)["VmSize"].split()[0])
     before, message = size(), bytes((4 << 20) + 1)
     for at in range(40):
-        t.true(signature(t.room / "ca.sign", message) != b"", f"message {at} is signed")
+        t.true(signature(t.room / "ca.sign", message) != b"", f"message {at} is not signed")
     t.true(size() - before < 64 << 10, f"its memory has grown from {before} kB to {size()} kB")
 
 
 @test(seconds=3)
 def long_messages_have_512_mib_together(t):
-    """Eight clients of more than 16 MiB have room for 64 MiB each. Then a message of a kilobyte has none."""
+    """The signer allocates 64 MiB for each of eight messages of more than 16 MiB. Then it has no memory for a message of 1,024 octets."""
     it = Authority(t)
     process = started(t, it.key)
     path, clients = t.room / "ca.sign", []
     for at in range(8):
         clients.append(t.enter_context(connected(path)))
         clients[at].sendall(bytes((16 << 20) + 1))
-        authority.until(lambda: program.is_read(clients[at]), f"that long message {at} is read")
+        authority.until(lambda: program.is_read(clients[at]), f"the signer to read long message {at}")
     t.same((signature(path, bytes(1_024)), signature(path, bytes(1_023)) != b""), (b"", True), "a message of 1,024 octets, and whether one of 1,023 is signed")
     for client in clients:
         client.shutdown(socket.SHUT_WR)
-        t.true(program.read_all(client) != b"", "a long message is signed")
-    t.true(signature(path, bytes(1_024)) != b"", "a message behind them is signed")
+        t.true(program.read_all(client) != b"", "a long message is not signed")
+    t.true(signature(path, bytes(1_024)) != b"", "a later message is not signed")
     t.same(ended(process), (0, [f"{NAME}a connection failed: out of memory for its message"]), "standard error")
 
 
 @test(seconds=3)
 def clients_beyond_its_descriptors(t):
-    """A connection that it can't accept waits until another one has ended, and meanwhile the signer says so ten times a second."""
+    """A connection that it can't accept waits until another one has ended, and meanwhile the signer reports it ten times a second."""
     it = Authority(t)
     process = started(t, it.key)
     files = len(os.listdir(f"/proc/{process.pid}/fd"))
     t.tool("prlimit", "--pid", process.pid, f"--nofile={files + 1}:{files + 1}")
     clients = [connected(t.room / "ca.sign") for _ in range(2)]
-    t.true(select.select([process.stderr], [], [], program.LONGEST)[0], "it says nothing")
-    # Time in which it says so again.
+    t.true(select.select([process.stderr], [], [], program.LONGEST)[0], "the signer reports nothing")
+    # Time in which the signer can report it again.
     time.sleep(1)
     for client in clients:
         client.settimeout(20)
         client.sendall(b"a message")
         client.shutdown(socket.SHUT_WR)
-        t.true(program.read_all(client) != b"", "a signature")
+        t.true(program.read_all(client) != b"", "a client gets no signature")
     status, told = ended(process)
     t.same((status, {*told}), (0, {f"{NAME}a connection failed: Too many open files"}), "status, and its different lines")
-    t.true(len(told) < 100, f"{len(told)} lines")
+    t.true(len(told) < 100, f"too many lines: {len(told)}")
 
 
 # Processes and sockets
@@ -711,24 +712,24 @@ def its_processes_end_together(t):
     process = started(t, "--processes", 3, it.key)
     others = native.children(process)
     os.kill(others[0], signal.SIGKILL)
-    t.same((process.wait(program.LONGEST), process.stderr.read()), (1, b"desk-signer: another process ended\n"), "one that is killed")
+    t.same((process.wait(program.LONGEST), process.stderr.read()), (1, b"desk-signer: another process ended\n"), "after one process is killed")
     authority.until(lambda: not any(map(native.is_there, others)), "the end of its other processes")
-    t.true(not (t.room / "ca.sign").exists(), "its socket is removed")
+    t.true(not (t.room / "ca.sign").exists(), "its socket is left")
     process = started(t, "--processes", 3, it.key)
     others = native.children(process)
     process.send_signal(signal.SIGINT)
     t.same((process.wait(program.LONGEST), process.stderr.read()), (0, b""), "ended by SIGINT")
     authority.until(lambda: not any(map(native.is_there, others)), "the end of its other processes")
-    t.true(not (t.room / "ca.sign").exists(), "its socket is removed")
+    t.true(not (t.room / "ca.sign").exists(), "its socket is left")
     process = started(t, "--processes", 3, it.key)
     others = native.children(process)
     process.kill()
-    authority.until(lambda: not any(map(native.is_there, others)), "the end of the others, where the first is killed")
+    authority.until(lambda: not any(map(native.is_there, others)), "the end of the others after the first one is killed")
 
 
 @test(seconds=3)
 def what_is_at_its_path(t):
-    """Another signer that listens, a stale socket, a file, no folder; a path that is too long."""
+    """The path is that of another signer, a stale socket, a file or a link, or is in no folder, or is too long. Only the stale socket is replaced."""
     it = Authority(t)
     started(t, it.key)
     (t.room / "file").write_text("precious")
@@ -737,36 +738,36 @@ def what_is_at_its_path(t):
         ran = t.tried(native.signer(), it.key, path)
         t.same(ran.returncode, 1, f"{path}: status")
         t.has(ran.stderr, told)
-    t.true(signature(t.room / "ca.sign", b"a message") != b"", "the first one goes on")
+    t.true(signature(t.room / "ca.sign", b"a message") != b"", "the first signer gives no signature")
     t.same((t.room / "file").read_text(), "precious", "the file stays")
     with socket.socket(socket.AF_UNIX) as stale:
         stale.bind(str(t.room / "stale.sign"))
     process = subprocess.Popen([native.signer(), it.key, "stale.sign"], cwd=t.room, stdout=subprocess.PIPE, stderr=subprocess.PIPE)
     t.callback(authority.end, process)
-    t.same(process.stdout.readline(), b"ecdsa-sha256 at stale.sign\n", "where a socket was left")
-    t.true(signature(t.room / "stale.sign", b"a message") != b"", "it signs there")
+    t.same(process.stdout.readline(), b"ecdsa-sha256 at stale.sign\n", "the line of a signer at a stale socket")
+    t.true(signature(t.room / "stale.sign", b"a message") != b"", "the signer at the stale socket gives no signature")
     process.stdout.close()
     with socket.socket(socket.AF_UNIX) as stale:
         stale.bind(str(t.room / "other.sign"))
     (t.room / "link.sign").symlink_to("other.sign")
     ran = t.tried(native.signer(), it.key, "link.sign", timeout=30)
-    t.same((ran.returncode, ran.stderr, os.readlink(t.room / "link.sign")), (1, b"desk-signer: link.sign: Address already in use\n", "other.sign"), "where a link to a socket lies")
+    t.same((ran.returncode, ran.stderr, os.readlink(t.room / "link.sign")), (1, b"desk-signer: link.sign: Address already in use\n", "other.sign"), "at a link to a socket")
 
 
 @test(seconds=3)
 def another_signer_at_its_path(t):
-    """A signer that ends leaves the socket of one that was started after its own was removed."""
+    """A signer whose socket was removed leaves a later signer's socket at the same path when it ends."""
     it = Authority(t)
     earlier = started(t, it.key)
     (t.room / "ca.sign").unlink()
     started(t, it.key)
     t.same(ended(earlier), (0, []), "the earlier one")
-    t.true(signature(t.room / "ca.sign", b"a message") != b"", "the later one goes on")
+    t.true(signature(t.room / "ca.sign", b"a message") != b"", "the later signer gives no signature")
 
 
 @test(seconds=30)
 def eight_that_start_at_one_stale_socket(t):
-    """Forty times eight signers start at the same time where a socket was left: one serves, and seven say that something listens."""
+    """Forty times, eight signers start at one stale socket at once: one serves, and seven report that something listens."""
     it = Authority(t)
     told = b"desk-signer: something listens at %s already\n"
     for at in range(40):
@@ -780,7 +781,7 @@ def eight_that_start_at_one_stale_socket(t):
         t.same(len(serving), 1, f"{at}: how many serve")
         others = [process.communicate(timeout=program.LONGEST) + (process.returncode,) for process in processes if process not in serving]
         t.same(others, [(b"", told % path.name.encode(), 1)] * 7, f"{at}: the others")
-        t.true(signature(path, b"a message") != b"", f"{at}: it signs")
+        t.true(signature(path, b"a message") != b"", f"{at}: the one that serves gives no signature")
         t.same((ended(serving[0])[0], path.exists()), (0, False), f"{at}: status, and whether its socket stays")
         serving[0].stdout.close()
 
@@ -802,7 +803,7 @@ def a_folder_that_stays_locked(t):
 
 @each({"P-256": ("ecdsa-sha256",), "P-384": ("ecdsa-sha384",), "P-256, each drawn for its message": ("ecdsa-sha256", "--fresh-nonces")}, seconds=6)
 def no_nonce_signs_twice(t, algorithm, *words):
-    """By three processes, and after pauses of all lengths: two signatures with one r would give the key away (FIPS 186-5 6.4.1)."""
+    """Three processes sign, with pauses of several lengths. Two signatures with the same r would reveal the key (FIPS 186-5 6.4.1)."""
     it = Authority(t, algorithm)
     started(t, *words, "--processes", 3, it.key)
     found = set()
@@ -812,15 +813,15 @@ def no_nonce_signs_twice(t, algorithm, *words):
         found.add(values_of(values_of(signed)[0][1])[0][1])
         if at % 20 == 0 or pause >= 0.02:
             verifies(t, it, b"%d" % at, signed)
-    t.same(len(found), 347, "different r")
+    t.same(len(found), 347, "different values of r")
 
 
 @test(seconds=5)
 def it_uses_no_processor_time_once_its_nonces_are_forgotten(t):
-    """A second after its last signature it forgets those that it drew ahead. A client is connected, and sends nothing."""
+    """A second after its last signature, the signer forgets the nonces that it drew ahead. A client is connected, and sends nothing."""
     it = Authority(t)
     process = started(t, it.key)
-    t.true(signature(t.room / "ca.sign", b"a message") != b"", "it signs")
+    t.true(signature(t.room / "ca.sign", b"a message") != b"", "it gives no signature")
     t.enter_context(connected(t.room / "ca.sign"))
     time.sleep(1.5)
     is_idle(t, process)
@@ -836,7 +837,7 @@ def is_idle(t, process):
 
 @test(seconds=4)
 def it_uses_no_processor_time_while_256_clients_wait_for_their_turn(t):
-    """One signature a second. Further clients wait until the signer can accept them."""
+    """The signer gives one signature a second. Further clients wait until it can accept them."""
     it = Authority(t)
     process = started(t, "--rate", 1, it.key)
     for _ in range(262):
@@ -848,25 +849,25 @@ def it_uses_no_processor_time_while_256_clients_wait_for_their_turn(t):
 
 @test(seconds=3)
 def its_standard_streams(t):
-    """Closed from the start, no client gets a warning as its signature; and if their reader ends, the signer goes on."""
+    """If the standard streams are closed from the start, no client gets a warning as its signature. If their reader ends, the signer goes on."""
     it = Authority(t)
     message = answer_by_hand(filter_module().issuer_of(it.pem))
     words = [native.signer(), "--only-ours", it.pem, it.key]
     for closed in ("<&- >&- 2>&-", ">&- 2>&-", "2>&-"):
         process = authority.started(t, ["bash", "-c", f'exec "$@" {closed}', "-", *words, "closed.sign"], t.room / "closed.sign")
-        t.same(signature(t.room / "closed.sign", b"hello"), b"", f"{closed}: what is refused")
+        t.same(signature(t.room / "closed.sign", b"hello"), b"", f"{closed}: the reply to a message that is refused")
         verifies(t, it, message, signature(t.room / "closed.sign", message))
         process.terminate()
         t.same(process.wait(program.LONGEST), 0, f"{closed}: status")
     process = started(t, *words[1:])
     process.stderr.close()
-    t.same(signature(t.room / "ca.sign", b"hello"), b"", "what is refused while nobody reads standard error")
+    t.same(signature(t.room / "ca.sign", b"hello"), b"", "the reply to a message that is refused, while nobody reads standard error")
     verifies(t, it, message, signature(t.room / "ca.sign", message))
 
 
 @test(seconds=2)
 def each_line_on_standard_error_is_one_write(t):
-    """So lines of several processes are not mixed. Here each write is a datagram."""
+    """Otherwise lines of several processes could be mixed. In this test each write is a datagram."""
     it = Authority(t)
     reads, writes = socket.socketpair(socket.AF_UNIX, socket.SOCK_DGRAM)
     with reads, writes:
@@ -875,26 +876,26 @@ def each_line_on_standard_error_is_one_write(t):
         t.callback(authority.end, process)
         with process.stdout:
             process.stdout.readline()
-        t.same(signature(t.room / "ca.sign", b"hello"), b"", "what is refused")
+        t.same(signature(t.room / "ca.sign", b"hello"), b"", "the reply to a message that is refused")
         reads.settimeout(program.LONGEST)
         t.same(reads.recv(65_536), f"{NAME}refused to sign 5 bytes: no value with the right tag at octet 0\n".encode())
 
 
 @test(seconds=4)
 def what_it_was_started_with(t):
-    """A child that was there before exec(3) ends, and SIGTERM is blocked: neither matters."""
+    """The signer ignores the end of a child that it has from before exec(3). It ends by SIGTERM, which was blocked at its start."""
     it = Authority(t)
     before = [sys.executable, "-c", "import os, signal, subprocess, sys; subprocess.Popen(['sleep', '0.5']); "
               "signal.pthread_sigmask(signal.SIG_BLOCK, [signal.SIGTERM]); os.execv(sys.argv[1], sys.argv[1:])"]
     process = started(t, "--processes", 2, it.key, before=before)
     time.sleep(1)
-    t.true(signature(t.room / "ca.sign", b"a message") != b"", "it goes on")
+    t.true(signature(t.room / "ca.sign", b"a message") != b"", "it gives no signature after the end of the child")
     t.same(ended(process), (0, []), "ended by SIGTERM")
 
 
 @test(seconds=3)
 def a_socket_that_is_handed_over(t):
-    """As systemd hands it over: descriptor 3, with its number and that of the process in the environment."""
+    """The test hands the socket over as systemd does: as descriptor 3, with LISTEN_FDS and LISTEN_PID in the environment."""
     it = Authority(t)
     message = answer_by_hand(filter_module().issuer_of(it.pem))
     words = [str(native.signer()), "--only-ours", str(it.pem), str(it.key), "--inherited"]
@@ -904,13 +905,13 @@ def a_socket_that_is_handed_over(t):
         process = handed(words, listener)
         t.callback(authority.end, process)
         verifies(t, it, message, signature(t.room / "handed.sign", message))
-        t.same(signature(t.room / "handed.sign", b"hello"), b"", "a text")
-        # Else a process would wait in accept(2), where no signal ends it, for a client that another process has accepted.
+        t.same(signature(t.room / "handed.sign", b"hello"), b"", "the reply to a text, which is refused")
+        # Otherwise a process would wait in accept(2), where no signal ends it, for a client that another process has accepted.
         t.same(os.get_blocking(listener.fileno()), False, "whether its socket blocks")
     t.same(ended(process)[0], 0, "ended by SIGTERM")
-    t.true((t.room / "handed.sign").exists(), "the socket stays, which is not its own")
+    t.true((t.room / "handed.sign").exists(), "it has removed the socket, which is not its own")
     ran = t.tried(*words)
-    t.same((ran.returncode, b"no socket was handed over" in ran.stderr), (1, True), "with none")
+    t.same((ran.returncode, b"no socket was handed over" in ran.stderr), (1, True), "without a socket")
     with socket.socketpair()[0] as connection:
         process = handed(words, connection)
         told = process.communicate(timeout=program.LONGEST)[1]
@@ -933,11 +934,11 @@ def status_of(number):
 @test(seconds=3)
 def its_memory_is_locked_and_never_dumped(t):
     it = Authority(t)
-    # A shell that is allowed to has its core dumped.
+    # The shell allows core dumps, if the limits of the test permit it.
     process = started(t, "--processes", 2, it.key, before=["bash", "-c", 'ulimit -c unlimited 2> /dev/null; exec "$@"', "-"])
     for number in (process.pid, *native.children(process)):
         status = {name: int(status_of(number)[name].split()[0]) for name in ("VmLck", "VmSize", "VmSwap")}
-        t.true(status["VmLck"] > 0.9 * status["VmSize"] > 0 and status["VmSwap"] == 0, f"its memory is locked: {status}")
+        t.true(status["VmLck"] > 0.9 * status["VmSize"] > 0 and status["VmSwap"] == 0, f"its memory is not locked, or is swapped: {status}")
         core = next(line.split() for line in Path(f"/proc/{number}/limits").read_text().splitlines() if line.startswith("Max core"))
         t.same(core[4:6], ["0", "0"], "the limits of a core dump")
         if os.geteuid():
@@ -953,7 +954,7 @@ def its_key_file_does_not_stay_in_its_memory(t):
 
 @test(seconds=3)
 def another_user(t):
-    """By --user it is read as root and serves as another user, in all processes; the socket is that user's."""
+    """With --user the signer reads its key as root. Then all its processes run as the other user, who owns the socket."""
     if os.geteuid():
         raise Skipped("only root can start a signer that becomes another user")
     it = Authority(t)
@@ -970,11 +971,11 @@ def another_user(t):
         t.same(sorted(map(int, status["Groups"].split())), sorted(os.getgrouplist("nobody", group)), "its further groups")
         t.same((int(status["CapEff"], 16), int(status["CapPrm"], 16)), (0, 0), "its capabilities")
         t.same(Path(f"/proc/{number}/mem").stat().st_uid, 0, "the owner of /proc/NUMBER/mem, which is root if dumps are forbidden (proc(5))")
-        t.true(int(status["VmLck"].split()[0]) > 0, "its memory is locked")
+        t.true(int(status["VmLck"].split()[0]) > 0, "its memory is not locked")
     t.same(status_of(process.pid)["Uid"].split()[0], str(nobody))
     others = native.children(process)
     process.kill()
-    authority.until(lambda: not any(map(native.is_there, others)), "the end of the others, where the first is killed")
+    authority.until(lambda: not any(map(native.is_there, others)), "the end of the others after the first one is killed")
     ran = t.tried(native.signer(), "--user", "no-such-user", it.key, "other.sign")
     t.same((ran.returncode, ran.stderr, (t.room / "other.sign").exists()), (1, b"desk-signer: no user no-such-user\n", False), "a name that no user has")
 
@@ -992,8 +993,8 @@ def memory_that_can_t_be_locked(t):
     t.same((ran.returncode, (t.room / "ca.sign").exists()), (1, False), "status, whether it listens")
     t.has(ran.stderr, b"desk-signer: the memory can't be locked (LimitMEMLOCK= in systemd, ulimit -l; or --allow-swap): Cannot allocate memory")
     authority.started(t, [*limited, "--allow-swap", it.key, "ca.sign"], t.room / "ca.sign")
-    t.true(signature(t.room / "ca.sign", b"a message") != b"", "with --allow-swap it signs")
-    # A limit that it may raise itself, where this test may do so.
+    t.true(signature(t.room / "ca.sign", b"a message") != b"", "with --allow-swap it gives no signature")
+    # The signer may raise this limit itself. Only a test with enough rights can set it so.
     if subprocess.run(["bash", "-c", "ulimit -H -l unlimited"], capture_output=True).returncode == 0:
         raised = ["bash", "-c", 'ulimit -H -l unlimited; ulimit -S -l 64; exec "$@"', "-", *as_nobody, copy]
         authority.started(t, [*raised, it.key, "raised.sign"], t.room / "raised.sign")
@@ -1007,7 +1008,7 @@ def memory_that_can_t_be_locked(t):
 
 @each({"P-256": ("ecdsa-sha256", 1), "P-384": ("ecdsa-sha384", 1), "RSA": ("rsa-sha256", 1), "P-256 in three processes": ("ecdsa-sha256", 3)}, seconds=5)
 def a_key_in_a_token(t, algorithm, count):
-    """By libp11's engine and SoftHSM, with the token's PIN from a file."""
+    """The signer uses libp11's engine and SoftHSM, and reads the token's PIN from a file."""
     need("softhsm2-util")
     module = next((it for it in map(Path, ("/usr/lib/softhsm/libsofthsm2.so", "/usr/lib64/softhsm/libsofthsm2.so")) if it.exists()), None)
     if not module:
@@ -1025,7 +1026,7 @@ def a_key_in_a_token(t, algorithm, count):
     ran = t.tried(*named, key, env=token)
     if b"no engine pkcs11" in ran.stderr:
         raise Skipped("no engine pkcs11 of OpenSSL here: apt install libengine-pkcs11-openssl")
-    t.same((ran.returncode, ran.stdout), (0, f"{algorithm}\n".encode()), f"status and output; told {ran.stderr!r}")
+    t.same((ran.returncode, ran.stdout), (0, f"{algorithm}\n".encode()), f"status and output; standard error is {ran.stderr!r}")
     for words, told in (((*named, "pkcs11:token=ca;object=none"), b"the token gives no such key"), ((named[0], "--passphrase-file", "wrong", key), b"the token gives no such key"),
                         ((*named, "--only-ours", other.pem, key), b"it is the certificate of another key")):
         ran = t.tried(*words, "ca.sign", env=token)
@@ -1036,7 +1037,7 @@ def a_key_in_a_token(t, algorithm, count):
     message = answer_by_hand(filter_module().issuer_of(it.pem))
     for _ in range(9):
         verifies(t, it, message, signature(t.room / "ca.sign", message))
-    t.same(signature(t.room / "ca.sign", b"hello"), b"", "a text")
+    t.same(signature(t.room / "ca.sign", b"hello"), b"", "the reply to a text, which is refused")
     t.same(occurrences(process, b"4711\n"), 0, "the PIN's line in its memory")
     t.same(ended(process)[0], 0, "ended by SIGTERM")
     if os.geteuid() == 0:
@@ -1055,7 +1056,7 @@ def a_key_in_a_token(t, algorithm, count):
 
 @each(ALGORITHMS, seconds=8)
 def what_the_desk_has_signed_is_signed(t, algorithm):
-    """CRLs and OCSP answers of the desk, which openssl verifies; and both programs accept all that the desk has signed."""
+    """openssl verifies the desk's CRLs and OCSP answers. signer/only_ours.c and examples/only_ours.py accept all that the desk has signed."""
     it = Authority(t, algorithm)
     started(t, "--only-ours", it.pem, "--processes", 2, it.key)
     it.register()
@@ -1071,7 +1072,7 @@ def what_the_desk_has_signed_is_signed(t, algorithm):
     messages = to_be_signed(t, it)
     dice = random.Random(61)
     count = compared(t, [*messages, *(changed(message, dice) for message in messages for _ in range(300))], it)
-    t.same([signature(t.room / "ca.sign", message) != b"" for message in messages], [True] * 6, f"all that the desk has signed is signed ({count})")
+    t.same([signature(t.room / "ca.sign", message) != b"" for message in messages], [True] * 6, f"whether it signs each message ({count} accepted)")
 
 
 @test(seconds=8)

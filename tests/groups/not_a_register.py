@@ -1,11 +1,11 @@
-"""No command changes a file that is no register: an empty file, and one that is no database. None creates a file beside it."""
+"""No command changes a file that is not a register, such as an empty file or one that is not a database. None creates a file beside it."""
 
 from lib import program
 from lib.trial import each
 
 DAMAGED = "  damaged, or not a database: check the path and the disk"
 DAY = "2026-01-01T00:00:00Z"
-# A command, and what it is given.
+# Commands, each with its standard input.
 COMMANDS = {
     "script": (["script", "ca.db"], f"{DAY} subscriber acme\n"),
     "script by the clock": (["script", "ca.db", "--clock"], "subscriber acme\n"),
@@ -18,7 +18,7 @@ COMMANDS = {
     "audit": (["audit", "ca.db"], ""),
     "copy": (["copy", "ca.db", "copy.db"], ""),
 }
-# The contents of the path, the line that reports them, and the cause, if there is one.
+# The contents of the file, the line that reports them, and the cause that --why adds, if there is one.
 FILES = {
     "no byte": (b"", "not-a-register\n", ""),
     "one byte": (b"x", "not-a-register\n", ""),

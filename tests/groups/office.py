@@ -34,7 +34,7 @@ def give_certificate(t, front, name):
 
 
 def opened(t, lines="", name="clerk", **how):
-    """A CA with a register of these lines, an open desk, nginx before it, and a browser with a clerk's certificate."""
+    """A CA with a register of these lines, an open desk, nginx in front of it, and a browser with a clerk's certificate."""
     need("chromium", "nginx", "certutil")
     it = Authority(t, subject="/O=Example/CN=Example CA")
     certificates(t)
@@ -56,12 +56,12 @@ def load(browser, front):
 
 
 def rounds(browser, count):
-    """Waits until the page has read all parts so many times."""
+    """Waits until the page has loaded all its parts `count` times."""
     browser.until(f"document.readyState === 'complete' && document.body && Number(document.body.dataset.rounds) >= {count}")
 
 
 def again(browser):
-    """Presses Reload, and waits until all was read."""
+    """Presses Reload, and waits until the page has loaded all its parts."""
     was = browser.value("Number(document.body.dataset.rounds)")
     browser.press("#again")
     rounds(browser, was + 1)
@@ -93,7 +93,7 @@ class Year:
             self.ends[serial] = (end, names[at % 5], at + 1)
             rows += [(0, f"order {at % 5 + 1} 398"), (0, f"register {at + 1} {serial:x} {moment_of(self.begun)} {moment_of(end)}")]
         serials, number = sorted(self.ends), 0
-        # One request every four days, decided after half a day; the last ones are open.
+        # One request every 4.6 days. One in seven is declined after 0.3 days, the others are revoked after half a day. Six open requests follow.
         for at in range(requests):
             serial, ground = serials[-1 - at], self.GROUNDS[at % 8]
             day = 6 + 4.6 * at
@@ -109,7 +109,7 @@ class Year:
             received = self.begun + round((200 - days) * DAY)
             rows.append((200 - days, f"request {serial:x} {ground}"))
             self.open.append((received + (5 if ground in ("misuse", "inaccurate") else 1) * DAY, number, ground, self.ends[serial][1], serial, received))
-        # A CRL a week, but for two times; the next one is due some hours ago.
+        # A CRL each week, except for three weeks, which make two gaps. The next one was due some hours ago.
         self.crls = [3.6 + 7 * week for week in range(28) if week not in (9, 10, 21)]
         rows += [(day, "crl") for day in self.crls]
         at = lambda day: self.begun + round(day * DAY)
@@ -126,7 +126,7 @@ def the_office_view_shows_what_the_desk_says(t):
     overdue = [row for row in year.open if row[0] < year.now]
     wanted = [str(counts[name]) for name in ("good", "revoked", "expired")] + [str(len(year.open)), str(len(overdue)), str(len(soon))]
     t.same(texts(browser, "good", "revoked", "expired", "open", "overdue", "ending"), wanted, "counts")
-    t.true(len(overdue) == 1 and len(soon) > 3, f"the register has what is to be shown: {overdue}, {soon}")
+    t.true(len(overdue) == 1 and len(soon) > 3, f"the test needs one overdue request and four certificates that end soon: {overdue}, {soon}")
     # Requests by deadline, the overdue one in red.
     cells = [row.split("|") for row in rows(browser, "requestrows")]
     told = [("!" * (due < year.now) + shown(due), str(number), ground, name, f"{serial:x}", shown(received)) for due, number, ground, name, serial, received in sorted(year.open)]
@@ -141,12 +141,12 @@ def the_office_view_shows_what_the_desk_says(t):
     t.has([row for row in rows(browser, "healthrows") if row.startswith("CRL|")][0], "the next CRL is due", "why it is failing")
     if "OFFICE_PICTURE" in os.environ:
         browser.picture(os.environ["OFFICE_PICTURE"])
-    t.same(complaints(browser), [], "what the page complained of")
+    t.same(complaints(browser), [], "errors in the browser's log")
     later(t, year, desk, browser, len(overdue))
 
 
 def complaints(browser):
-    """The errors in the browser's log, without those for /health with status 503 and for a desk that is away."""
+    """The errors in the browser's log, without those for /health with status 503 and for a desk that does not run."""
     return [it for it in browser.complaints if "status of 50" not in it]
 
 
@@ -163,7 +163,7 @@ def gaps_and_plot(t, year, browser):
     browser.until(f"{points} === {2 * len(year.crls)}")
     t.same([tuple(row.split("|")[1:]) for row in rows(browser, "gaprows")], told[::-1], "gaps between CRLs")
     t.same(browser.value("document.querySelectorAll('#plot rect').length"), len(found), "gaps in the plot")
-    # The bytes and entries of the latest CRL, as in the plot.
+    # The plot shows the bytes and entries of the latest CRL.
     latest = t.tool("curl", "-sk", "-o", "latest.crl", "-w", "%{size_download}", browser.value("location.origin") + "/crl").decode()
     entries = t.tool("openssl", "crl", "-inform", "DER", "-in", "latest.crl", "-noout", "-text").decode().count("Serial Number: ")
     last = browser.value("Array.from(document.querySelectorAll('#plot circle title'), it => it.textContent).pop()")
@@ -171,7 +171,7 @@ def gaps_and_plot(t, year, browser):
 
 
 def months(t, year, browser):
-    """Each month's revocations by their grounds, of which each that came has a column."""
+    """Checks each month's revocations by ground. Each ground that occurs has a column."""
     columns = ["key-compromise", "control-lost", "superseded", "unauthorized", "misuse", "cessation", "affiliation", "asked"]
     t.same(browser.value("Array.from(document.querySelectorAll('#monthshead th'), it => it.innerText.trim().replaceAll('\\n', '')).slice(3)"), columns, "the columns")
     wanted = {}
@@ -179,41 +179,42 @@ def months(t, year, browser):
         month = wanted.setdefault(time.strftime("%Y-%m", time.gmtime(at)), [0] * len(columns))
         month[columns.index(ground)] += 1
     got = {cells[0]: cells[2:] for cells in (row.split("|") for row in rows(browser, "monthrows"))}
-    t.same(max(wanted) in got and min(wanted) == list(got)[-1], True, f"months up to the first revocation: {list(got)}")
+    t.same(max(wanted) in got and min(wanted) == list(got)[-1], True, f"whether the months go back to the first revocation: {list(got)}")
     t.same({month: cells for month, cells in got.items() if cells[0] != "0"}, {month: [str(sum(it)), *(str(n) if n else "·" for n in it)] for month, it in wanted.items()}, "revocations by month")
 
 
 def recent(t, desk, browser):
-    """The requests of the last 30 days, the latest first, with the data of the list of all requests."""
+    """Checks the requests of the last 30 days, the latest first. They have the data of the list of all requests."""
     listed = json.loads(desk.ask("GET", "/list/requests").split(b"\r\n\r\n")[1])["rows"]
     of_days = [it for it in reversed(listed) if it["received"] >= moment_of(authority.now() - 30 * DAY)]
-    t.same({it["state"] for it in of_days} >= {"open", "revoked", "declined"}, True, "states that came")
+    t.same({it["state"] for it in of_days} >= {"open", "revoked", "declined"}, True, "whether the requests are in all three states")
     cells = [row.split("|") for row in rows(browser, "recentrows")]
     when = lambda text: text[:16].replace("T", " ") if text else "–"
     told = [["!" * bool(it["lateness"]) + when(it["received"]), str(it["request"]), it["ground"], it["name"], it["serial"].lstrip("0"), it["state"], when(it["decided"])] for it in of_days]
-    t.same([row[:7] for row in cells], told, "requests of the last days")
-    t.same([row[7] != "–" for row in cells], [bool(it["lateness"]) for it in of_days], "which of them were late")
+    t.same([row[:7] for row in cells], told, "requests of the last 30 days")
+    t.same([row[7] != "–" for row in cells], [bool(it["lateness"]) for it in of_days], "which of these requests were late")
 
 
 def later(t, year, desk, browser, overdue):
-    """The next round shows new entries. It also shows a fault, and the page keeps its old contents then."""
+    """After Reload the page shows new entries. If no desk runs, it reports that and keeps its old contents."""
     control = t.control()
     first = sorted(year.open)[0][1]
     t.same(control.ask(f"revoke {first}"), "revoked late")
     t.same(control.ask("crl").split(" ")[0], "crl")
     again(browser)
-    t.same(texts(browser, "open", "overdue", "health"), [str(len(year.open) - 1), str(overdue - 1), "all is well"], "after the overdue request was carried out, and a CRL came")
-    t.same(browser.text_of("crlsnote").split(";")[0], str(len(year.crls) + 1), "one CRL more")
+    t.same(texts(browser, "open", "overdue", "health"), [str(len(year.open) - 1), str(overdue - 1), "all is well"],
+           "after the overdue request was decided and a CRL was issued")
+    t.same(browser.text_of("crlsnote").split(";")[0], str(len(year.crls) + 1), "the number of CRLs, with one more")
     before = rows(browser, "requestrows")
     desk.end()
     again(browser)
-    t.has(browser.text_of("fault"), "The desk does not answer (502)", "a desk that is away")
-    t.has(browser.text_of("fault"), "What is shown was read at", "since when")
-    t.same((rows(browser, "requestrows"), browser.text_of("open")), (before, str(len(year.open) - 1)), "what was shown stays")
-    t.same((browser.text_of("health"), rows(browser, "healthrows")), ("could not be read", []), "but for the health")
+    t.has(browser.text_of("fault"), "The desk does not answer (502)", "the fault while no desk runs")
+    t.has(browser.text_of("fault"), "What is shown was read at", "the fault while no desk runs")
+    t.same((rows(browser, "requestrows"), browser.text_of("open")), (before, str(len(year.open) - 1)), "the old contents while no desk runs")
+    t.same((browser.text_of("health"), rows(browser, "healthrows")), ("could not be read", []), "the health while no desk runs")
     t.open("ca.db", "--port", desk.port, "--control", "second")
     again(browser)
-    t.same(texts(browser, "fault", "health"), ["", "all is well"], "the desk is back")
+    t.same(texts(browser, "fault", "health"), ["", "all is well"], "once a desk runs again")
 
 
 @test(seconds=15)
@@ -222,9 +223,9 @@ def a_new_register(t):
     load(browser, front)
     t.same(texts(browser, "good", "open", "overdue", "ending", "requestsnote", "recentnote", "endingnote", "crlsnote", "monthsnote", "health", "fault"),
            ["0", "0", "0", "0", "none", "none", "none", "none was issued yet", "none", "failing", ""], "what is shown")  # fmt: skip
-    t.has("\n".join(rows(browser, "healthrows")), "no CRL was issued yet", "why")
-    t.same([rows(browser, name) for name in ("requestrows", "recentrows", "endingrows", "gaprows", "monthrows")], [[]] * 5, "rows")
-    t.same(complaints(browser), [], "what the page complained of")
+    t.has("\n".join(rows(browser, "healthrows")), "no CRL was issued yet", "the cause of failing health")
+    t.same([rows(browser, name) for name in ("requestrows", "recentrows", "endingrows", "gaprows", "monthrows")], [[]] * 5, "rows of the tables")
+    t.same(complaints(browser), [], "errors in the browser's log")
 
 
 @test(seconds=25)
@@ -232,12 +233,13 @@ def a_desk_that_is_away_or_refuses_or_fails(t):
     _, desk, front, browser = opened(t, f"{moment_of(authority.now() - DAY)} subscriber acme\n")
     desk.end()
     load(browser, front)
-    t.same(browser.text_of("fault"), "The desk does not answer (502).", "a desk that is away from the first moment on")
+    t.same(browser.text_of("fault"), "The desk does not answer (502).", "the fault if no desk runs when the page is loaded")
     t.same(texts(browser, "good", "open", "requestsnote", "crlsnote"), ["–", "–", "could not be read", "could not be read"], "what is shown")
     t.clock(authority.now() - 2 * DAY)
     behind = t.open("ca.db", "--port", desk.port, "--control", "second")
     again(browser)
-    t.has(browser.text_of("fault"), "The desk's clock is before its last command, and it refuses all until then (E01 clock-back", "a clock that is behind")
+    t.has(browser.text_of("fault"), "The desk's clock is before its last command, and it refuses all until then (E01 clock-back",
+          "the fault if the desk's clock is behind")
     t.has("\n".join(rows(browser, "healthrows")), "Clock|is before the last command", "health")
     behind.end()
 
@@ -252,7 +254,7 @@ def a_store_that_fails(t):
         for it in ("ca.db", "ca.db-wal", "second"):
             (t.room / it).unlink(missing_ok=True)
         faults.copy(base, t.room / "ca.db")
-        # The first write behind those of the opening, which are counted first.
+        # The first run counts the writes of the opening. In the second run the next write fails.
         how = {"fail": f"write:{faults.counted(t.room / 'count')['write'] + 1}"} if fails else {"count": t.room / "count"}
         desk = t.open("ca.db", "--port", desk.port, "--control", "second", faults=faults.environment(only=files, **how))
         if not fails:
@@ -267,14 +269,14 @@ def a_store_that_fails(t):
 
 @test(seconds=60)
 def thousands_of_rows(t):
-    """Lists of more rows than a page looks at: all are counted, and the first ones by deadline are shown."""
+    """The desk sends lists of thousands of rows in pages. The office view counts all rows, and shows the first ones by deadline."""
     now, most = authority.now(), 3_000
     begun = now - 3 * DAY
     lines = ["subscriber acme"]
     for at in range(1, most + 1):
         lines += ["order 1 398", f"register {at} {at:x} {moment_of(begun)} {moment_of(now + 3 * DAY + (most - at))}"]
     lines = [f"{moment_of(begun)} {it}" for it in lines]
-    # Each third is asked for, over two days; each sixth is revoked.
+    # A third of the certificates have a request for revocation, over two days. Half of these requests are carried out.
     asked = [(begun + at * 61, at) for at in range(3, most + 1, 3)]
     lines += [f"{moment_of(when)} request {at:x} {'misuse' if at % 2 else 'asked'}" for when, at in asked]
     lines += [f"{moment_of(now - HOUR)} revoke {number}" for number, (_, at) in enumerate(asked, 1) if number % 2]
@@ -292,10 +294,10 @@ def thousands_of_rows(t):
     numbers = lambda: [int(row.split("|")[2]) for row in rows(browser, "requestrows")]
     t.same(numbers(), [number for _, number in sorted(left)][:25], "the first 25 by deadline")
     browser.value("document.getElementById('requestsmore').click()")
-    t.same(numbers(), [number for _, number in sorted(left)][:225], "and 200 more")
+    t.same(numbers(), [number for _, number in sorted(left)][:225], "200 more after a click")
     t.same(browser.text_of("endingmore"), "Show 200 more")
-    t.same(sum(int(row.split("|")[2]) for row in rows(browser, "monthrows")), len(asked) - len(left), "revocations")
-    t.same(complaints(browser), [], "what the page complained of")
+    t.same(sum(int(row.split("|")[2]) for row in rows(browser, "monthrows")), len(asked) - len(left), "revocations of all months")
+    t.same(complaints(browser), [], "errors in the browser's log")
 
 
 @test(seconds=8)
@@ -307,11 +309,12 @@ def the_office_view_is_for_the_office_alone(t):
     for path in paths:
         t.same(front.ask(path)[0], 403, f"{path} by plain http")
         t.same(front.ask(path, tls=True)[0], 403, f"{path} without a certificate")
-        t.same([front.ask(path, *shows(name), tls=True)[0] for name in ("stranger", "former")], [400, 400], f"{path} with a stranger's, and with a revoked one")
+        t.same([front.ask(path, *shows(name), tls=True)[0] for name in ("stranger", "former")], [400, 400],
+               f"{path} with a stranger's certificate, and with a revoked one")
         got, fields, _ = front.ask(path, *shows("clerk"), tls=True)
-        t.same((got in (200, 503), fields["Cache-Control"]), (True, "no-store"), f"{path} with a clerk's: {got}")
+        t.same((got in (200, 503), fields["Cache-Control"]), (True, "no-store"), f"{path} with a clerk's certificate: {got}")
     for path in ("/list/open-requests", "/health", "/metrics", "/office/metrics", "/office/counts"):
-        t.same(front.ask(path, *shows("clerk"), tls=True)[0], 404, f"{path} with a clerk's")
+        t.same(front.ask(path, *shows("clerk"), tls=True)[0], 404, f"{path} with a clerk's certificate")
     t.same(front.ask("/office/list/nothing", *shows("clerk"), tls=True)[2], b'{"error":"E22 syntax"}', "the desk's own refusal")
 
 

@@ -29,7 +29,7 @@ def signature(path, message):
 
 
 def guard(t, it, path="guarded.sign"):
-    """The signer's socket, and its process, whose standard error has the refusals."""
+    """Starts the signer. Returns its socket, and its process, whose standard error has the refusals."""
     authority.need_cryptography(t)
     process = authority.started(t, ["python3", EXAMPLES / "signer.py", "--only-ours", it.pem, it.key, path], t.room / path)
     return t.room / path, process
@@ -59,10 +59,11 @@ def to_be_signed(t, it):
 
 
 def let_through(t, it, message):
-    """The bytes that the command behind the filter is given for a message, which it signs."""
+    """The bytes that the filter passes on for a message to a command, which signs them."""
     signs = {"ed25519": "pkeyutl -sign -rawin -inkey ca.key -in passed", "ecdsa-sha384": "dgst -sha384 -sign ca.key passed"}
     command = f"cat > passed; openssl {signs.get(it.algorithm, 'dgst -sha256 -sign ca.key passed')} | tee printed"
-    t.same(t.tool(*FILTER, it.pem, "sh", "-c", command, given=message), (t.room / "printed").read_bytes(), "its signature is printed as it came")
+    t.same(t.tool(*FILTER, it.pem, "sh", "-c", command, given=message), (t.room / "printed").read_bytes(),
+           "the signature that the filter prints")
     return (t.room / "passed").read_bytes()
 
 
@@ -72,7 +73,7 @@ def refused(t, path, message, what):
 
 @each(ALGORITHMS, seconds=6)
 def what_the_desk_has_signed_is_signed(t, algorithm):
-    """Through the signer, of each algorithm, openssl verifies CRLs and answers; and each is let through to a command as it came."""
+    """For each algorithm the signer signs CRLs and answers, which openssl verifies. The filter passes each message on to a command unchanged."""
     it = Authority(t, algorithm)
     path, _ = guard(t, it)
     it.register()
@@ -87,13 +88,13 @@ def what_the_desk_has_signed_is_signed(t, algorithm):
     messages = to_be_signed(t, it)
     t.same(len(messages), 6, "CRLs and answers")
     for message in messages:
-        t.true(signature(path, message) != b"", f"{message.hex()} is signed")
-        t.same(let_through(t, it, message), message, "the command has what came, to the last octet")
+        t.true(signature(path, message) != b"", f"the signer gave no signature for {message.hex()}")
+        t.same(let_through(t, it, message), message, "the message that the command gets")
 
 
 @test(seconds=10)
 def a_message_that_is_not_the_issuer_s_is_refused(t):
-    """The desk replies F3 to `crl`, and internalError to an OCSP request. The signer goes on."""
+    """The signer refuses a message of another issuer or key, and goes on. The desk replies F3 to `crl`, and internalError to an OCSP request."""
     it, other, twin = Authority(t), Authority(t, name="other", subject="/CN=Other"), Authority(t, name="twin")
     path, process = guard(t, it)
     ours = to_be_signed(t, it)
@@ -103,7 +104,7 @@ def a_message_that_is_not_the_issuer_s_is_refused(t):
         t.same(t.done("script", f"{foreign.name}.db", *it.signing(path.name), "--clock", given="crl\n"), "F3 signer\n", f"a CRL of {what}")
         desk = t.open(f"{foreign.name}.db", *it.signing(path.name), "--control", f"{foreign.name}.counter")
         t.same(body_of(t, desk.ask("POST", "/ocsp", foreign.asks("05"))), INTERNAL, f"an answer of {what}")
-    # Messages that openssl signs: certificates, of which one begins as a CRL does; a request for one; CRLs of other forms; and an answer by another responder.
+    # Messages that are neither a CRL nor an answer: certificates, of which one begins as a CRL does, a certification request, and other bytes.
     t.tool("openssl", "req", "-new", "-key", other.key, "-subj", "/CN=T", "-out", "x.csr")
     t.tool("openssl", "x509", "-req", "-in", "x.csr", "-CA", it.pem, "-CAkey", it.key, "-set_serial", "1", "-days", "90", "-out", "v1.pem")
     request = t.tool("openssl", "req", "-in", "x.csr", "-outform", "DER")
@@ -117,11 +118,11 @@ def a_message_that_is_not_the_issuer_s_is_refused(t):
     ):
         refused(t, path, message, what)
     for message in ours:
-        t.true(signature(path, message) != b"", "what is ours is signed all the while")
+        t.true(signature(path, message) != b"", "the signer gave no signature for its own issuer's message")
     process.terminate()
     process.wait(program.LONGEST)
     told = process.stderr.read().decode().splitlines()
-    t.true(len(told) > 20 and all(line.startswith("refused to sign ") for line in told), f"what is told of each: {told}")
+    t.true(len(told) > 20 and all(line.startswith("refused to sign ") for line in told), f"the signer did not report each refusal: {told}")
 
 
 def is_refused(t, it, message, what):
@@ -141,7 +142,7 @@ def whole(value):
 
 
 def other_crls(crl):
-    """By name, forms of a CRL that RFC 5280 5 allows and the desk never writes, and bytes that are not DER, made from a CRL with entries."""
+    """Makes messages from a CRL with entries, by name: forms that the desk never writes (RFC 5280 5 allows some), and bytes that are not DER."""
     parts = whole(inside(crl)[1])
     version, algorithm, name, this, following, entries, _ = parts
     extensions = whole(inside(crl, 6, 0)[1])
@@ -198,14 +199,14 @@ def crls_of_other_forms(t):
     it = Authority(t)
     _, crl = to_be_signed(t, it)[:2]
     parts, extensions = whole(inside(crl)[1]), whole(inside(crl, 6, 0)[1])
-    t.same(let_through(t, it, crl_of(parts, extensions)), crl, "put together again it is the same")
+    t.same(let_through(t, it, crl_of(parts, extensions)), crl, "the CRL, built again from its parts")
     for what, message in other_crls(crl).items():
         is_refused(t, it, message, what)
 
 
 def forms_of_answer(answer, name):
-    """By name, forms of an answer with a revoked certificate and a nonce: other answers of the desk, forms that RFC 6960 4.2.1 allows and the desk never
-    writes, and statuses of another issuer's certificates. `name` is the issuer's."""
+    """Makes messages from an answer with a revoked certificate and a nonce; `name` is the issuer's. Returns two tables by name: answers that the desk
+    gives, and answers that it never gives, such as statuses of another issuer's certificates."""
     responder, produced, answers, nonce = whole(inside(answer)[1])
     singles = whole(inside(answers)[1])
     asked, status, this, following = whole(inside(singles[0])[1])
@@ -261,7 +262,7 @@ def answers_of_other_forms(t):
 
 @test(seconds=3)
 def an_octet_that_names_the_issuer_is_changed(t):
-    """Each octet up to the moments, and of the key's identifier and of the responder: none may be another."""
+    """The check refuses a message if a bit differs before the CRL's moments, in its key identifier, or in the answer's responder."""
     it = Authority(t)
     sys.path.insert(0, str(EXAMPLES))
     try:
@@ -286,23 +287,23 @@ def an_octet_that_names_the_issuer_is_changed(t):
     for message, at in fixed:
         for bit in range(8):
             changed = message[:at] + bytes([message[at] ^ 1 << bit]) + message[at + 1 :]
-            t.true(not is_let_through(changed), f"octet {at} of {message.hex()} may be another: {changed[at]:02x}")
-    # Of what is cut short or longer, nothing.
+            t.true(not is_let_through(changed), f"octet {at} of {message.hex()} was accepted as {changed[at]:02x}")
+    # A message that is cut short or longer is refused.
     for message in messages:
-        t.same([at for at in range(len(message)) if is_let_through(message[:at])], [], "cut short")
-        t.true(not is_let_through(message + b"\0"), "longer")
+        t.same([at for at in range(len(message)) if is_let_through(message[:at])], [], "lengths at which a message that is cut short is accepted")
+        t.true(not is_let_through(message + b"\0"), "a message with one more octet was accepted")
 
 
 @test(seconds=3)
 def a_crl_of_many_entries(t):
-    """Over 100 kB, signed whole and in time."""
+    """The signer signs a CRL of 20,000 entries, and refuses it if the last entry is cut short."""
     it = Authority(t)
     path, _ = guard(t, it)
     crl = to_be_signed(t, it)[1]
     parts = whole(inside(crl)[1])
     entries = b"".join(tlv(SEQUENCE, tlv(INTEGER, (2**150 + 7919 * at).to_bytes(19, "big")), tlv(UTC, b"260101000000Z")) for at in range(20_000))
     message = tlv(SEQUENCE, *parts[:5], tlv(SEQUENCE, entries), parts[6])
-    t.true(signature(path, message) != b"", "it is signed")
+    t.true(signature(path, message) != b"", "the signer gave no signature")
     refused(t, path, tlv(SEQUENCE, *parts[:5], tlv(SEQUENCE, entries[:-1]), parts[6]), "one whose last entry is cut short")
 
 
@@ -321,7 +322,7 @@ def a_certificate_of_another_key_is_not_taken(t):
 
 @each(ALGORITHMS, seconds=3)
 def a_command_with_another_key(t, algorithm):
-    """Its signature has the right form, and openssl does not verify it by the CA's certificate: the desk is given none."""
+    """The command's signature has the right form, but openssl does not verify it with the CA's certificate. The filter passes none on to the desk."""
     need("socat")
     it = Authority(t, algorithm)
     message = to_be_signed(t, it)[0]
@@ -338,10 +339,10 @@ def a_command_with_another_key(t, algorithm):
     authority.started(t, ["socat", "-t", "10", "UNIX-LISTEN:other.sign,fork,mode=600", f"EXEC:{filter_and_sign}"], t.room / "other.sign")
     it.register("wrong.db")
     t.same(t.done("script", "wrong.db", *it.signing("other.sign"), "--clock", given="crl\n"), "F3 signer\n", "a CRL by another key")
-    t.same(t.desk("crl", "wrong.db").err, b"E21 no-crl\n", "none is recorded")
+    t.same(t.desk("crl", "wrong.db").err, b"E21 no-crl\n", "the register has no CRL")
 
 
-# This hashlib returns for each message the digest of another one.
+# This hashlib returns for each message the digest of another message.
 WRONG_DIGESTS = """
 import hashlib
 for name in ("sha256", "sha384"):
@@ -351,7 +352,7 @@ for name in ("sha256", "sha384"):
 
 @each({it: it for it in ("ecdsa-sha256", "ecdsa-sha384", "rsa-sha256")}, seconds=3)
 def a_signature_that_does_not_verify(t, algorithm):
-    """signer.py gives none away: here its digests are those of other messages. Without a certificate it can't notice that."""
+    """signer.py sends no signature that does not verify. Here it signs digests of other messages. Without a certificate it can't notice that."""
     authority.need_cryptography(t)
     it = Authority(t, algorithm)
     message = to_be_signed(t, it)[0]
@@ -363,14 +364,14 @@ def a_signature_that_does_not_verify(t, algorithm):
     process.terminate()
     process.wait(program.LONGEST)
     told = process.stderr.read().decode().splitlines()
-    t.same([f"its signature does not verify by {it.pem}" in line for line in told], [True] * 3, f"each is told of: {told}")
+    t.same([f"its signature does not verify by {it.pem}" in line for line in told], [True] * 3, f"whether each line reports the signature: {told}")
     authority.started(t, [*signer, it.key, "alone.sign"], t.room / "alone.sign")
-    t.true(signature(t.room / "alone.sign", message) != b"", "without a certificate")
+    t.true(signature(t.room / "alone.sign", message) != b"", "signer.py gave no signature without a certificate")
 
 
 @test(seconds=3)
 def a_client_that_has_gone_takes_no_signature_of_another(t):
-    """signer.py goes on once it can't write a signature."""
+    """signer.py goes on if it can't send a signature because the client has closed. The next client gets a signature."""
     authority.need_cryptography(t)
     it = Authority(t)
     path, process = guard(t, it)
@@ -380,14 +381,14 @@ def a_client_that_has_gone_takes_no_signature_of_another(t):
         client.connect(str(path))
         client.sendall(message)
     process.send_signal(signal.SIGCONT)
-    t.true(signature(path, message) != b"", "the signature of another client")
+    t.true(signature(path, message) != b"", "the next client got no signature")
     process.terminate()
-    t.same((process.wait(program.LONGEST), process.stderr.read()), (0, b"a connection failed: [Errno 32] Broken pipe\n"), "its status and standard error")
+    t.same((process.wait(program.LONGEST), process.stderr.read()), (0, b"a connection failed: [Errno 32] Broken pipe\n"), "status, standard error")
 
 
 @test(seconds=2)
 def a_message_that_is_too_long_is_not_signed(t):
-    """By signer.py. Here a message has at most a thousand octets, and not 128 MiB."""
+    """signer.py signs no message above its limit of 128 MiB, which is 1,000 octets here."""
     authority.need_cryptography(t)
     it = Authority(t)
     (t.room / "sitecustomize.py").write_text("import only_ours\nonly_ours.LONGEST = 1_000\n")
@@ -396,18 +397,18 @@ def a_message_that_is_too_long_is_not_signed(t):
     t.same([signature(t.room / "short.sign", bytes(size)) != b"" for size in (1_000, 1_001)], [True, False], "whether 1,000 and 1,001 octets are signed")
 
 
-# The test message that a signer is tried with
+# check-signer.py, which requests a signature for a test message
 
 
 def checked(t, *words, status=0):
     ran = t.tried(sys.executable, EXAMPLES / "check-signer.py", *words)
-    t.same((ran.returncode, ran.stdout), (status, b""), f"status and output of check-signer.py, which told {ran.stderr!r}")
+    t.same((ran.returncode, ran.stdout), (status, b""), f"status and output of check-signer.py, which reported {ran.stderr!r}")
     return ran.stderr.decode()
 
 
 @each(ALGORITHMS, seconds=5)
 def a_signer_is_tried_before_the_desk_starts(t, algorithm):
-    """By check-signer.py, with the desk's own words: the right key, another one, none."""
+    """check-signer.py takes the options of `desk open`. It accepts the CA's key, and reports another key, or a signer that gives no signature."""
     authority.need_cryptography(t)
     it, other = Authority(t, algorithm), Authority(t, algorithm, name="other")
     guard(t, it)
@@ -415,7 +416,7 @@ def a_signer_is_tried_before_the_desk_starts(t, algorithm):
     t.signer("closes.sign", lambda message, call: None)
     t.same(checked(t, "ca.pem", "--log", *it.signing("guarded.sign"), "--unsigned"), "", "the CA's key")
     t.has(checked(t, "ca.pem", *it.signing("other.sign"), status=1), "openssl does not verify the signer's signature by ca.pem", "another key")
-    t.has(checked(t, "--allow-absent", "ca.pem", *it.signing("other.sign"), status=1), "the signer has another key", "another key, and absence allowed")
+    t.has(checked(t, "--allow-absent", "ca.pem", *it.signing("other.sign"), status=1), "the signer has another key", "with --allow-absent")
     for path in ("nowhere.sign", "closes.sign"):
         t.has(checked(t, "ca.pem", *it.signing(path), status=1), f"{path}: no signature", path)
         t.has(checked(t, "--allow-absent", "ca.pem", *it.signing(path)), f"{path}: no signature", path)
@@ -424,7 +425,7 @@ def a_signer_is_tried_before_the_desk_starts(t, algorithm):
 
 
 def trickled(it, peer):
-    """Sends an octet of the signature each 0.3 seconds."""
+    """Sends one octet of the signature every 0.3 seconds."""
     for octet in it.sign(program.read_all(peer)):
         time.sleep(0.3)
         peer.sendall(bytes([octet]))
@@ -432,7 +433,7 @@ def trickled(it, peer):
 
 @each({"no octet comes": None, "an octet comes now and then": trickled}, seconds=3)
 def a_signer_is_tried_for_ten_seconds(t, signs):
-    """By check-signer.py. Here a second has a tenth of one."""
+    """check-signer.py waits at most ten seconds for the whole signature. Here its clock runs ten times as fast."""
     it = Authority(t)
     if signs:
         t.enter_context(authority.Peer(t.room / "hangs.sign", lambda peer, _: signs(it, peer)))
@@ -467,9 +468,9 @@ def a_responder_s_signer_is_tried_by_its_own_certificate(t):
     authority.started(t, words, t.room / "ocsp.sign")
     (t.room / "ocsp.der").write_bytes(t.tool("openssl", "x509", "-in", responder.pem, "-outform", "DER"))
     beside = ("--responder", "ocsp.der", "--responder-algorithm", "ecdsa-sha256", "--responder-signer")
-    t.same(checked(t, "ca.pem", *it.signing("guarded.sign"), *beside, "ocsp.sign"), "", "both")
-    t.same(checked(t, "ca.pem", *beside, "ocsp.sign"), "", "the responder's alone")
-    # The CA's signer refuses an answer of the responder, and one that signs anything has another key.
+    t.same(checked(t, "ca.pem", *it.signing("guarded.sign"), *beside, "ocsp.sign"), "", "both signers")
+    t.same(checked(t, "ca.pem", *beside, "ocsp.sign"), "", "the responder's signer alone")
+    # The CA's signer refuses an answer of the responder. A signer that signs anything with the CA's key has the wrong key here.
     t.has(checked(t, "ca.pem", *beside, "guarded.sign", status=1), "guarded.sign: no signature")
     t.signer("any.sign", it.sign)
     t.has(checked(t, "ca.pem", *beside, "any.sign", status=1), "does not verify the signer's signature by ocsp.der")
@@ -477,7 +478,7 @@ def a_responder_s_signer_is_tried_by_its_own_certificate(t):
 
 @test(seconds=2)
 def a_socket_that_is_handed_over(t):
-    """As systemd hands it over, to one process: descriptor 3, with its number and that of the process in the environment."""
+    """systemd hands a socket over to one process as descriptor 3. LISTEN_FDS is the number of sockets, LISTEN_PID that of the process."""
     authority.need_cryptography(t)
     it = Authority(t)
     message = to_be_signed(t, it)[0]
@@ -487,19 +488,19 @@ def a_socket_that_is_handed_over(t):
         listener.listen(8)
         process = handed(words, listener)
         t.callback(authority.end, process)
-        t.true(signature(t.room / "handed.sign", message) != b"", "it signs")
+        t.true(signature(t.room / "handed.sign", message) != b"", "the signer gave no signature")
         refused(t, t.room / "handed.sign", b"hello", "a text")
     process.terminate()
-    t.same(process.wait(program.LONGEST), 0, "ended by SIGTERM")
-    t.true((t.room / "handed.sign").exists(), "the socket stays, which is not its own")
+    t.same(process.wait(program.LONGEST), 0, "status after SIGTERM")
+    t.true((t.room / "handed.sign").exists(), "the signer removed the socket, which is not its own")
     ran = t.tried(*words)
-    t.same((ran.returncode, b"no socket was handed over" in ran.stderr), (1, True), "with none")
+    t.same((ran.returncode, b"no socket was handed over" in ran.stderr), (1, True), "status, and whether the cause is reported, without a socket")
     ran = t.tried(*words, "ca.sign")
-    t.same(ran.returncode, 2, "a path besides")
+    t.same(ran.returncode, 2, "status with a path as well")
 
 
 def handed(words, listener):
-    """A process that has the socket as descriptor 3. The shell has the number that the process keeps."""
+    """Starts a process with the socket as descriptor 3. LISTEN_PID is the shell's number, which the process keeps."""
     script = 'exec 3<&"$0"; export LISTEN_PID=$$ LISTEN_FDS=1; exec "$@"'
     at, nothing = listener.fileno(), subprocess.DEVNULL
     return subprocess.Popen(["bash", "-c", script, str(at), *words], pass_fds=[at], stdin=nothing, stdout=nothing, stderr=subprocess.PIPE)

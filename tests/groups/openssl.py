@@ -19,7 +19,7 @@ def register_of_a_day(t, it, begun):
     t.same(t.done("script", "ca.db", given=first_day(begun)).splitlines(), first_day_replies(begun))
 
 
-# OCSP: what openssl asks, and what it reads
+# OCSP: requests by openssl, and answers that it reads
 
 # Options of `openssl ocsp`, whether it sends a nonce, and the status of each serial number.
 REQUESTS = {
@@ -41,13 +41,13 @@ def nonce_in(text):
 
 @each(REQUESTS, seconds=3)
 def openssl_asks_and_reads(t, words, nonce, told):
-    """The answer repeats each CertID and the nonce byte for byte, at the control socket and over HTTP by POST and GET. openssl reads each answer."""
+    """The answer repeats each CertID and the nonce byte for byte, by `desk script` and over HTTP by POST and GET. openssl reads each answer."""
     it = Authority(t)
     it.register()
     begun = authority.now()
     begins, ends = moment_of(begun), moment_of(begun + 90 * DAY)
     lines = ["subscriber acme", *["order 1 398"] * 4]
-    # 07 has ended when it is asked: to OCSP that is good.
+    # 07 has ended before the request. Its OCSP status is still good.
     validities = ((5, ends), (80, ends), (7, begins), (GREATEST, ends))
     lines += [f"register {order} {serial} {begins} {last}" for order, (serial, last) in enumerate(validities, 1)]
     lines += ["request 80 superseded", "revoke 1"]
@@ -69,7 +69,7 @@ def openssl_asks_and_reads(t, words, nonce, told):
         t.has(said, "OCSP Response Status: successful (0x0)", way)
         produced = re.search(r"Produced At: (.*)", said)[1]
         t.same(authority.openssl_time(produced), later, f"Produced At {way}")
-        # All three commands issue the same bytes, with a placeholder digest.
+        # All three ways give the same bytes, with a placeholder digest.
         got = re.findall(r"Serial Number: ([0-9A-F]+)\s+Cert Status: (\w+)", said)
         t.same(got, list(zip(serials, told)), f"statuses {way}")
         t.same(nonce_in(said), nonce_in(text), f"the nonce {way}")
@@ -77,9 +77,9 @@ def openssl_asks_and_reads(t, words, nonce, told):
         t.same({authority.openssl_time(one) for one in re.findall(r"Next Update: (.*)", said)}, {later + 345_600}, f"Next Update {way}")
         revoked = "revoked" in told
         moments = {authority.openssl_time(one) for one in re.findall(r"Revocation Time: (.*)", said)}
-        t.same(moments, {begun} if revoked else set(), f"its moment {way}")
-        t.same(set(re.findall(r"Revocation Reason: (\w+) ", said)), {"superseded"} if revoked else set(), f"its reason {way}")
-    t.same(len(set(ways.values())), 1, "the three ways answer the same bytes")
+        t.same(moments, {begun} if revoked else set(), f"Revocation Time {way}")
+        t.same(set(re.findall(r"Revocation Reason: (\w+) ", said)), {"superseded"} if revoked else set(), f"Revocation Reason {way}")
+    t.same(len(set(ways.values())), 1, "how many different answers the three ways give")
 
 
 @test
@@ -95,7 +95,7 @@ def another_issuer_s_certificates_are_unknown(t):
 
 
 class Curl:
-    """Asks one server: the status, and the body."""
+    """Sends requests to one server. A call returns the status with the content type, and the body."""
 
     def __init__(self, t, port):
         self.t, self.url = t, f"http://127.0.0.1:{port}"
@@ -128,8 +128,8 @@ def each_route_by_curl(t):
         told, crl = curl(path)
         t.same(told, f"200 {CRL_TYPE}", path)
         text = t.tool("openssl", "crl", "-inform", "DER", "-noout", "-text", given=crl).decode()
-        t.same(re.search(r"X509v3 CRL Number:.*\n\s*(\d+)", text)[1], "1", "its number")
-        t.same(authority.listed(t, crl), {5: (begun, 1)}, "its entries")
+        t.same(re.search(r"X509v3 CRL Number:.*\n\s*(\d+)", text)[1], "1", f"the CRL number at {path}")
+        t.same(authority.listed(t, crl), {5: (begun, 1)}, f"the entries of the CRL at {path}")
     curl.same("/requests", 409, b'{"error":"E15 no-hold"}', "-d", '{"ground":"hold","serial":"06"}')
     told, body = curl("/requests", "-d", '{"ground":"superseded","serial":"06"}')
     t.same((told, re.sub(rb"\d{4}-\d\d-\d\dT\d\d:\d\d:\d\dZ", b"M", body)), (f"200 {JSON_TYPE}", b'{"due":"M","request":2}'))
@@ -152,15 +152,15 @@ def it_ends_after_the_given_number_of_connections(t):
     for _ in range(3):
         curl.same("/status/06", 200, b'{"status":"good"}')
     ended = desk.wait()
-    t.same((ended.status, ended.out, ended.err), (0, b"", b""), "it ends with status 0, and has said nothing but its port")
-    # Two clients that send nothing delay no other one. Only answered connections count.
+    t.same((ended.status, ended.out, ended.err), (0, b"", b""), "status, standard output after the line with the port, standard error")
+    # Two clients that send nothing delay no other client. Their connections count too.
     desk = t.open("ca.db", "--requests", "3", command="serve")
     with contextlib.ExitStack() as silent:
         for _ in range(2):
             silent.enter_context(desk.connect())
         Curl(t, desk.port).same("/status/06", 200, b'{"status":"good"}', "-m", "20")
-        t.same(desk.process.poll(), None, "it runs while they are there")
-    t.same(desk.wait().status, 0, "and ends once they are gone")
+        t.same(desk.process.poll(), None, "the exit status while the two clients are connected")
+    t.same(desk.wait().status, 0, "the exit status once the two clients are gone")
 
 
 @test(seconds=3)
@@ -169,30 +169,31 @@ def a_revocation_is_in_the_next_answer_of_an_open_desk(t):
     register_of_a_day(t, it, authority.now())
     desk = t.open("ca.db", "--control", "ca.control")
     curl = Curl(t, desk.port)
-    t.same((t.room / "ca.control").stat().st_mode & 0o777, 0o600, "the counter is its owner's alone")
+    t.same((t.room / "ca.control").stat().st_mode & 0o777, 0o600, "the mode of the control socket")
     t.same(t.done("at", "ca.control", given="request 06 superseded\n").split()[:3], ["request", "2", "due"])
-    t.same(it.asked_by_openssl("06", curl.url + "/ocsp"), "good", "before")
+    t.same(it.asked_by_openssl("06", curl.url + "/ocsp"), "good", "OCSP before the revocation")
     ran = t.desk("at", "ca.control", given="revoke 2\ncounts")
-    t.same((ran.status, ran.out, ran.err), (3, b"revoked\n", b"no-line-end\n"), "a last line with no LF is not told")
-    t.same(it.asked_by_openssl("06", curl.url + "/ocsp"), "revoked", "OCSP right behind it")
+    t.same((ran.status, ran.out, ran.err), (3, b"revoked\n", b"no-line-end\n"), "a last line without LF, which is not sent")
+    t.same(it.asked_by_openssl("06", curl.url + "/ocsp"), "revoked", "OCSP right after the revocation")
     t.has(curl("/status/06")[1], b'"status":"revoked"')
     t.same(t.done("at", "ca.control", given="crl\n"), "crl 2 entries 2\n")
     t.same(sorted(authority.listed(t, curl("/crl")[1])), [5, 6], "the latest CRL")
     ran = t.desk("at", "ca.control", given="revoke 2\ncounts\n")
     got = (ran.status, ran.err, [one[:4] for one in ran.lines])
-    t.same(got, (3, b"refused\n", ["E19 ", "good"]), "a refusal is told, and what is behind it goes on")
+    t.same(got, (3, b"refused\n", ["E19 ", "good"]), "a refusal, after which the next line is sent")
     refusal = lambda ran: (ran.status, ran.out, ran.err)
     port = program.free_port()
-    t.same(refusal(t.desk("open", "ca.db", "--port", port, "--control", "other", "--unsigned")), (1, b"", b"F2 store\n"), "a file that is open is not opened again")
+    t.same(refusal(t.desk("open", "ca.db", "--port", port, "--control", "other", "--unsigned")), (1, b"", b"F2 store\n"), "an open register")
     t.done("init", "other.db", *it.words())
-    t.same(refusal(t.desk("open", "other.db", "--port", port, "--control", "ca.control", "--unsigned")), (1, b"", b"F4 read\n"), "a live counter is not taken over")
+    t.same(refusal(t.desk("open", "other.db", "--port", port, "--control", "ca.control", "--unsigned")), (1, b"", b"F4 read\n"),
+           "a control socket on which another desk listens")
     desk.end()
-    t.same(refusal(t.desk("at", "ca.control")), (1, b"", b"F4 read\n"), "nobody listens any more")
+    t.same(refusal(t.desk("at", "ca.control")), (1, b"", b"F4 read\n"), "a control socket on which no desk listens")
     (t.room / "ca.txt").write_text("precious\n")
-    t.same(refusal(t.desk("open", "ca.db", "--port", port, "--control", "ca.txt", "--unsigned")), (1, b"", b"F4 read\n"), "another file is no counter")
-    t.same((t.room / "ca.txt").read_text(), "precious\n", "and stays")
+    t.same(refusal(t.desk("open", "ca.db", "--port", port, "--control", "ca.txt", "--unsigned")), (1, b"", b"F4 read\n"), "a path of another file")
+    t.same((t.room / "ca.txt").read_text(), "precious\n", "the file at the control path")
     t.open("ca.db", "--control", "ca.control")
-    t.same(t.done("at", "ca.control", given="counts\n"), "good 0 revoked 2 expired 0\n", "a stale counter is taken over")
+    t.same(t.done("at", "ca.control", given="counts\n"), "good 0 revoked 2 expired 0\n", "a stale control socket, which is replaced")
 
 
 # The examples
@@ -208,13 +209,13 @@ def play(t, *words, where=None, more=None, status=0):
 
 @each({"as it stands": None, "with no socat": "hidden"}, seconds=6)
 def the_walkthrough(t, hidden):
-    """examples/openssl-walkthrough.sh from a folder whose `desk` is the program: openssl verifies the CRL and the OCSP answer."""
+    """examples/openssl-walkthrough.sh runs in a folder whose `desk` is the tested program. openssl verifies the CRL and the OCSP answer."""
     if hidden or not shutil.which("socat"):
         authority.need_cryptography(t)
     top = authority.stood_in(t)
     more = {"TMPDIR": str(t.room)}
     if hidden:
-        # Each tool but one.
+        # This PATH has every tool except socat.
         tools = t.room / "tools"
         tools.mkdir()
         for folder in ("/usr/local/bin", "/usr/bin", "/bin"):
@@ -243,20 +244,20 @@ def issue_due_crl_issues_one_where_it_is_due(t):
     signer = it.signer()
     desk = t.open("ca.db", "--control", "counter", *it.signing())
     control = t.control()
-    t.same(play(t, "bash", script, "counter").stdout, b"crl 1 entries 0\n", "with no CRL it is due at once")
-    t.same(play(t, "bash", script, "counter").stdout, b"", "and no second one within the week")
+    t.same(play(t, "bash", script, "counter").stdout, b"crl 1 entries 0\n", "the first CRL, which is due at once")
+    t.same(play(t, "bash", script, "counter").stdout, b"", "no second CRL within the week")
     t.same(len(signer.asked), 1, "signatures")
     t.same(control.ask("counts"), "good 0 revoked 0 expired 0")
     it.verifies(body_of(t, desk.ask("GET", "/crl"), CRL_TYPE))
     ran = play(t, "bash", script, status=2)
     t.has(ran.stderr, b"usage: ")
     ran = play(t, "bash", script, "nobody", status=1)
-    t.same((ran.stdout, b"no reply" in ran.stderr), (b"", True), "nobody is there")
+    t.same((ran.stdout, b"no reply" in ran.stderr), (b"", True), "no desk listens")
 
 
 @test(seconds=4)
 def issue_due_crl_behind_a_placeholder_digest(t):
-    """A signer was added: the latest CRL has no signature, and the next one is issued at once, signed."""
+    """If the latest CRL has a placeholder digest and the desk has a signer now, the script issues a signed CRL at once."""
     script = EXAMPLES / "issue-due-crl.sh"
     it = Authority(t)
     it.register()
@@ -264,19 +265,19 @@ def issue_due_crl_behind_a_placeholder_digest(t):
     t.done("script", "ca.db", given=f"{now} crl\n")
     it.signer()
     unsigned = t.open("ca.db")
-    t.same(play(t, "bash", script, "counter").stdout, b"", "no signer yet")
+    t.same(play(t, "bash", script, "counter").stdout, b"", "a desk without a signer")
     unsigned.end()
     desk = t.open("ca.db", "--counter", "counter", *it.signing())
     t.same(play(t, "bash", script, "counter").stdout, b"crl 2 entries 0\n")
-    t.same(play(t, "bash", script, "counter").stdout, b"", "and no other")
+    t.same(play(t, "bash", script, "counter").stdout, b"", "no further CRL")
     it.verifies(body_of(t, desk.ask("GET", "/crl"), CRL_TYPE))
 
 
 @test(seconds=4)
 def issue_due_crl_by_the_clock(t):
-    """A week after the latest one, or a day after a revocation that no CRL lists. With a failing signer the exit status is 3."""
+    """A CRL is due a week after the latest one, or a day after a revocation that no CRL lists. With a failing signer the exit status is 3."""
     script = EXAMPLES / "issue-due-crl.sh"
-    # The script compares with the clock of `date`, which no test sets: so the desk's is set before it.
+    # The script compares with the clock of `date`, which no test sets. So the register's commands have earlier moments.
     begun = authority.now()
     for name, ago, revoked, due in (("a week", 7 * DAY, None, True), ("less", 7 * DAY - 3600, None, False), ("a day", 2 * DAY, DAY, True),
                                     ("less than a day", 2 * DAY, DAY - 3600, False)):
@@ -297,14 +298,15 @@ def issue_due_crl_by_the_clock(t):
     t.same((ran.stdout, b"F3 signer" in ran.stderr), (b"", True), "a signer that fails")
 
 
-# Of each ground whether its CRL is issued at once; control-lost, superseded and nonconforming have the same reason (docs/RULES.md).
+# For each ground, whether the test's --at-once issues a CRL at once; control-lost, superseded and nonconforming have the same reason (docs/RULES.md).
 AT_ONCE = {"key-compromise": True, "control-lost": True, "superseded": False, "nonconforming": False, "asked": False, "unauthorized": False, "affiliation": False,
            "cessation": False, "misuse": False, "name-not-permitted": False, "inaccurate": False}
 
 
 @each({it: it for it in AT_ONCE}, seconds=3)
 def issue_due_crl_at_once(t, ground):
-    """For a certificate that was revoked on this ground, up to the CRL that lists it; and in the last day before the next CRL, where that is no earlier for it."""
+    """With --at-once the script issues a CRL at once if a certificate was revoked on one of its grounds and no CRL lists it. It also does so in
+    the last day before the next CRL, which the revocation makes no earlier."""
     begun = authority.now()
     at_once = ("--at-once", "key-compromise,control-lost", "--port")
     for ago in (DAY, 7 * DAY - 7200):
@@ -315,14 +317,14 @@ def issue_due_crl_at_once(t, ground):
         desk = t.open(f"{ago}.db", "--control", f"{ago}.counter")
         issues = ("bash", EXAMPLES / "issue-due-crl.sh", *at_once, desk.port, f"{ago}.counter")
         t.same(play(t, "bash", EXAMPLES / "issue-due-crl.sh", f"{ago}.counter").stdout, b"", "without --at-once")
-        t.same(play(t, *issues).stdout.decode(), "crl 2 entries 1\n" if AT_ONCE[ground] else "", f"{ago} seconds behind the CRL before")
-        t.same(play(t, *issues).stdout, b"", "and no other")
+        t.same(play(t, *issues).stdout.decode(), "crl 2 entries 1\n" if AT_ONCE[ground] else "", f"{ago} seconds after the latest CRL")
+        t.same(play(t, *issues).stdout, b"", "no further CRL")
         desk.end()
 
 
 @test(seconds=3)
 def a_crl_is_issued_at_once_and_published_at_the_ipv6_loopback_address(t):
-    """The lines of the package's units with ADDRESS=[::1], for a desk with --listen [::1]."""
+    """The scripts of the package's units work with the address [::1] of a desk with --listen [::1]. The units pass ADDRESS on to them."""
     if "00000000000000000000000000000001" not in Path("/proc/net/if_inet6").read_text():
         raise Skipped("this system has no IPv6 loopback address")
     it = Authority(t)
@@ -343,7 +345,7 @@ def a_crl_is_issued_at_once_and_published_at_the_ipv6_loopback_address(t):
 
 @test(seconds=5)
 def issue_due_crl_at_once_among_many(t):
-    """The one that no CRL lists is the last of 300 by its serial number: it is found on a later page."""
+    """The only certificate that no CRL lists is the last of 300 by its serial number. The script finds it on the second page of the list."""
     now = authority.now()
     begins, ends = moment_of(now), moment_of(now + 90 * DAY)
     given = ["subscriber acme"]
@@ -353,19 +355,19 @@ def issue_due_crl_at_once_among_many(t):
     t.register(lines="".join(f"{begins} {line}\n" for line in given))
     desk = t.open()
     issues = ("bash", EXAMPLES / "issue-due-crl.sh", "--at-once", "key-compromise", "--port", desk.port, "counter")
-    t.same(play(t, *issues).stdout, b"", "each is on a CRL")
+    t.same(play(t, *issues).stdout, b"", "a CRL lists each revoked certificate")
     control = t.control()
     t.same(control.ask("revoke 300").split()[0], "revoked")
-    t.same(play(t, *issues, more=authority.NO_PROXY).stdout, b"crl 2 entries 300\n", "one is on none")
+    t.same(play(t, *issues, more=authority.NO_PROXY).stdout, b"crl 2 entries 300\n", "no CRL lists one revoked certificate")
     for words, status, told in (((*issues[:5], "1", "counter"), 1, b"does not answer /metrics at port 1"), ((*issues[:3], "none", "counter"), 2, b"there is no ground none"),
                                 (issues[:4], 2, b"usage: "), ((*issues[:3], "", "counter"), 2, b"usage: "), ((*issues[:2], "--other", "x", "counter"), 2, b"usage: ")):
         ran = play(t, *words, status=status)
-        t.same((ran.stdout, told in ran.stderr), (b"", True), f"{words} told {ran.stderr}")
+        t.same((ran.stdout, told in ran.stderr), (b"", True), f"standard output of {words}, and whether standard error has the cause: {ran.stderr}")
 
 
 @test(seconds=3)
 def issue_due_crl_at_once_fails_if_a_list_does_not_come(t):
-    """Here curl gets each page but those of lists."""
+    """The script fails if curl can't fetch a list. Here curl fetches all pages but lists."""
     now = moment_of(authority.now())
     ends = moment_of(authority.now() + 90 * DAY)
     given = ["subscriber acme", "order 1 398", f"register 1 05 {now} {ends}", "crl", "request 05 key-compromise", "revoke 1"]
@@ -377,7 +379,7 @@ def issue_due_crl_at_once_fails_if_a_list_does_not_come(t):
     issues = ("bash", EXAMPLES / "issue-due-crl.sh", "--at-once", "key-compromise", "--port", desk.port, "counter")
     ran = play(t, *issues, more={"PATH": f"{t.room}/bin:{os.environ['PATH']}"}, status=1)
     t.same((ran.stdout, ran.stderr), (b"", f"counter: the desk does not answer /list/revoked?limit=250 at port {desk.port}\n".encode()))
-    t.same(play(t, *issues).stdout, b"crl 2 entries 1\n", "once it comes")
+    t.same(play(t, *issues).stdout, b"crl 2 entries 1\n", "once curl can fetch the list")
 
 
 NAMES = {
@@ -397,10 +399,10 @@ def issuer_words_takes_name_and_key_out_of_a_certificate(t, algorithm, subject):
     name, key = fields[3][2], authority.values_of(fields[4][1])[1][1][1:]
     wanted = f"--name {name.hex()} --key {key.hex()}\n".encode()
     (t.room / "left").mkdir()
-    t.same(play(t, "sh", EXAMPLES / "issuer-words.sh", it.pem, more={"TMPDIR": str(t.room / "left")}).stdout, wanted, "of PEM")
+    t.same(play(t, "sh", EXAMPLES / "issuer-words.sh", it.pem, more={"TMPDIR": str(t.room / "left")}).stdout, wanted, "from PEM")
     t.same(list((t.room / "left").iterdir()), [], "temporary files that are left")
     (t.room / "ca.der").write_bytes(der)
-    t.same(play(t, "sh", EXAMPLES / "issuer-words.sh", "ca.der").stdout, wanted, "of DER")
+    t.same(play(t, "sh", EXAMPLES / "issuer-words.sh", "ca.der").stdout, wanted, "from DER")
     it.register()
     begun = authority.now()
     t.done("script", "ca.db", given=f"{moment_of(begun)} crl\n")

@@ -1,7 +1,7 @@
 """The Debian package of tools/package.sh: built twice, checked by lintian, and installed into a fresh root of Debian. The tests type its first
 steps there (README.Debian), run the commands of its units in place of systemd, and again with systemd if systemd-nspawn can start it. They
-upgrade and remove it while it runs. Removing it leaves the registers and the keys. The tests need root. debootstrap fetches a Debian of some
-100 MB, which PACKAGE_ROOT=FOLDER keeps for the next time."""
+upgrade and remove it while it runs. Removing it leaves the registers and the keys. The test `the_package` needs root. debootstrap fetches a Debian
+of some 100 MB, which PACKAGE_ROOT=FOLDER keeps for the next time."""
 
 import contextlib
 import gzip
@@ -27,7 +27,7 @@ REGISTER, KEY = "/var/lib/durshavon/ca.db", "/var/lib/durshavon-signer/ca.key"
 SOCKET, PUBLISHED = "/run/durshavon-signer/ca.sign", "/var/lib/durshavon-crl/ca"
 COPIES = "/var/backups/ca"
 CONTROL = "/run/durshavon/ca/control"
-# For how many seconds what is typed may run.
+# How many seconds the typed lines may run.
 LONGEST = program.LONGEST
 # The units of a register for `systemctl enable`.
 ENABLED = ("desk@ca.service", "desk-crl@ca.timer", "desk-signer@ca.socket", "desk-responder@ca.socket")
@@ -71,7 +71,7 @@ class Root:
         return ran.stdout.decode()
 
     def owner(self, *words, **how):
-        """The same, by the user who owns the registers."""
+        """The same, as the user `durshavon`, who owns the registers."""
         return self.run(*words, user="durshavon", **how)
 
 
@@ -84,7 +84,7 @@ def built(t):
     # tools/version.sh reads the version in one, and a page links to the other.
     for it in ("reg_desk_cli", "reg_core"):
         (folder / "crates" / it).symlink_to(TOP / "crates" / it)
-    # git follows no link to this one.
+    # git does not follow a link to .gitignore.
     (folder / ".gitignore").write_bytes((TOP / ".gitignore").read_bytes())
     made = folder / "crates/reg_desk/out"
     made.mkdir(parents=True)
@@ -92,19 +92,19 @@ def built(t):
     packages = []
     for it in ("first", "second"):
         ran = t.tried("env", "-C", folder, "GIT_OPTIONAL_LOCKS=0", "bash", "tools/package.sh", t.room / it, timeout=LONGEST)
-        t.same(ran.returncode, 0, f"status of tools/package.sh, which told {ran.stderr[-1000:]!r}")
+        t.same(ran.returncode, 0, f"status of tools/package.sh, which reported {ran.stderr[-1000:]!r}")
         packages.append(ran.stdout.decode().splitlines()[-1])
     first, second = (Path(it) for it in packages)
     t.same(first.name, second.name)
-    t.same(first.read_bytes() == second.read_bytes(), True, "built twice, it is the same")
+    t.same(first.read_bytes() == second.read_bytes(), True, "whether two builds have the same bytes")
     made = t.tool("git", "-C", TOP, "show", "-s", "--format=%ct", "HEAD").decode()
-    t.has(first.name, f"durshavon_{version()}+{time.strftime('%Y%m%d%H%M%S', time.gmtime(int(made)))}.", "versions sort by the moment of their commits")
+    t.has(first.name, f"durshavon_{version()}+{time.strftime('%Y%m%d%H%M%S', time.gmtime(int(made)))}.", "the commit's moment in the version")
     return first
 
 
 @test
 def the_unit_waits_until_the_desk_answers(t):
-    """Even by a refusal, since its clock is behind the last command. And fails if the desk ends before."""
+    """wait-for-desk.sh waits until the desk replies. A refusal is a reply too: here the desk's clock is behind. It fails if the desk ends first."""
     t.register(lines="2026-01-02T00:00:00Z subscriber acme\n")
     t.clock("2026-01-01T00:00:00Z")
     desk = t.open()
@@ -113,10 +113,10 @@ def the_unit_waits_until_the_desk_answers(t):
     desk.end()
     ran = waits("counter", desk.process.pid)
     t.same((ran.returncode, ran.stderr), (1, b"the desk ended before it answered at counter\n"), "a desk that has ended, whose socket is left")
-    t.same(waits("counter").returncode, 2, "no process")
+    t.same(waits("counter").returncode, 2, "without the number of a process")
 
 
-# What each service of the package is forbidden, and what it may do beside that.
+# The settings that restrict every service of the package, and those of each service.
 FORBIDDEN = """ProtectSystem=strict NoNewPrivileges=yes CapabilityBoundingSet= ProtectHome=yes PrivateTmp=yes PrivateDevices=yes ProtectClock=yes ProtectHostname=yes
 ProtectKernelTunables=yes ProtectKernelModules=yes ProtectKernelLogs=yes ProtectControlGroups=yes ProtectProc=invisible ProcSubset=pid RestrictNamespaces=yes RestrictRealtime=yes
 RestrictSUIDSGID=yes LockPersonality=yes MemoryDenyWriteExecute=yes SystemCallArchitectures=native SystemCallFilter=@system-service""".split()
@@ -141,7 +141,8 @@ def what_each_service_is_forbidden(t):
     found = {name.removesuffix(".service"): text.splitlines() for name, text in units("service").items()}
     t.same(sorted(found), sorted(SERVICES), "services")
     for name, own in SERVICES.items():
-        t.same([it for it in [*FORBIDDEN, "SystemCallFilter=~@privileged @resources", *own] if it not in found[name]], [], f"what {name}.service lacks")
+        t.same([it for it in [*FORBIDDEN, "SystemCallFilter=~@privileged @resources", *own] if it not in found[name]], [],
+               f"settings that {name}.service lacks")
 
 
 @test
@@ -161,19 +162,21 @@ def the_timer_s_crl_does_not_wait_after_a_lost_key(t):
 @test
 def a_desk_that_ends_is_started_again_unless_its_command_line_is_wrong(t):
     found = units("service")["desk@.service"].splitlines()
-    t.same([it for it in ("Restart=always", "RestartSec=2", "RestartPreventExitStatus=2", "StartLimitIntervalSec=0") if it not in found], [], "what desk@.service lacks")
+    t.same([it for it in ("Restart=always", "RestartSec=2", "RestartPreventExitStatus=2", "StartLimitIntervalSec=0") if it not in found], [],
+           "settings that desk@.service lacks")
     t.same(t.desk("open", "ca.db", "--port", "8080", "--control", "control").status, 2, "the status of `desk open` without a signer")
 
 
 @test
 def every_user_can_read_what_is_published(t):
-    """Such as that of the web server."""
+    """desk-publish@.service lets every user, such as the web server's, read the published CRLs."""
     found = units("service")["desk-publish@.service"].splitlines()
-    t.same([it for it in ("StateDirectory=durshavon-crl/%i", "StateDirectoryMode=0755", "UMask=0022") if it not in found], [], "what desk-publish@.service lacks")
+    t.same([it for it in ("StateDirectory=durshavon-crl/%i", "StateDirectoryMode=0755", "UMask=0022") if it not in found], [],
+           "settings that desk-publish@.service lacks")
 
 
 def maintained(t, script, *words):
-    """What a script of the package has systemctl do, where systemd runs; nothing else of the machine is changed."""
+    """The commands that a script of the package gives to systemctl if systemd runs. Its tools are replaced, so it changes nothing on the machine."""
     (t.room / "bin").mkdir(exist_ok=True)
     for name in ("systemctl", "getent", "install"):
         (t.room / "bin" / name).write_text(f'#!/bin/sh\n[ {name} != systemctl ] || echo "$@" >>"{t.room}/told"\n')
@@ -202,7 +205,7 @@ def a_removal_stops_and_disables_each_unit(t):
 
 @test
 def the_command_passes_its_words_on(t):
-    """Also those with blanks, and empty ones."""
+    """packaging/desk passes its words on to the program, also empty words and words with blanks."""
     (t.room / "lib").mkdir()
     (t.room / "lib/desk").write_text("#!/bin/sh\nprintf '<%s>' \"$@\"\n")
     (t.room / "lib/desk").chmod(0o755)
@@ -213,7 +216,7 @@ def the_command_passes_its_words_on(t):
 
 @test
 def completion_in_bash(t):
-    """Of the program's own commands and options, also after --why."""
+    """bash completes commands, options and file names, also after --why."""
     (t.room / "bin").mkdir()
     (t.room / "bin/desk").symlink_to(program.program())
     (t.room / "a register.db").touch()
@@ -240,7 +243,7 @@ def the_package(t):
         t.same([line for line in told.splitlines() if line.startswith("E:")], [], "errors of lintian")
     linked(t, deb)
     has_native = b"./usr/lib/durshavon/desk-signer\n" in t.tool("dpkg-deb", "-c", deb)
-    t.same(has_native, native.has_libcrypto(), "whether the native signer is in it")
+    t.same(has_native, native.has_libcrypto(), "whether the package has the native signer")
     root = Root(t)
     it = Authority(t)
     installed(t, root, deb)
@@ -259,7 +262,7 @@ def linked(t, deb):
     pages = sorted((files / "usr/share/doc/durshavon").rglob("*.md"))
     links = [page.parent / path for page in pages for path in re.findall(r"\]\(([^)#:\s]+)(?:#[^)]*)?\)", page.read_text(encoding="utf-8"))]
     links += [files / path for unit in (files / "lib/systemd/system").glob("*@.*") if unit.is_file() for path in re.findall(r"file:///(\S+)", unit.read_text())]
-    t.true(len(links) > 20, f"few links: {links}")
+    t.true(len(links) > 20, f"too few links were found: {links}")
     t.same([str(it.relative_to(files)) for it in links if not it.exists()], [], "links that lead nowhere")
 
 
@@ -269,18 +272,18 @@ def installed(t, root, deb):
     t.same(root.run("dpkg-query", "-W", "-f", "${Status}", "durshavon"), "install ok installed")
     verified = root.tried("dpkg", "--verify", "durshavon").stdout.decode().splitlines()
     # A small root may leave documents out.
-    t.same([line for line in verified if not re.search("/usr/share/(doc|man)/", line)], [], "files other than as they were packed")
+    t.same([line for line in verified if not re.search("/usr/share/(doc|man)/", line)], [], "installed files that differ from the packed ones")
     t.has(root.run("desk", "--help"), "Usage: desk [OPTIONS] <COMMAND>")
     t.same(root.run("desk", "--version").splitlines()[0].split()[:2], ["desk", version()], "desk --version")
     replies = root.run("desk", "script", given=(EXAMPLES / "first-day.txt").read_bytes())
-    t.same(replies, (EXAMPLES / "first-day.replies.txt").read_text(), "a first day, byte for byte")
+    t.same(replies, (EXAMPLES / "first-day.replies.txt").read_text(), "the replies of examples/first-day.txt")
     traced = root.tried("bash", "-x", "/usr/bin/desk", "--help").stderr.decode()
-    t.has(traced, "GLIBC_TUNABLES=glibc.malloc.hugetlb=1", "the heap is asked for in large pages")
+    t.has(traced, "GLIBC_TUNABLES=glibc.malloc.hugetlb=1", "the command asks for a heap in large pages")
     t.same(root.run("stat", "-c", "%a %U %G", "/var/lib/durshavon").strip(), "700 durshavon durshavon", "the folder of registers")
 
 
 def cleared(root):
-    """A root in which nothing was done before: it may be one that was kept."""
+    """Removes what an earlier run left, since the root may be a kept one."""
     for it in (REGISTER, REGISTER + "-wal", KEY, SOCKET, *RESPONDER, "/etc/durshavon/ca.conf", "/etc/durshavon/ca.pem", CONTROL):
         (root.path / it[1:]).unlink(missing_ok=True)
     for it in (PUBLISHED, COPIES, "/var/lib/durshavon/before", "/root/elsewhere"):
@@ -288,7 +291,7 @@ def cleared(root):
 
 
 def steps(t, port):
-    """The lines of the first steps, which docs/OPERATIONS.md has too, with another port and without apt: the package and its dependencies are there."""
+    """The lines of the first steps, which docs/OPERATIONS.md has too, with another port. apt is left out: the root has the packages already."""
     lines = [line for line in (TOP / "packaging/README.Debian").read_text().splitlines(keepends=True) if line.startswith("    ")]
     t.has((TOP / "docs/OPERATIONS.md").read_text(), "".join(lines), "docs/OPERATIONS.md has the lines of README.Debian")
     first, *lines = [line.strip().replace("8080", str(port)) for line in lines]
@@ -309,7 +312,7 @@ class Units:
         return next(it for it in found if it)[1].replace("%i", "ca")
 
     def words(self, unit, setting="ExecStart"):
-        """The words of a service, with the variables of its register's file."""
+        """The command line of a service, with the variables from its register's file."""
         said = {"ADDRESS": "127.0.0.1", "OPTIONS": "", "RESPONDER": ""}
         said |= dict(line.split("=", 1) for line in (self.root.path / "etc/durshavon/ca.conf").read_text().splitlines())
         words = self.setting(unit, setting).replace("${ADDRESS}", said["ADDRESS"]).replace("${PORT}", said["PORT"])
@@ -339,7 +342,7 @@ class Units:
         self.root.run("rm", "-rf", f"/run/{self.setting(unit, 'RuntimeDirectory')}")
 
     def once(self, unit):
-        """Its output, followed by that of the unit that it starts."""
+        """Runs a service to its end. Returns its output, followed by that of the unit that it starts."""
         if "publish" in unit:
             self.root.run("install", "-d", "-m", "0755", "-o", "durshavon", "-g", "durshavon", PUBLISHED)
         told = self.root.run(*self.words(unit), user=self.setting(unit, "User"))
@@ -353,7 +356,7 @@ class Units:
         self.running.callback(authority.end, process)
 
     def listen(self, unit):
-        """The socket of a unit, handed over to its service as systemd does."""
+        """Opens the socket of a unit, and hands it over to its service as systemd does."""
         path, user = self.setting(unit, "ListenStream"), self.setting(unit, "SocketUser")
         self.root.run("install", "-d", "-m", self.setting(unit, "DirectoryMode"), os.path.dirname(path))
         listener = self.running.enter_context(socket.socket(socket.AF_UNIX))
@@ -374,7 +377,7 @@ class Units:
 
 
 def first_steps(t, root, it):
-    """Runs line by line; then a day's work at the control socket, checked by openssl."""
+    """Runs the first steps line by line, then a day's work at the control socket, which openssl checks."""
     port = program.free_port()
     for made in (it.pem, it.key):
         shutil.copy(made, root.path / "root")
@@ -391,13 +394,13 @@ def first_steps(t, root, it):
         t.same(told, "created\nverify OK\n", "what was printed")
         crl = works(t, root, it, port)
         told = units.once("desk-publish@ca.service")
-        t.same((told, published(root)), (f"crl 2 published in {PUBLISHED}\n", crl), "the CRL is published")
+        t.same((told, published(root)), (f"crl 2 published in {PUBLISHED}\n", crl), "the reply, and the published CRL")
         answers_by_a_responder(t, root, it, units, port)
     later = moment_of(authority.now() + 1)
     told = root.owner("desk", "script", REGISTER, *it.signing(SOCKET), given=f"{later} status 05\n")
-    t.same(told.split()[0], "revoked", "ended by SIGTERM, all that was answered stands")
+    t.same(told.split()[0], "revoked", "a status after SIGTERM ended the desk")
     root.run("install", "-d", "-m", "0700", "-o", "durshavon", COPIES)
-    t.has(root.owner("/usr/lib/durshavon/backup.sh", REGISTER, COPIES), ": sound, 1 certificates, 1 revoked, 3 CRLs\n", "a copy of it")
+    t.has(root.owner("/usr/lib/durshavon/backup.sh", REGISTER, COPIES), ": sound, 1 certificates, 1 revoked, 3 CRLs\n", "a copy of the register")
 
 
 def moved_in(t, root):
@@ -405,19 +408,19 @@ def moved_in(t, root):
     (line,) = block("Into an installed package", "install")
     makes = ["mkdir elsewhere; cd elsewhere", "desk init ca.db $(/usr/lib/durshavon/issuer-words.sh ../ca.pem)", "desk script ca.db --clock <<< 'subscriber acme'"]
     t.same(root.run("bash", "-ec", "\n".join(["cd /root", *makes, line])), "created\nsubscriber 1\n")
-    t.same(root.owner("desk", "script", REGISTER, "--clock", given="subscriber acme\n"), "E05 name-taken 1\n", "what is there now")
+    t.same(root.owner("desk", "script", REGISTER, "--clock", given="subscriber acme\n"), "E05 name-taken 1\n", "the reply of the moved register")
     t.same(root.run("stat", "-c", "%a %U", REGISTER), "600 durshavon\n")
 
 
 def responder_steps(port):
-    """The lines that give an installed desk a responder's key, with those that make it; but for the port."""
+    """The lines that make a responder's key, and those that give it to an installed desk, with another port."""
     made = block("A responder", "openssl req")
     made = made[: next(at for at, line in enumerate(made) if line.startswith("/usr/lib/durshavon/signer.py"))]
     return [*made, *(line.replace("8080", str(port)) for line in block("A responder's key, installed", "install"))]
 
 
 def answers_by_a_responder(t, root, it, units, port):
-    """Runs line by line: a responder's key signs OCSP answers, the CA's key signs CRLs. Checks which users can reach its key and its signer."""
+    """Runs these lines. A responder's key then signs OCSP answers, and the CA's key signs CRLs. Checks the modes and owners of its key and socket."""
     told, lines = "", []
     for line in [*responder_steps(port), ""]:
         if line and not line.startswith("systemctl "):
@@ -432,7 +435,7 @@ def answers_by_a_responder(t, root, it, units, port):
     t.has(told, "Response verify OK", "what was printed")
     t.same(it.asked_by_openssl("05", f"http://127.0.0.1:{port}/ocsp", verify=True), "revoked", "by the responder")
     key, path, _ = RESPONDER
-    t.same(root.run("stat", "-c", "%a %U", key, path).splitlines(), ["400 durshavon-signer", "600 durshavon"], "its key and its socket")
+    t.same(root.run("stat", "-c", "%a %U", key, path).splitlines(), ["400 durshavon-signer", "600 durshavon"], "mode and owner of its key and socket")
     t.same(root.owner("desk", "at", CONTROL, given="crl\n"), "crl 3 entries 1\n", "a CRL")
     it.verifies(t.tool("curl", "-s", f"http://127.0.0.1:{port}/crl"))
 
@@ -443,8 +446,8 @@ def published(root):
 
 
 def works(t, root, it, port):
-    """A revocation at the control socket is in the next answer, which openssl verifies, and so is the CRL. Checks which users can reach the key and its
-    signer. Returns the CRL."""
+    """Revokes a certificate at the control socket. openssl verifies the next answer and the CRL, which has the revocation. Checks which users can
+    reach the key and its signer. Returns the CRL."""
     now = authority.now()
     registers = f"register 1 05 {moment_of(now)} {moment_of(now + 90 * authority.DAY)}"
     given = "".join(f"{line}\n" for line in ("subscriber acme", "order 1 398", registers, "request 05 superseded", "revoke 1", "crl"))
@@ -456,16 +459,16 @@ def works(t, root, it, port):
     t.same(list(authority.listed(t, crl)), [5])
     t.same(root.run("stat", "-c", "%a %U", KEY, os.path.dirname(KEY), SOCKET).split("\n")[:3], ["400 durshavon-signer", "700 durshavon-signer", "600 durshavon"])
     asks = 'import socket, sys; s = socket.socket(socket.AF_UNIX); s.connect(sys.argv[1]); s.sendall(b"x"); s.shutdown(1); print(s.recv(9))'
-    t.same(root.owner("python3", "-c", asks, SOCKET), "b''\n", "the desk's user has nothing else signed")
+    t.same(root.owner("python3", "-c", asks, SOCKET), "b''\n", "the signer's reply if the desk's user sends another message")
     for user in ("nobody", "durshavon-signer"):
-        t.same(root.tried("python3", "-c", asks, SOCKET, user=user).returncode, 1, f"{user} can't connect")
+        t.same(root.tried("python3", "-c", asks, SOCKET, user=user).returncode, 1, f"the status of a connection to the signer as {user}")
     for user in ("nobody", "durshavon"):
-        t.same(root.tried("cat", KEY, user=user).stdout, b"", f"{user} can't read the key")
+        t.same(root.tried("cat", KEY, user=user).stdout, b"", f"the bytes of the key that {user} can read")
     return crl
 
 
 def documented(t, root):
-    """The manual, completion, the units."""
+    """Checks the manual, the completion in bash, and the units."""
     listed = root.run("desk", "--help").partition("\nCommands:\n")[2].partition("\n\n")[0]
     commands = sorted(re.findall(r"^  ([a-z][a-z-]*) ", listed, re.MULTILINE))
     for page in ("man1/desk.1", "man5/desk-script.5"):
@@ -473,10 +476,10 @@ def documented(t, root):
         (t.room / "page").write_bytes(text)
         if shutil.which("man"):
             ran = t.tried("man", "--warnings=w", "-l", t.room / "page", env=dict(os.environ, MANWIDTH="100", LC_ALL="C.UTF-8"))
-            t.same((ran.returncode, ran.stderr, len(ran.stdout) > 1000), (0, b"", True), f"{page} is laid out with no warning")
+            t.same((ran.returncode, ran.stderr, len(ran.stdout) > 1000), (0, b"", True), f"{page} by man: status, warnings, whether it has text")
         if page == "man1/desk.1":
             told = re.findall(r'^\.SS "desk ([a-z\\-]+)', text.decode(), re.MULTILINE)
-            t.same(sorted(it.replace("\\", "") for it in told), commands, "desk.1 tells of each command")
+            t.same(sorted(it.replace("\\", "") for it in told), commands, "the commands in desk.1")
 
     def completed(*words):
         script = ('cd /root; . /usr/share/bash-completion/completions/desk; COMP_WORDS=("$@"); COMP_CWORD=$(($# - 1)); _desk; '
@@ -500,7 +503,7 @@ def documented(t, root):
 
 
 def booted(t, root, it):
-    """The first steps again, as they are, in a container of their own, if systemd-nspawn can start one; some machines don't allow it."""
+    """Runs the first steps again in a container with systemd, if systemd-nspawn can start one. Some machines don't allow it."""
     if not shutil.which("systemd-nspawn"):
         return
     cleared(root)
@@ -528,7 +531,7 @@ def booted(t, root, it):
             t.same(it.asked_by_openssl("05", f"http://127.0.0.1:{port}/ocsp", verify=True), "unknown", "desk@ca.service, asked over HTTP")
             behind(t, root, machine, it, port)
     finally:
-        # It has the root shut down in order.
+        # SIGTERM has the container shut down in order.
         machine.terminate()
         with contextlib.suppress(subprocess.TimeoutExpired):
             machine.wait(60)
@@ -536,7 +539,7 @@ def booted(t, root, it):
             machine.kill()
             machine.wait()
     with socket.socket() as peer:
-        t.true(peer.connect_ex(("127.0.0.1", port)) != 0, "shut down, nothing answers any more")
+        t.true(peer.connect_ex(("127.0.0.1", port)) != 0, "the port still answers after the container was shut down")
     root.tried("systemctl", "disable", "steps.service", *ENABLED)
 
 
@@ -545,19 +548,19 @@ def behind(t, root, machine, it, port):
     authority.until(lambda: published(root), "the CRL that desk-crl@ca.service has published")
     inside = Path(f"/proc/{machine.pid}/task/{machine.pid}/children").read_text().split()[0]
     at = ("env", "-u", "DESK", "nsenter", "-t", inside, "-a")
-    # Once more by itself, which fails where the unit does.
+    # The test starts the unit once more by itself, and fails if the unit fails.
     t.tool(*at, "systemctl", "start", "desk-publish@ca.service")
     copy = (*at, "/usr/lib/durshavon/backup.sh", REGISTER, COPIES)
     root.run("install", "-d", "-m", "0700", COPIES)
-    t.same(t.tried(*copy).returncode, 1, "status of backup.sh while the register is open and no counter is told")
-    t.has(t.tool(*copy, CONTROL).decode(), ": sound, 0 certificates, 0 revoked, 1 CRLs\n", "a copy of what is open")
+    t.same(t.tried(*copy).returncode, 1, "status of backup.sh for an open register without its control socket")
+    t.has(t.tool(*copy, CONTROL).decode(), ": sound, 0 certificates, 0 revoked, 1 CRLs\n", "a copy of an open register")
     upgraded(t, root, it, at, port)
     gone_back(t, root, at)
     a_held_port(t, at, port)
     a_key_that_its_signer_can_t_read(t, it, at, port)
     a_wrong_key(t, root, it, at, port)
     told = t.tool(*at, "bash", "-ec", "\n".join(["cd /root", *responder_steps(port)])).decode()
-    t.has(told, "Response verify OK", "a responder's key, told to what is installed")
+    t.has(told, "Response verify OK", "a responder's key for the installed desk")
     t.same(it.asked_by_openssl("05", f"http://127.0.0.1:{port}/ocsp", verify=True), "unknown", "by the responder")
     by_the_native_signer(t, root, it, at, port)
     while_the_key_is_away(t, root, it, at, port)
@@ -594,10 +597,10 @@ def silence(t, port, work):
     asking = threading.Thread(target=asks)
     asking.start()
     try:
-        authority.until(lambda: answered, "an answer before")
+        authority.until(lambda: answered, "an answer before the work")
         work()
         done = time.monotonic()
-        authority.until(lambda: answered[-1] > done, "an answer behind")
+        authority.until(lambda: answered[-1] > done, "an answer after the work")
     finally:
         ended.set()
         asking.join()
@@ -605,34 +608,34 @@ def silence(t, port, work):
 
 
 def upgraded(t, root, it, at, port):
-    """A newer package over the one that runs: the desk and its signer go on by it, and are away for a few seconds at most, on a slow machine too."""
+    """A newer package is installed while the desk runs. The desk and its signer restart with it within ten seconds, on a slow machine too."""
     units = ("desk@ca.service", "desk-signer@ca.service")
     processes = lambda: [t.tool(*at, "systemctl", "show", "--property=MainPID", "--value", unit).decode().strip() for unit in units]
     package, before = newer(t, root), processes()
-    t.true("0" not in before, f"desk and signer run before: {before}")
+    t.true("0" not in before, f"the desk or its signer did not run before: {before}")
     longest = silence(t, port, lambda: t.tool(*at, "dpkg", "--install", package))
     t.note(f"nobody was answered for {longest:.2f} s")
-    t.true(longest < 10, f"nobody was answered for {longest:.2f} s")
+    t.true(longest < 10, f"the desk answered no client for {longest:.2f} s")
     after = processes()
-    t.same([old == new for old, new in zip(before, after)], [False, False], f"the same processes, before {before} and after {after}")
-    t.true("0" not in after, f"desk and signer run behind it: {after}")
-    t.same(t.tool(*at, "desk", "--version"), b"newer\n", "the program")
-    t.same(it.asked_by_openssl("05", f"http://127.0.0.1:{port}/ocsp", verify=True), "unknown", "signed behind it")
-    t.same(t.tool(*at, "desk", "at", CONTROL, given="counts\n"), b"good 0 revoked 0 expired 0\n", "the counter")
+    t.same([old == new for old, new in zip(before, after)], [False, False], f"whether the processes are the same, before {before} and after {after}")
+    t.true("0" not in after, f"the desk or its signer does not run after it: {after}")
+    t.same(t.tool(*at, "desk", "--version"), b"newer\n", "the version after the upgrade")
+    t.same(it.asked_by_openssl("05", f"http://127.0.0.1:{port}/ocsp", verify=True), "unknown", "an answer after the upgrade")
+    t.same(t.tool(*at, "desk", "at", CONTROL, given="counts\n"), b"good 0 revoked 0 expired 0\n", "the counts after the upgrade")
     t.tool(*at, "systemctl", "is-active", "desk-crl@ca.timer", "desk-signer@ca.socket")
 
 
 def gone_back(t, root, at):
-    """Back to the copy, by the document's lines: later entries are gone, and the desk goes on."""
+    """The document's lines put the copy in the place of the register. Later entries are gone, and the desk goes on."""
     asks = lambda line: t.tool(*at, "desk", "at", CONTROL, given=f"{line}\n")
-    t.same(asks("subscriber late"), b"subscriber 1\n", "behind the copy")
+    t.same(asks("subscriber late"), b"subscriber 1\n", "an entry after the copy")
     [copy] = (it.name for it in (root.path / COPIES[1:]).iterdir())
     lines = [line.replace("ca.db-20260101T021500Z", copy) for line in block("Go back to a backup", "systemctl stop")]
     t.same([copy in line for line in lines].count(True), 1, f"lines that name the copy, of {lines}")
-    # Its group is another: SQLite then changes that of the log, which it makes anew.
+    # The register gets another group. SQLite then changes the group of the -wal file, which it makes anew.
     lines += [f"chgrp root {REGISTER}", "/usr/lib/durshavon/after-a-backup.py --help", "systemctl start desk@ca desk-crl@ca.timer"]
-    t.has(t.tool(*at, "bash", "-ec", "\n".join(lines)), b"--published CRL", "the script that is installed")
-    t.same(asks("subscriber anew"), b"subscriber 1\n", "the copy as it was")
+    t.has(t.tool(*at, "bash", "-ec", "\n".join(lines)), b"--published CRL", "the help of the installed script")
+    t.same(asks("subscriber anew"), b"subscriber 1\n", "an entry after the copy is back")
     root.run("rm", "-r", "/var/lib/durshavon/before")
 
 
@@ -645,7 +648,7 @@ def answers(t, port):
 
 
 def a_held_port(t, at, port):
-    """Another program has the port for longer than it takes systemd to give up by itself: the desk is started once it is free."""
+    """Another program has the port for so long that systemd would give up by default. systemd starts the desk once the port is free."""
     t.tool(*at, "systemctl", "stop", "desk@ca.service")
     with socket.socket() as holder:
         holder.setsockopt(socket.SOL_SOCKET, socket.SO_REUSEADDR, 1)
@@ -653,36 +656,36 @@ def a_held_port(t, at, port):
         holder.listen()
         t.same(t.tried(*at, "systemctl", "start", "desk@ca.service").returncode, 1, "status of systemctl start")
         time.sleep(15)
-        t.same(state(t, at, "desk@ca.service"), "activating", "after 15 seconds")
+        t.same(state(t, at, "desk@ca.service"), "activating", "the unit after 15 seconds")
     authority.until(lambda: state(t, at, "desk@ca.service") == "active", "desk@ca.service once the port is free")
-    t.true(answers(t, port), "it answers")
+    t.true(answers(t, port), "the desk does not answer")
     t.has(t.tool(*at, "journalctl", "-u", "desk@ca.service").decode(), "  port in use", "the journal has the cause")
 
 
 def a_key_that_its_signer_can_t_read(t, it, at, port):
-    """For longer than it takes systemd to give up by itself: the signer runs once its user has the key again."""
+    """The signer can't read its key for so long that systemd would give up by default. It runs once its user owns the key again."""
     url = f"http://127.0.0.1:{port}/ocsp"
     t.tool(*at, "systemctl", "stop", "desk-signer@ca.service")
     t.tool(*at, "chown", "root", KEY)
-    t.has(t.tried("openssl", "ocsp", "-issuer", it.pem, "-serial", "5", "-url", url).stdout, b"internalerror", "an answer meanwhile")
+    t.has(t.tried("openssl", "ocsp", "-issuer", it.pem, "-serial", "5", "-url", url).stdout, b"internalerror", "an answer without the signer")
     time.sleep(10)
-    # It is active for the moment in which it reads the key.
-    t.true(state(t, at, "desk-signer@ca.service") in ("activating", "active"), "systemd gave the signer up")
+    # The unit is active while the signer tries to read the key.
+    t.true(state(t, at, "desk-signer@ca.service") in ("activating", "active"), "systemd no longer starts the signer")
     t.tool(*at, "chown", "durshavon-signer", KEY)
     is_signed = lambda: b"Response verify OK" in t.tried("openssl", "ocsp", "-issuer", it.pem, "-serial", "5", "-url", url, "-CAfile", it.pem, timeout=LONGEST).stderr
     authority.until(is_signed, "an answer that is signed")
 
 
 def a_wrong_key(t, root, it, at, port):
-    """The desk does not start with a signer that has another key, and says why; it starts with one that is away, and with the right one. The package's own
-    signer ends with another key, and gives no signature."""
+    """The desk does not start with a signer that has another key, and the journal has the cause. It starts with the right signer, and with one that
+    does not run. The package's own signer ends if it has another key, and gives no signature."""
     Authority(t, name="other")
     shutil.copy(t.room / "other.key", root.path / "root")
     kept = (root.path / KEY[1:]).read_bytes()
     (root.path / KEY[1:]).write_bytes((t.room / "other.key").read_bytes())
     t.tool(*at, "systemctl", "restart", "desk-signer@ca.service")
-    t.same(t.tried(*at, "desk", "at", CONTROL, given="crl\n").stdout, b"F3 signer\n", "a CRL by another key in the place of the CA's")
-    t.has(t.tool(*at, "journalctl", "-u", "desk-signer@ca.service").decode(), "is the certificate of another key", "why")
+    t.same(t.tried(*at, "desk", "at", CONTROL, given="crl\n").stdout, b"F3 signer\n", "a CRL while another key is in the place of the CA's")
+    t.has(t.tool(*at, "journalctl", "-u", "desk-signer@ca.service").decode(), "is the certificate of another key", "the journal has the cause")
     (root.path / KEY[1:]).write_bytes(kept)
     conf = root.path / "etc/durshavon/ca.conf"
     before = conf.read_text()
@@ -699,22 +702,22 @@ def a_wrong_key(t, root, it, at, port):
     t.has(t.tool(*at, "journalctl", "-u", "desk@ca.service").decode(), wanted, "the journal has the cause")
     t.tool(*at, "systemctl", "stop", "wrong.service")
     t.tool(*at, "systemctl", "restart", "desk@ca.service")
-    t.true(answers(t, port), "a signer that is away")
+    t.true(answers(t, port), "the desk does not answer while its signer does not run")
     conf.write_text(before)
     t.tool(*at, "rm", "-r", path)
     t.tool(*at, "systemctl", "restart", "desk@ca.service")
-    t.same(it.asked_by_openssl("05", f"http://127.0.0.1:{port}/ocsp", verify=True), "unknown", "with the right one, as soon as systemctl returns")
+    t.same(it.asked_by_openssl("05", f"http://127.0.0.1:{port}/ocsp", verify=True), "unknown", "with the right signer, as soon as systemctl returns")
 
 
 def taken_away(t, root, at, port):
-    """Removed while it runs: nothing of it runs any more, nor is enabled, and installed again it starts nothing by itself."""
+    """The package is removed while it runs, and then installed again. Each time no unit of it runs or is enabled afterwards."""
     running = lambda: t.tool(*at, "systemctl", "list-units", "--plain", "--no-legend", "--state=active,activating", "desk*@*").decode()
     t.has(running(), "desk@ca.service")
     for line in ("--remove durshavon", "--install /root/durshavon.deb"):
         t.tool(*at, "dpkg", *line.split())
-        t.same((running(), links(root)), ("", []), f"what runs, and what is enabled, behind dpkg {line}")
+        t.same((running(), links(root)), ("", []), f"the units that run, and those that are enabled, after dpkg {line}")
         with socket.socket() as peer:
-            t.true(peer.connect_ex(("127.0.0.1", port)) != 0, f"nothing answers behind dpkg {line}")
+            t.true(peer.connect_ex(("127.0.0.1", port)) != 0, f"the port still answers after dpkg {line}")
 
 
 def links(root):
@@ -723,21 +726,22 @@ def links(root):
 
 
 def by_the_native_signer(t, root, it, at, port):
-    """It signs for the CA and for the responder, under all that the units forbid, and its memory is locked. By the document's lines signer.py does."""
+    """The native signer signs for the CA and the responder under all restrictions of the units, and its memory is locked. After the document's lines
+    signer.py signs."""
     if not (root.path / "usr/lib/durshavon/desk-signer").exists():
         return
     t.same(it.asked_by_openssl("05", f"http://127.0.0.1:{port}/ocsp", verify=True), "unknown", "by the responder")
     t.same(t.tool(*at, "/usr/lib/durshavon/check-signer.py", "/etc/durshavon/ca.pem", *it.signing(SOCKET)), b"", "by the CA's key")
     asks = 'import socket, sys; s = socket.socket(socket.AF_UNIX); s.connect(sys.argv[1]); s.sendall(b"x"); s.shutdown(1); print(s.recv(9))'
     for unit, path in (("desk-signer@ca", SOCKET), ("desk-responder@ca", RESPONDER[1])):
-        t.same(t.tool(*at, "python3", "-c", asks, path), b"b''\n", f"{unit}: nothing else is signed")
+        t.same(t.tool(*at, "python3", "-c", asks, path), b"b''\n", f"{unit}: the reply to another message")
         process = t.tool(*at, "systemctl", "show", "--property=MainPID", "--value", unit).decode().strip()
         status = dict(line.split(":", 1) for line in t.tool(*at, "cat", f"/proc/{process}/status").decode().splitlines())
         t.same(status["Name"].strip(), "desk-signer", f"{unit}: its program")
-        t.true(int(status["VmLck"].split()[0]) > 0, f"{unit}: its memory is locked")
+        t.true(int(status["VmLck"].split()[0]) > 0, f"{unit}: its memory is not locked")
         t.has(t.tool(*at, "journalctl", "-u", unit).decode(), "refused to sign 1 bytes: ", f"{unit}: the journal has the reason")
         t.tool(*at, "systemctl", "stop", f"{unit}.service")
-        t.same(state(t, at, f"{unit}.service"), "inactive", f"{unit}: it ends by SIGTERM")
+        t.same(state(t, at, f"{unit}.service"), "inactive", f"{unit}: its state after the stop")
     t.same(it.asked_by_openssl("05", f"http://127.0.0.1:{port}/ocsp", verify=True), "unknown", "the socket starts the responder's signer")
     t.tool(*at, "bash", "-ec", "\n".join(block("With the package's units", "install -d", "signer/README")))
     t.same(it.asked_by_openssl("05", f"http://127.0.0.1:{port}/ocsp", verify=True), "unknown", "by signer.py")
@@ -751,34 +755,34 @@ def while_the_key_is_away(t, root, it, at, port):
     url = f"http://127.0.0.1:{port}"
     types = lambda beginning: t.tool(*at, "bash", "-ec", "\n".join(["cd /root", *block("A responder's key, installed", beginning)])).decode()
     types("sed -i")
-    t.true(answers(t, port), "desk@ca.service without the CA's key")
+    t.true(answers(t, port), "desk@ca.service does not answer without the CA's key")
     t.same(it.asked_by_openssl("05", f"{url}/ocsp", verify=True), "unknown", "by the responder alone")
     ran = t.tried(*at, "desk", "at", CONTROL, given="crl\n")
-    t.same((ran.returncode, ran.stdout), (3, b"F3 signer\n"), "a CRL at the counter")
+    t.same((ran.returncode, ran.stdout), (3, b"F3 signer\n"), "a CRL at the control socket")
     t.tool(*at, "systemctl", "start", "desk-crl@ca.service")
     t.has(types("systemctl stop"), "crl 2 entries 0\n", "a CRL while the key is back")
-    t.true(answers(t, port), "desk@ca.service behind that")
+    t.true(answers(t, port), "desk@ca.service does not answer after that")
     crl = t.tool("curl", "-s", f"{url}/crl")
     it.verifies(crl)
-    t.has(t.tool("openssl", "crl", "-inform", "DER", "-noout", "-crlnumber", given=crl), b"crlNumber=0x02", "its number")
+    t.has(t.tool("openssl", "crl", "-inform", "DER", "-noout", "-crlnumber", given=crl), b"crlNumber=0x02", "the CRL's number")
     t.same(it.asked_by_openssl("05", f"{url}/ocsp", verify=True), "unknown", "by the responder alone, again")
-    t.same((root.path / KEY[1:]).exists(), False, "the key is gone")
+    t.same((root.path / KEY[1:]).exists(), False, "whether the CA's key is on the machine")
 
 
 def removed(t, root):
     folders = {what: root.path / os.path.dirname(path)[1:] for what, path in (("registers", REGISTER), ("keys", KEY))}
     names = {what: sorted(it.name for it in folder.iterdir()) for what, folder in folders.items()}
-    t.same((names["registers"], "ca.ocsp.key" in names["keys"]), (["ca.db", "ca.db-wal"], True), "what is there before")
+    t.same((names["registers"], "ca.ocsp.key" in names["keys"]), (["ca.db", "ca.db-wal"], True), "the files before the removal")
     root.run("systemctl", "enable", *ENABLED)
-    t.same(links(root), sorted(ENABLED), "what is enabled before")
+    t.same(links(root), sorted(ENABLED), "the enabled units before the removal")
     root.run("dpkg", "--remove", "durshavon")
-    t.same(links(root), [], "what is enabled behind it")
+    t.same(links(root), [], "the enabled units after the removal")
     left = [str(it) for part in ("usr", "lib/systemd", "etc") for it in sorted((root.path / part).rglob("*"))
             if "/usr/share/doc" not in str(it) and not it.is_dir()
             and ("durshavon" in it.name or (it.name.startswith("desk") and "systemd" in str(it)) or str(it).endswith("usr/bin/desk"))]
-    t.same(left, [], "what is left of it")
+    t.same(left, [], "files that the removal left")
     ran = root.tried("dpkg", "--purge", "durshavon")
     for what, folder in folders.items():
-        t.has((ran.stdout + ran.stderr).decode(), f"the {what} in /{folder.relative_to(root.path)} stay", f"purged, it tells of the {what}")
-        t.same(sorted(it.name for it in folder.iterdir()), names[what], "and they do stay")
-        t.same(stat.S_IMODE(folder.stat().st_mode), 0o700, "for nobody else")
+        t.has((ran.stdout + ran.stderr).decode(), f"the {what} in /{folder.relative_to(root.path)} stay", f"the purge reports the {what}")
+        t.same(sorted(it.name for it in folder.iterdir()), names[what], f"the {what} after the purge")
+        t.same(stat.S_IMODE(folder.stat().st_mode), 0o700, f"the mode of the folder of the {what}")

@@ -58,12 +58,12 @@ def typed(t, top, lines):
     script = "\n".join([f"cd {top}", *map(here, lines), "jobs -p | xargs -r kill", "wait"])
     ran = t.tried("timeout", program.LONGEST - 10, "bash", "-c", script, env=env)
     told = (ran.stdout + ran.stderr).decode()
-    t.true(ran.returncode != 124, f"it did not come to an end: {told}")
+    t.true(ran.returncode != 124, f"the lines did not end in time: {told}")
     return told
 
 
 def ends_well(t, told, crls=1, answers=0, replies=("created\n", "crl 1 entries 0\n")):
-    """CRLs and answers that openssl verifies, the replies that come before, and no refusal nor fault."""
+    """Checks that the output has these numbers of CRLs and answers that openssl verifies, these replies, and neither refusals nor faults."""
     t.same(len(re.findall(r"^verify OK$", told, re.MULTILINE)), crls, f"CRLs that verify, in {told}")
     t.same(told.count("Response verify OK"), answers, f"answers that verify, in {told}")
     for reply in replies:
@@ -72,7 +72,7 @@ def ends_well(t, told, crls=1, answers=0, replies=("created\n", "crl 1 entries 0
 
 
 def office(port):
-    """The document's line opens the desk, which answers a status and issues a CRL."""
+    """The document's line that opens the desk, and lines that request an OCSP answer and a CRL."""
     opens = block("Open it and close it", "desk open ca.db")[0].replace("8080", port)
     return [
         f"{opens} &",
@@ -85,7 +85,7 @@ def office(port):
 
 @test(seconds=3)
 def from_the_repository(t):
-    """And the day of an office behind it, with the lines for cron."""
+    """After the lines of "From the repository" a desk is opened, which answers and issues a CRL. Then the lines for cron run."""
     need("curl", "bash")
     authority.need_cryptography(t)
     port = str(program.free_port())
@@ -100,14 +100,14 @@ def from_the_repository(t):
 
 
 def of_a_responder(beginning, port):
-    """A block of "A responder" whose last line opens the desk, and the lines that ask it then."""
+    """A block of "A responder" whose last line opens the desk, followed by lines that send requests to it."""
     *lines, opens = block("A responder", beginning)
     return [*lines, f'{opens.replace("8080", port)} & desk=$!', *office(port)[1:]]
 
 
 @each({"beside the CA's key": "openssl req", "the CA's key with its certificate": "openssl x509"}, seconds=4)
 def a_responder(t, beginning):
-    """After "From the repository": answers that openssl verifies with only the CA's certificate, requested by the document's lines."""
+    """After the lines of "From the repository" a responder signs the answers. openssl verifies them with only the CA's certificate."""
     need("curl", "bash")
     authority.need_cryptography(t)
     port = str(program.free_port())
@@ -139,7 +139,7 @@ def a_responder_while_the_ca_s_key_is_away(t):
 
 @test(seconds=4)
 def a_key_identifier_that_a_register_lacks(t):
-    """A register without the key identifier of its CA, which is not the SHA-1: openssl finds no CRL until the document's lines run."""
+    """The CA's key identifier is not the SHA-1 of its key, and the register lacks it. openssl finds no CRL until the document's lines set it."""
     need("curl", "bash")
     authority.need_cryptography(t)
     top = authority.stood_in(t)
@@ -156,16 +156,16 @@ def a_key_identifier_that_a_register_lacks(t):
     told = typed(t, top, [init, *first, lines[-2], f"{lines[-1]} 2>&1", *lines])
     t.same(re.findall(r"^verify OK$", told, re.MULTILINE), ["verify OK"], f"openssl crl -verify finds nothing wrong before, in {told}")
     before, _, after = told.partition("key-id set\n")
-    t.has(before, "error 3 at 0 depth lookup: unable to get certificate CRL", "before")
+    t.has(before, "error 3 at 0 depth lookup: unable to get certificate CRL", "openssl's error before the lines")
     t.has(after, "crl 2 entries 0\na.pem: OK\n")
 
 
-# A line of the section "Signatures", by what it has in it.
+# A part of the line in the section "Signatures" that starts the signer.
 SIGNERS = {"openssl behind socat": "openssl dgst", "signer.py": "/signer.py"}
 
 
 def started(heading, part):
-    """The line that starts a signer, and waits for its socket."""
+    """The section's line that starts a signer, and a line that waits for its socket."""
     lines = [line for lines in blocks(heading) for line in lines if part in line and "ca.sign" in line]
     if len(lines) != 1:
         raise Failed(f"{heading!r} has {len(lines)} lines with {part!r}")
@@ -173,7 +173,7 @@ def started(heading, part):
 
 
 def register_by(signer):
-    """The lines of "From the repository", with this in place of its signer."""
+    """The lines of "From the repository", with these in place of those that start its signer."""
     lines = block("From the repository", "./desk init")
     begin = next(at for at, line in enumerate(lines) if line.startswith("examples/signer.py"))
     return [lines[0], *signer, 'SIGNER="--signer ca.sign --algorithm ecdsa-sha256"', *lines[begin + 3 :]]
@@ -190,7 +190,7 @@ def a_signer_of_the_document(t, part):
 
 @each({"-t 10, as it stands": True, "without -t 10": False}, seconds=4)
 def a_signer_behind_socat_that_takes_a_second(t, patient):
-    """The document's line, whose command sleeps first. Without -t 10 socat ends before the signature is there."""
+    """The document's line for socat runs a command that sleeps for a second. Without -t 10 socat ends before the signature is there."""
     need("bash", "socat")
     top = folder_of(t)
     (top / "slowly").write_text("#!/bin/sh\nsleep 1\nexec openssl dgst -sha256 -sign ca.key\n")
@@ -203,12 +203,12 @@ def a_signer_behind_socat_that_takes_a_second(t, patient):
     else:
         told = typed(t, top, register_by([line.replace("-t 10 ", ""), *rest]))
         t.has(told, "F3 signer\n")
-        t.true("verify OK" not in told, f"nothing was signed, in {told}")
+        t.true("verify OK" not in told, f"a CRL was signed, in {told}")
 
 
 @test(seconds=4)
 def only_ours_before_a_responder_s_key(t):
-    """The line for it in the place of the one of "A responder"."""
+    """The line that puts only_ours.py in front of a responder's key replaces the signer of "A responder"."""
     need("bash", "curl", "socat")
     authority.need_cryptography(t)
     port = str(program.free_port())
@@ -221,23 +221,23 @@ def only_ours_before_a_responder_s_key(t):
 
 @each({it: it for it in ("ecdsa-sha256", "ecdsa-sha384", "rsa-sha256")}, seconds=4)
 def a_key_in_a_token(t, algorithm):
-    """The recipe with SoftHSM2, with a key of each kind: the CRL, and an answer of OCSP."""
+    """By the document's lines a key in SoftHSM2 signs CRLs and an OCSP answer. The test has a key of each kind."""
     need("bash", "curl", "socat", "softhsm2-util", "pkcs11-tool")
     lines = block("A key in hardware", "ALGORITHM=")
     t.has(lines[0], "ALGORITHM=ecdsa-sha256 ")
     lines[0] = lines[0].replace("ecdsa-sha256", algorithm)
     top = folder_of(t, algorithm)
-    # From here on the token alone has the key.
+    # From here on only the token has the key.
     given = next(at for at, line in enumerate(lines) if "--import ca.key" in line)
     lines.insert(given + 1, "rm ca.key")
     told = typed(t, top, [*lines, *office(str(program.free_port()))])
     ends_well(t, told, crls=2, answers=1)
-    t.same((top / "ca.pin").stat().st_mode & 0o777, 0o600, "the file of the PIN")
+    t.same((top / "ca.pin").stat().st_mode & 0o777, 0o600, "the mode of the PIN's file")
 
 
 @test(seconds=2)
 def a_token_that_does_not_sign(t):
-    """A wrong PIN, a key or a token that is not there, a key of another kind: nothing is printed, and the status is not 0."""
+    """pkcs11-signer.sh prints nothing and fails if the PIN is wrong, a key or a token is missing, or the key is of another kind."""
     need("softhsm2-util", "pkcs11-tool")
     lines = block("A key in hardware", "ALGORITHM=")
     top = folder_of(t)
@@ -259,12 +259,12 @@ def a_token_that_does_not_sign(t):
     }.items():
         ran = t.tried("sh", authority.EXAMPLES / "pkcs11-signer.sh", *words, given=b"x" * 5000, env=env)
         t.same((ran.returncode == 0, ran.stdout != b""), (what == "the key", what == "the key"), what)
-    t.same(list((t.room / "left").iterdir()), [], "digests that are left")
+    t.same(list((t.room / "left").iterdir()), [], "temporary files that are left")
 
 
 @test
 def the_pin_of_a_token_is_in_no_command_line(t):
-    """Other users of the machine see the words of each process."""
+    """pkcs11-signer.sh passes the PIN in the environment, since other users of the machine see the words of each process."""
     (t.room / "bin").mkdir()
     (t.room / "bin/pkcs11-tool").write_text(f'#!/bin/sh\necho "$@" >"{t.room}/words"\nprintf %s "$PIN" >"{t.room}/pin"\n')
     (t.room / "bin/pkcs11-tool").chmod(0o755)
@@ -298,7 +298,7 @@ def coming_from_openssl_ca(t):
     lines = [*block("Coming from openssl ca", "FILES="), *office(str(program.free_port()))]
     told = typed(t, top, lines)
     ends_well(t, told, crls=2, answers=1, replies=("created\n", "crl 4 entries 1\n", "5: revoked\n", "crl 5 entries 1\n"))
-    # The CRLs that the moved script issues are signed too: no digest stands in the register.
+    # The script from index.txt issues CRLs 1 to 3, and they are signed too: the register has no placeholder digest.
     for number in (1, 2, 3):
         crl = program.run(["crl", "ca.db", "--number", number], cwd=top).out
         t.has(t.tool("openssl", "crl", "-inform", "DER", "-noout", "-verify", "-CAfile", top / "ca.pem", given=crl), b"verify OK", f"CRL {number}")
@@ -319,19 +319,20 @@ def from_a_placeholder_digest_to_a_signature(t):
 
 @test(seconds=4)
 def the_lists(t):
-    """The lines over a closed register; and of an open one all rows, page by page, where one page has not all of them."""
+    """The document's lines print lists of a closed register. For an open desk they print all rows of a list that has more than one page."""
     need("bash", "curl", "jq")
     top, port = folder_of(t), str(program.free_port())
     names = [f"s{number}" for number in range(251)]
     t.register(top / "ca.db", "".join(f"2026-01-01T00:00:00Z subscriber {name}\n" for name in names))
     closed = typed(t, top, block("Lists", "desk list ca.db revoked"))
     t.has((top / "revoked.csv").read_text(), "serial,subscriber,name,order,")
-    t.has(closed, "serial,subscriber,name,order,", "those that end: a header alone, and no open request")
+    t.has(closed, "serial,subscriber,name,order,", "the header of the list of certificates that end")
     *function, asks = [line.replace("8080", port) for line in block("Lists", "list() {")]
     t.same(asks, "list revoked")
     opens = [f"desk open ca.db --port {port} --control counter --unsigned &", "until [ -S counter ]; do sleep 0.1; done"]
     told = typed(t, top, [*opens, *function, "list subscribers", asks])
-    t.same(told.splitlines()[1:], [f'{{"subscriber":{at},"name":"{name}"}}' for at, name in enumerate(names, 1)], "rows, of none revoked")
+    t.same(told.splitlines()[1:], [f'{{"subscriber":{at},"name":"{name}"}}' for at, name in enumerate(names, 1)],
+           "rows of both lists, of which the second has none")
 
 
 @test(seconds=2)
@@ -358,7 +359,7 @@ def each_line_that_may_sign_names_the_signer(t):
     files = [it for folder in ("examples", "packaging") for it in sorted((program.TOP / folder).iterdir()) if it.is_file()]
     texts = [document(), *(it.read_text(encoding="utf-8") for it in files)]
     found = [line for text in texts for line in re.findall(r"\bdesk (?:script|open|serve) ca\.db[^`\n|]*", text)]
-    t.true(len(found) > 8, f"few lines: {found}")
+    t.true(len(found) > 8, f"too few lines were found: {found}")
     # With a responder no CRL has a placeholder digest.
     is_told = lambda line: "$SIGNER" in line or "--signer" in line or (" open " in line and "$RESPONDER" in line)
     t.same([it for it in found if not is_told(it)], [], "lines with no signer")
@@ -372,7 +373,7 @@ def each_signer_signs_for_one_ca_alone(t):
     lines = [line for text in texts for line in text.splitlines()]
     by_python = [line for line in lines if re.search(r"signer\.py\"? .*\S+\.key .*(\.sign|--inherited)", line)]
     by_socat = [line for line in lines if "UNIX-LISTEN:" in line and not line.startswith("#")]
-    t.true(len(by_python) > 6 and len(by_socat) > 3, f"few lines: {by_python} {by_socat}")
+    t.true(len(by_python) > 6 and len(by_socat) > 3, f"too few lines were found: {by_python} {by_socat}")
     guarded = re.compile(r"signer\.py\"? --only-ours \S+\.pem |only_ours(\.py)? (--responder \S+ )?ca\.pem |EXEC:\"\$SIGN\"")
     t.same([line for line in by_python + by_socat if not guarded.search(line)], [], "lines with no certificate")
 

@@ -46,7 +46,7 @@ def run(t, file, more, crl="published.crl"):
 
 
 def begun(t):
-    """A register, and a copy of it."""
+    """Makes a register and a copy of it, and sets the clock to two days later."""
     t.register(lines=ENTERED)
     t.done("copy", "ca.db", "copy.db")
     t.clock("2026-01-03T00:00:00Z")
@@ -57,7 +57,7 @@ def ending(ran):
 
 
 def compared(t, command="open", file="copy.db", crl="published.crl"):
-    """Starts a desk with a published CRL that stops it: its status, and its lines on standard output and on standard error."""
+    """Starts a desk with a published CRL that stops it. Returns its status, and its lines on standard output and on standard error."""
     more = {"open": ("--control", "counter", "--unsigned"), "serve": ("--requests", "1")}[command]
     if not (t.room / file).exists():
         return ending(t.desk(command, file, "--port", program.free_port(), *more, "--published", crl))
@@ -97,7 +97,7 @@ def nothing_is_served(t, command, more, wanted):
 
 @test
 def an_entry_with_a_number_that_is_not_higher(t):
-    """Both registers went on by themselves, and each issued a CRL 2."""
+    """The register and its copy went on separately, and each issued a CRL 2."""
     begun(t)
     run(t, "ca.db", LISTED_06)
     t.done("script", "copy.db", given=f"{NEXT} crl\n")
@@ -106,7 +106,7 @@ def an_entry_with_a_number_that_is_not_higher(t):
 
 @test(seconds=2)
 def a_crl_of_more_than_16_mib_is_compared(t):
-    """Its signature is so long, and is not verified."""
+    """A signature of 17 MB makes the CRL so long. The desk does not verify it."""
     begun(t)
     run(t, "ca.db", "")
     part, algorithm, _ = authority.values_of(authority.inside((t.room / "published.crl").read_bytes())[1])
@@ -132,7 +132,7 @@ def all_of_it_is_there(t, command, published, entered):
 
 @test
 def a_certificate_that_has_ended(t):
-    """A CRL may still list it. Its revocation counts: a desk that has it serves, and one that lost it doesn't."""
+    """A CRL may still list a certificate that has ended. A desk that has its revocation serves, and one that lost it doesn't."""
     begun(t)
     run(t, "ca.db", LISTED_07)
     t.clock("2026-02-01T00:00:00Z")
@@ -236,7 +236,7 @@ def the_register_is_looked_at_first(t):
 
 
 def again(t, *words, file="ca.db", status=0):
-    """The script that it prints, and its lines on standard error."""
+    """Runs after-a-backup.py. Returns the script that it prints, and its lines on standard error."""
     ran = t.tried(*AFTER_A_BACKUP, file, *words, env=dict(program.environment(), DESK=program.program()))
     t.same(ran.returncode, status, f"status; it printed {(ran.stdout + ran.stderr).decode()}")
     return ran.stdout.decode().splitlines(), ran.stderr.decode().splitlines()
@@ -257,7 +257,7 @@ def logged(*exchanges, at=NEXT, who="control"):
 
 ENDS = "2026-12-31T00:00:00Z"
 S6 = serial("06")
-# For each: the lines of a log that begins after ENTERED, the script, and the lines on standard error.
+# For each: the lines of a log, the script for a register of ENTERED, and the lines on standard error.
 LOGS = {
     "nothing": (logged(("counts", "good 2 revoked 1 expired 0"), ("subscriber", "E22 syntax"), ("revoke 9", "E17 no-request")), [], []),
     "each command": (
@@ -339,15 +339,15 @@ def of_a_log(t, log, wanted, told):
     script, said = again(t, "--log", "ca.log")
     t.same(script, [f"{NEXT} {it}" for it in wanted])
     t.same(said[:-1], told, "standard error")
-    t.true(said[-1].startswith(f"{len(wanted)} lines"), f"the last line: {said[-1]}")
+    t.true(said[-1].startswith(f"{len(wanted)} lines"), f"the last line has another number of lines: {said[-1]}")
     replies = t.done("script", "ca.db", "--strict", given="".join(f"{it}\n" for it in script)).splitlines() if script else []
     t.same([it for it in replies if it[:1] in "EF"], [], "refusals")
-    t.same(again(t, "--log", "ca.log")[0], [], "it is entered once")
+    t.same(again(t, "--log", "ca.log")[0], [], "the next script, after this one ran")
 
 
 @test
 def of_two_logs(t):
-    """The second goes on where the first was rotated. Their lines are of one second, and stay in their order."""
+    """The second log begins where the first was rotated. All lines have the same moment, and stay in their order."""
     begun(t)
     log, wanted, _ = LOGS["each command"]
     lines_of_it = log.splitlines(keepends=True)
@@ -360,13 +360,13 @@ def of_two_logs(t):
 
 LATER = "2026-01-05T00:00:00Z"
 GROUNDS = ("asked", "unauthorized", "key-compromise", "control-lost", "affiliation", "superseded", "cessation", "misuse", "name-not-permitted", "nonconforming", "inaccurate")
-# The ground that the script takes where only the reason is known.
+# The ground in the script of a revocation of which only the reason is known.
 TOLD = {"control-lost": "superseded", "nonconforming": "superseded", "name-not-permitted": "cessation", "misuse": "unauthorized", "inaccurate": "unauthorized"}
 
 
 @test(seconds=2)
 def of_a_crl_alone(t):
-    """A revocation on each ground, each at a moment of its own, and three CRLs: the script has the reasons, the moments and the number."""
+    """The copy lacks a revocation on each ground, each at its own moment, and three CRLs. The script has their reasons and moments, and the CRLs."""
     certificates = [f"{BEGUN} order 1 398\n{BEGUN} register {4 + at} {100 + at} {BEGUN} {ENDS}\n" for at in range(len(GROUNDS))]
     t.register(lines=ENTERED + "".join(certificates))
     t.done("copy", "ca.db", "copy.db")
@@ -383,7 +383,7 @@ def of_a_crl_alone(t):
     ]
     t.same(script, [*wanted, *[f"{LATER} crl"] * 3])
     t.same(told, ["25 lines, 11 request, 11 revoke, 3 crl"])
-    t.same(again(t, "--published", "published.pem", file="copy.db")[0], script, "of PEM")
+    t.same(again(t, "--published", "published.pem", file="copy.db")[0], script, "the script from a CRL in PEM")
     t.done("script", "copy.db", "--strict", given="".join(f"{it}\n" for it in script))
     t.same(t.desk("crl", "copy.db").out, t.desk("crl", "ca.db").out, "the CRL, octet for octet")
     t.same(again(t, "--published", "published.crl", file="copy.db"), ([], ["0 lines"]))
@@ -401,7 +401,7 @@ def an_open_request_led_to_an_entry(t):
 
 @test
 def lines_that_the_crl_has_are_between_those_of_the_log(t):
-    """A script over the closed register leaves no line in the log. The CRL has its revocations, and the log's requests get other numbers."""
+    """`desk script` leaves no line in the log, but the CRL has its revocations. The script has them too, so the log's requests get other numbers."""
     begun(t)
     t.done("script", "ca.db", given=lines("request 06 asked", "decline 2", "request 06 superseded", "revoke 3", at="2026-01-02T00:00:01Z"))
     run(t, "ca.db", lines("request 07 affiliation", "revoke 4", "crl", at="2026-01-02T00:00:02Z"))
@@ -446,9 +446,9 @@ def nothing_is_printed(t):
     t.same(again(t, "--published", "no.crl", status=1), ([], ["after-a-backup: no.crl: openssl reads no CRL"]))
     (t.room / "v1.crl").write_bytes(of_openssl(t))
     t.same(again(t, "--published", "v1.crl", status=1), ([], ["after-a-backup: v1.crl: the CRL has no number"]))
-    t.same(again(t, "--log", "no.log", status=1)[0], [], "no log")
+    t.same(again(t, "--log", "no.log", status=1)[0], [], "a log that does not exist")
     t.same(again(t, "--log", "ca.log", file="no.db", status=1), ([], ["after-a-backup: no.db: F2 store no such file (FILE)"]))
-    t.same(again(t, file="copy.db", status=2)[0], [], "neither")
+    t.same(again(t, file="copy.db", status=2)[0], [], "neither a log nor a CRL")
     t.open("copy.db")
     t.same(again(t, "--log", "ca.log", file="copy.db", status=1), ([], ["after-a-backup: copy.db: F2 store in use by another program (FILE)"]))
 
@@ -536,17 +536,17 @@ def as_it_stands(t, it, transcript):
 
 
 def goes_on(t, it, desk, wanted):
-    """The next CRL has a higher number than the published one, verifies, and lists these with their moments and reasons; an OCSP answer has them too."""
+    """The next CRL has a higher number than the published one, verifies, and lists these with moments and reasons. OCSP answers have the moments."""
     with Control(t.room / desk.words[desk.words.index("--control") + 1]) as control:
         t.same(control.ask("crl"), f"crl 3 entries {len(wanted)}")
     crl = body_of(t, desk.ask("GET", "/crl"), "application/pkix-crl")
     it.verifies(crl)
     t.same(authority.listed(t, crl), {number: (seconds_of(moment), reason) for number, (moment, reason) in wanted.items()}, "the next CRL")
-    # openssl takes an answer of now alone.
+    # openssl accepts an answer only if it is of now.
     t.clock(authority.now())
     for number, (moment, _) in wanted.items():
         response = body_of(t, desk.ask("POST", "/ocsp", it.asks(number)))
-        t.same(it.reads(number, response), "revoked", f"of {number}")
+        t.same(it.reads(number, response), "revoked", f"the OCSP status of {number}")
         (t.room / "said.der").write_bytes(response)
         told = t.tool("openssl", "ocsp", "-noverify", "-respin", "said.der", "-resp_text").decode()
         t.same(authority.openssl_time(re.search(r"Revocation Time: (.*)", told)[1]), seconds_of(moment), f"when {number} was revoked")

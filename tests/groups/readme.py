@@ -1,4 +1,4 @@
-"""Runs README's lines of its small CA in an empty folder, exactly as they are, and compares their output with README's."""
+"""Runs README's lines of its small CA in an empty folder, unchanged unless port 8080 is in use, and compares their output with README's."""
 
 import os
 import re
@@ -19,7 +19,7 @@ def readme():
 
 
 def blocks(heading):
-    """The blocks of lines behind a heading of README."""
+    """The code blocks under a heading of README, each as a list of lines."""
     found = re.search(rf"^## {heading}\n(.*?)(?=^## |\Z)", readme(), re.MULTILINE | re.DOTALL)
     if not found:
         raise Failed(f"README has no heading {heading!r}")
@@ -27,7 +27,7 @@ def blocks(heading):
 
 
 def home_of(t):
-    """A home with this repository at ~/durshavon, with the tested program as `./desk`."""
+    """A home folder whose ~/durshavon has this repository's examples, and the tested program as `desk`."""
     home = t.room / "home"
     (home / "durshavon").mkdir(parents=True)
     (home / "durshavon/examples").symlink_to(program.TOP / "examples")
@@ -47,7 +47,7 @@ def is_free(port):
 
 
 def in_order(t, wanted, told):
-    """The output has these lines, in this order."""
+    """Fails unless the output has these lines, in this order."""
     lines = iter(told.splitlines())
     for want in wanted:
         if not any(line == want for line in lines):
@@ -67,10 +67,10 @@ def the_small_ca_ends_in_verify_ok(t):
     script = "\n".join(["exec 2>&1", "cd ca", *typed, "wait"])
     ran = t.tried("timeout", program.LONGEST - 10, "bash", "-c", script, env=env)
     told = ran.stdout.decode()
-    t.true(ran.returncode != 124, f"it did not come to an end: {told}")
+    t.true(ran.returncode != 124, f"the lines did not end in time: {told}")
     in_order(t, printed, told)
     t.same(told.count("Response verify OK"), 2, f"answers that verify, in {told}")
-    t.same(len(re.findall(r"^verify OK$", told, re.MULTILINE)), 1, f"the CRL verifies, in {told}")
+    t.same(len(re.findall(r"^verify OK$", told, re.MULTILINE)), 1, f"CRLs that verify, in {told}")
     t.same(re.findall(r"^(?:[EF][0-9]+ .*|bad-.*|refused.*)$", told, re.MULTILINE), [], f"refusals and faults, in {told}")
 
 
@@ -81,7 +81,7 @@ def the_first_look_has_these_lines_and_replies(t):
     pairs = iter(zip(day, replies, strict=True))
     for row in shown:
         line, reply = re.split(r" {2,}", row)
-        t.true(any(it == (line, reply) for it in pairs), f"{row!r} is a line of examples/first-day.txt and its reply, in its order")
+        t.true(any(it == (line, reply) for it in pairs), f"{row!r} is not a line of examples/first-day.txt and its reply, or is out of order")
 
 
 @test
@@ -93,7 +93,7 @@ def no_line_is_longer_than_120_letters(t):
 
 @test(seconds=3)
 def what_is_reported_as_proved_is_built(t):
-    """By `./desk --version`, in a folder whose program is not there, is there, and is older than a source."""
+    """`./desk --version` reports a missing program, one that is newer than all its sources, and one that is older than a source."""
     need("bash")
     top = t.room / "top"
     source, built = top / "crates/reg_desk_cli/src/desk.rt", top / "crates/reg_desk/out/reg_desk"
@@ -108,10 +108,11 @@ def what_is_reported_as_proved_is_built(t):
         return ran.stdout.decode().splitlines()
 
     t.same(version_lines()[0].split()[:2], ["desk", version()])
-    t.true(version_lines()[1].startswith("not built; "), "where no program is")
+    t.true(version_lines()[1].startswith("not built; "), "`./desk --version` does not report that the program is missing")
     built.write_text("#!/bin/sh\n")
     built.chmod(0o755)
-    t.true(version_lines()[1].startswith("each function proved and built by Rattle: "), "where one is that no source is newer than")
+    t.true(version_lines()[1].startswith("each function proved and built by Rattle: "), "`./desk --version` does not report a current program")
     later = built.stat().st_mtime + 10
     os.utime(source, (later, later))
-    t.true(version_lines()[1].startswith("not built: the program that is there is older than its sources"), "where a source is newer")
+    t.true(version_lines()[1].startswith("not built: the program that is there is older than its sources"),
+           "`./desk --version` does not report that the program is older than a source")

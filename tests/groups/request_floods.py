@@ -1,4 +1,4 @@
-"""Floods of requests for revocation over HTTP: what an open desk accepts, what it keeps for the control socket, and what warns the operator."""
+"""Floods of requests for revocation over HTTP: which ones an open desk accepts, the rows it keeps for the control socket, and the warnings."""
 
 import json
 
@@ -42,22 +42,22 @@ def health(desk):
 
 @test
 def three_open_requests_of_a_serial_number(t):
-    """The control socket accepts more, and a declined request no longer counts."""
+    """Over HTTP a serial number can have three open requests. The control socket accepts more. A declined request no longer counts."""
     desk = opened(t, 2)
     t.same([asked(desk, 1) for _ in range(5)], [(200, [], 1), (200, [], 2), (200, [], 3), (429, [LATER], "429"), (429, [LATER], "429")])
     t.same(asked(desk, 2), (200, [], 4), "another serial number")
     with t.control() as control:
         t.same(control.ask("request 01 superseded"), "request 5 due 2026-01-02T00:00:00Z")
-        t.same([control.ask("decline 1"), asked(desk, 1)], ["declined", (429, [LATER], "429")], "three are open still")
-        t.same([control.ask("decline 5"), asked(desk, 1)], ["declined", (200, [], 6)], "two are open")
+        t.same([control.ask("decline 1"), asked(desk, 1)], ["declined", (429, [LATER], "429")], "while three requests are open")
+        t.same([control.ask("decline 5"), asked(desk, 1)], ["declined", (200, [], 6)], "while two requests are open")
         t.same(control.ask("revoke 6"), "revoked")
-    t.same(asked(desk, 1), (409, [], "E19 revoked-before 2026-01-01T00:00:00Z"), "none of a revoked certificate is open")
+    t.same(asked(desk, 1), (409, [], "E19 revoked-before 2026-01-01T00:00:00Z"), "a revoked certificate, which has no open request")
     t.same(asked(desk, 99), (409, [], "E14 unknown-serial"))
 
 
 @test
 def an_unknown_ground_is_refused_by_the_register(t):
-    """A flood of these looks up no open requests, and does not count."""
+    """For a request with an unknown ground the desk looks up no open requests, and does not count it towards the limit."""
     desk = opened(t, 1)
     for _ in range(3):
         asked(desk, 1)
@@ -80,30 +80,30 @@ def a_declined_request_makes_room_wherever_it_stands(t):
 
 @test(seconds=3)
 def a_hundred_a_minute(t):
-    """Each request that the desk looks up counts, for a minute, whatever it comes to."""
+    """Each request for revocation that the desk looks up counts for a minute, whether it is accepted or refused. At most a hundred may count."""
     desk = opened(t, 40)
     for number in range(60):
         t.same(asked(desk, number // 3 + 1), (200, [], number + 1))
     t.clock(moment_of(FIRST + 30))
-    t.same([asked(desk, 1)[0] for _ in range(5)] + [asked(desk, 99)[0] for _ in range(5)], [429] * 5 + [409] * 5, "refused ones")
+    t.same([asked(desk, 1)[0] for _ in range(5)] + [asked(desk, 99)[0] for _ in range(5)], [429] * 5 + [409] * 5, "refused requests")
     for number in range(60, 90):
         t.same(asked(desk, number // 3 + 1), (200, [], number + 1))
-    t.same(asked(desk, 40), (429, [LATER], "429"), "the 101st")
-    t.same(asked(desk, 99), (429, [LATER], "429"), "whatever it is for")
+    t.same(asked(desk, 40), (429, [LATER], "429"), "the 101st request")
+    t.same(asked(desk, 99), (429, [LATER], "429"), "one for an unknown serial number")
     with t.control() as control:
         t.same(control.ask("request 28 asked"), "request 91 due 2026-01-02T00:00:30Z", "at the control socket")
     t.clock(moment_of(FIRST + 59))
-    t.same(asked(desk, 40), (429, [LATER], "429"), "59 seconds after the first ones")
+    t.same(asked(desk, 40), (429, [LATER], "429"), "59 seconds after the first requests")
     t.clock(moment_of(FIRST + 60))
     for number in range(60):
         t.same(asked(desk, 35 + number // 12)[0], 200 if number % 12 < 3 else 429)
-    t.same(asked(desk, 99), (429, [LATER], "429"), "sixty more, and forty of the last minute")
+    t.same(asked(desk, 99), (429, [LATER], "429"), "after sixty more requests, and forty of the last minute")
     t.same(program.parted(desk.ask("GET", "/counts"))[0], 200, "other routes have no limit")
 
 
 @test
 def a_tenth_of_the_room_is_kept_for_the_control_socket(t):
-    """With a cap of 20, HTTP takes up to 19 requests, and /health fails from the 17th on. A revocation needs no room."""
+    """With a cap of 20, requests over HTTP are refused from the 20th on, and /health fails from the 17th on. A revocation needs no room."""
     desk = opened(t, 8, "--cap", "20")
     with t.control() as control:
         t.same(control.ask("crl"), "crl 1 entries 0")
@@ -115,7 +115,7 @@ def a_tenth_of_the_room_is_kept_for_the_control_socket(t):
         t.same(control.ask("request 01 asked").split()[1], "18")
         t.same(asked(desk, 5), (200, [], 19), "two rows are left")
         t.same(asked(desk, 5), (503, [], "503"), "one row is left")
-        t.same(asked(desk, 99), (503, [], "503"), "whatever it is for")
+        t.same(asked(desk, 99), (503, [], "503"), "one for an unknown serial number")
         t.same(control.ask("request 02 key-compromise").split()[1], "20", "at the control socket")
         t.same(control.ask("request 02 key-compromise"), "E03 full")
         t.same([control.ask(it) for it in ("revoke 20", "crl")], ["revoked", "crl 2 entries 1"])

@@ -42,7 +42,7 @@ def a_request_is_decided_by_its_number_and_its_serial_number(t, word, reply):
 @each({it: (it, reply) for it, reply in DECIDED.items()})
 def one_that_is_for_another_serial_number_is_refused(t, word, reply):
     desk = opened(t)
-    # Somebody else is first, so that the office's own request has another number than it wrote down.
+    # Another client's request comes first, so the office's own request has another number than the office wrote down.
     t.same(parted(desk.ask("POST", "/requests", b'{"serial":"03","ground":"superseded"}'))[2], f'{{"due":"{DUE}","request":1}}'.encode())
     t.same(
         replies_to(t, "request 01 superseded", f"{word} 1 01", "why", "status 03", f"{word} 2 01"),
@@ -93,7 +93,7 @@ def what_is_shown_is_a_row_of_its_list(t):
     for word, list_word, at in (*rows, ("02", "certificates", 1), ("04", "certificates", 3), ("subscriber beta", "subscribers", 1)):
         t.same(shown(t, word), json.loads(parted(desk.ask("GET", f"/list/{list_word}"))[2])["rows"][at], word)
     t.same((shown(t, "02")["status"], shown(t, "request 2")["serial"], shown(t, "subscriber acme")), ("revoked", serial(3), {"subscriber": 1, "name": "acme"}))
-    t.same([shown(t, f"request {number}")["state"] for number in (1, 2, 3)], ["revoked", "open", "declined"], "what became of each request")
+    t.same([shown(t, f"request {number}")["state"] for number in (1, 2, 3)], ["revoked", "open", "declined"], "the state of each request")
 
 
 @test
@@ -152,7 +152,7 @@ def help_lists_each_word_in_one_line(t):
     opened(t)
     (line,) = replies_to(t, "help")
     words = "subscriber order register request decline revoke crl status counts listing overdue next-crl ocsp show why schedule copy help".split()
-    t.same([it for it in words if not re.search(rf"[:|] {it}\b", line)], [], "words that it lacks")
+    t.same([it for it in words if not re.search(rf"[:|] {it}\b", line)], [], "commands that the line lacks")
     t.same(t.desk("at", "counter", given="help\r\n").status, 0)
 
 
@@ -160,7 +160,7 @@ def help_lists_each_word_in_one_line(t):
 
 
 def tails(t, desk):
-    """For each line of the log its request, and the text after the microseconds."""
+    """Ends the desk. Returns for each line of its log the request, and the text after the microseconds."""
     return [re.fullmatch(r'\S+ (\S+) "([^"]*)" "[^"]*" \d+ \d+(.*)', it).group(2, 3) for it in desk.end().err_lines]
 
 
@@ -216,7 +216,7 @@ def a_log_is_replayed_to_a_copy(t):
     t.same([it.split()[0] for it in replies_to(t, "status 01", "status 05")], ["revoked"] * 2)
 
 
-# Which lines of a log an older desk wrote, which calls the control socket `counter`.
+# Which lines of the log an older desk wrote. It calls the control socket `counter`.
 OLDER = {"all": lambda at: True, "the first five, before an upgrade": lambda at: at < 5, "each second": lambda at: at % 2 == 0}
 
 
@@ -225,7 +225,7 @@ def a_log_of_an_older_desk_is_replayed_as_well(t, is_older):
     log = a_day(t).splitlines(keepends=True)
     mixed = [line.replace("Z control ", "Z counter ") if is_older(at) else line for at, line in enumerate(log)]
     t.same({line.split(" ")[1] for line in log if "127.0.0.1" not in line}, {"control"}, "the name of the control socket in the log")
-    t.true(mixed != log, "older lines")
+    t.true(mixed != log, "the log has no line of an older desk")
     (t.room / "ca.log").write_text("".join(mixed))
     desk = t.open("copy.db")
     replies = t.done("replay", "counter", "ca.log").splitlines()
@@ -254,7 +254,7 @@ def it_stops_at_the_first_reply_that_differs(t):
     line = next(it for it in log.splitlines() if '"subscriber gamma"' in it)
     t.same((ran.status, ran.err), (3, b"refused\n"), "status and standard error")
     t.same(ran.out.decode().splitlines()[1:], ["subscriber 4", line], "the reply that differs, and the log's line")
-    t.same(replies_to(t, "counts"), ["good 4 revoked 0 expired 0"], "nothing behind it was told")
+    t.same(replies_to(t, "counts"), ["good 4 revoked 0 expired 0"], "the counts, since no later line was sent")
 
 
 @test

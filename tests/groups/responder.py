@@ -1,5 +1,5 @@
-"""OCSP responders: one with its own key and a certificate by which the CA delegated to it (RFC 6960 4.2.2.2), and the CA itself with its
-certificate in its answers. openssl, Java, GnuTLS, NSS, Go and nginx check both. Also the refusals by `bad-responder`."""
+"""OCSP answers in two forms: signed by a responder's own key with its certificate from the CA (RFC 6960 4.2.2.2), or by the CA with the CA's
+certificate in the answer. openssl, Java, GnuTLS, NSS, Go and nginx check both. Other tests expect `bad-responder`."""
 
 import hashlib
 import os
@@ -19,12 +19,12 @@ ALGORITHMS = {it: it for it in KEYS}
 DELEGATED = "extendedKeyUsage=critical,OCSPSigning\nbasicConstraints=critical,CA:FALSE\nnoCheck=ignored\n"
 STATUSES = (("05", "revoked"), ("06", "good"), ("07", "unknown"))
 BITS, OCTETS, IDENTIFIER, SEQUENCE, CERTIFICATES = 0x03, 0x04, 0x06, 0x30, 0xA0
-# The places of the key and of the extensions in a TBSCertificate of version 3 (RFC 5280 4.1).
+# The indexes of the key and of the extensions among the fields of a TBSCertificate of version 3 (RFC 5280 4.1).
 KEY, EXTENSIONS = 6, 7
 
 
 class Responder:
-    """A responder: its key is NAME.key, its certificate by the CA NAME.pem and NAME.der."""
+    """A responder. NAME.key has its key; NAME.pem and NAME.der have its certificate, which the CA signed."""
 
     def __init__(self, it, algorithm="ecdsa-sha256", name="responder", extensions=DELEGATED, serial=0x1234):
         self.t, self.algorithm, self.name = it.t, algorithm, name
@@ -42,12 +42,12 @@ class Responder:
         return self.t.signer(f"{self.name}.sign", self.sign)
 
     def words(self):
-        """The words that name it."""
+        """The options that name this responder to the program."""
         return ("--responder", f"{self.name}.der", "--responder-signer", f"{self.name}.sign", "--responder-algorithm", self.algorithm)
 
 
 def der_of(t, name):
-    """The DER of a certificate, which is put beside its PEM."""
+    """Converts NAME.pem to NAME.der, and returns the bytes of NAME.der."""
     t.tool("openssl", "x509", "-in", f"{name}.pem", "-outform", "DER", "-out", f"{name}.der")
     return (t.room / f"{name}.der").read_bytes()
 
@@ -57,7 +57,7 @@ def whole(value):
 
 
 def rebuilt(it, der, change, sign=None):
-    """A certificate signed by the CA whose TBSCertificate has the parts of another one, changed by `change`."""
+    """A certificate signed by the CA. Its TBSCertificate has the fields of the certificate `der`, changed by `change`."""
     part, algorithm, _ = whole(inside(der)[1])
     made = tlv(SEQUENCE, *change(whole(inside(part)[1])))
     return tlv(SEQUENCE, made, algorithm, tlv(BITS, b"\0" + (sign or it.sign)(made)))
@@ -70,13 +70,13 @@ def key_hash(der):
 
 
 def named_by(response):
-    """The responder's key hash in an answer."""
+    """The tag of the ResponderID in an answer, and the key hash in it."""
     named = values_of(inside(authority.basic_of(response), 0)[1])[0]
     return named[0], values_of(named[1])[0][1]
 
 
 def certificates_in(response):
-    """The bytes of each certificate in an answer; `None` if it has no `certs`."""
+    """The tag of `certs` in an answer, and the bytes of each certificate in it; `None` if the answer has no `certs`."""
     behind = values_of(values_of(authority.basic_of(response))[0][1])[3:]
     if not behind:
         return None
@@ -85,7 +85,7 @@ def certificates_in(response):
 
 
 def a_day(t, it, *signing):
-    """The register of a day: 05 is revoked and on a CRL, 06 is good."""
+    """Creates a register in which 05 is revoked and on a CRL, and 06 is good."""
     it.register()
     t.done("script", "ca.db", *signing, given=first_day(authority.now()))
 
@@ -95,10 +95,10 @@ def answer(t, it, desk, serial):
 
 
 def bad_responder(t, words, err=b"bad-responder\n"):
-    """Checks that a command ends with `bad-responder` before it opens, binds or creates anything."""
+    """Checks that a command ends with `bad-responder`, and creates no control socket."""
     ran = t.desk(*words)
     t.same((ran.status, ran.out, ran.err), (1, b"", err), program.shown(words))
-    t.same((t.room / "counter").exists(), False, "a counter that was laid")
+    t.same((t.room / "counter").exists(), False, "whether a control socket was created")
 
 
 # A responder's key
@@ -117,9 +117,9 @@ def a_responder_answers_while_a_crl_is_signed(t):
     desk = Passing(t, *it.signing(), *responder.words()).desk
     with ThreadPoolExecutor(1) as pool, t.control() as control:
         crl = pool.submit(control.ask, "crl")
-        authority.until(lambda: signer.asked, "that the CA's signer is asked")
+        authority.until(lambda: signer.asked, "a request to the CA's signer")
         t.same(it.reads("05", answer(t, it, desk, "05")), "revoked")
-        t.same(crl.done(), False, "the CRL is there")
+        t.same(crl.done(), False, "whether the CRL is issued")
         signs.set()
         t.same(crl.result(), "crl 2 entries 1")
     it.verifies(body_of(t, desk.ask("GET", "/crl"), "application/pkix-crl"))
@@ -127,12 +127,13 @@ def a_responder_answers_while_a_crl_is_signed(t):
 
 @each(ALGORITHMS, seconds=8)
 def openssl_verifies_what_a_responder_signed(t, algorithm):
-    """The CA's key signs CRLs, and the responder's key OCSP answers. openssl, which knows only the CA, verifies them by the certificate in them."""
+    """The CA's key signs CRLs, and the responder's key signs OCSP answers. openssl trusts only the CA, and verifies each answer by the certificate in
+    it."""
     it = Authority(t)
     responder = Responder(it, algorithm)
     signer, signs = it.signer(), responder.signer()
     a_day(t, it, *it.signing())
-    t.same(len(signer.asked), 1, "what the CA's key signed: a CRL")
+    t.same(len(signer.asked), 1, "how often the CA's key signed")
     for command, more in (("open", ()), ("serve", ("--requests", "9"))):
         desk = t.open("ca.db", *more, *it.signing(), *responder.words(), command=command)
         url = f"http://127.0.0.1:{desk.port}/ocsp"
@@ -140,16 +141,16 @@ def openssl_verifies_what_a_responder_signed(t, algorithm):
             t.same(it.asked_by_openssl(serial, url, verify=True), told, f"{command}: {serial} by POST, with a nonce")
         response = answer(t, it, desk, "05")
         t.same(it.reads("05", response), "revoked", f"{command}: by GET")
-        t.same(certificates_in(response), (CERTIFICATES, [responder.der]), f"{command}: the certificate, as it is")
-        t.same(named_by(response), (0xA2, key_hash(responder.der)), f"{command}: the responder by its key")
+        t.same(certificates_in(response), (CERTIFICATES, [responder.der]), f"{command}: the certificate in the answer")
+        t.same(named_by(response), (0xA2, key_hash(responder.der)), f"{command}: the responder's key hash")
         part, identifier, _ = authority.signed_part(authority.basic_of(response))
-        t.same((identifier.hex().upper(), signs.asked[-1]), (authority.IDENTIFIERS[algorithm], part), f"{command}: what is signed, and how")
+        t.same((identifier.hex().upper(), signs.asked[-1]), (authority.IDENTIFIERS[algorithm], part), f"{command}: algorithm and signed bytes")
         it.verifies(body_of(t, desk.ask("GET", "/crl"), "application/pkix-crl"))
         if command == "open":
             t.same(t.control().ask("crl"), "crl 2 entries 1")
             it.verifies(body_of(t, desk.ask("GET", "/crl"), "application/pkix-crl"), "the CRL of the counter")
         desk.end()
-    t.same((len(signer.asked), len(signs.asked)), (2, 8), "what each key signed")
+    t.same((len(signer.asked), len(signs.asked)), (2, 8), "how often each key signed")
 
 
 @test(seconds=5)
@@ -168,7 +169,7 @@ def a_revocation_is_in_the_next_answer(t):
 
 @each({"before the first CRL": (False, True), "after a CRL that the key signed": (True, True), "after a CRL that a digest sealed": (True, False)}, seconds=5)
 def a_responder_alone(t, has_crl, is_signed):
-    """With a responder and without `--signer` no CRL is issued: the control socket says so, OCSP goes on, and the next CRL gets the number."""
+    """With a responder and without `--signer`, the desk issues no CRL: `crl` gets `F3 signer`. OCSP goes on. The next CRL gets the unused number."""
     it = Authority(t)
     responder = Responder(it)
     signer = it.signer()
@@ -185,16 +186,16 @@ def a_responder_alone(t, has_crl, is_signed):
             desk.end()
     control = t.control()
     t.same([control.ask("crl"), control.ask("crl")], ["F3 signer", "F3 signer"])
-    t.same((it.reads("06", answer(t, it, desk, "06")), control.ask("request 06 superseded").split()[0]), ("good", "request"), "and all else goes on")
+    t.same((it.reads("06", answer(t, it, desk, "06")), control.ask("request 06 superseded").split()[0]), ("good", "request"), "OCSP and a request")
     ran = t.desk("at", "counter", given="crl\n")
-    t.same((ran.status, ran.out, ran.err), (3, b"F3 signer\n", b"refused\n"), "told to a program")
+    t.same((ran.status, ran.out, ran.err), (3, b"F3 signer\n", b"refused\n"), "status, output and standard error of `desk at`")
     t.same(control.ask("revoke 2"), "revoked")
-    t.same(it.reads("06", answer(t, it, desk, "06")), "revoked", "a revocation that no CRL lists yet")
+    t.same(it.reads("06", answer(t, it, desk, "06")), "revoked", "OCSP of a certificate that is revoked, and on no CRL yet")
     status, _, _ = program.parted(desk.ask("GET", "/crl"))
-    t.same((status, len(signer.asked)), (200 if has_crl else 404, asked), "the latest CRL is the one before, and the CA's key was not asked")
+    t.same((status, len(signer.asked)), (200 if has_crl else 404, asked), "status of GET /crl, and how often the CA's signer was asked")
     desk.end()
     told = t.done("script", "ca.db", "--clock", *signing, given="crl\n")
-    t.same(told, f"crl {2 if has_crl else 1} entries 2\n", "a script has the CA's key sign")
+    t.same(told, f"crl {2 if has_crl else 1} entries 2\n", "a script issues the next CRL")
     if is_signed:
         it.verifies(t.done("crl", "ca.db").encode("latin-1"))
     t.has(t.done("audit", "ca.db"), "sound, 2 certificates, 2 revoked, ")
@@ -213,7 +214,7 @@ def when_the_responder_s_certificate_ends(t):
         desk = t.open("ca.db", *responder.words())
         t.has(desk.ask("GET", "/metrics").decode(), f"\n{series} {program.seconds_of(ends.replace(' ', 'T'))}\n")
         desk.end()
-    t.same(series in t.open("ca.db").ask("GET", "/metrics").decode(), False, "no responder")
+    t.same(series in t.open("ca.db").ask("GET", "/metrics").decode(), False, "whether the metric exists without a responder")
 
 
 @test(seconds=3)
@@ -234,7 +235,7 @@ def a_crl_that_nobody_signs_is_no_failing_signer(t):
 
 @each({"none is due": 0, "one is due": 8}, seconds=3)
 def the_timer_s_script_where_a_responder_alone_signs(t, days):
-    """`examples/issue-due-crl.sh` says nothing while no CRL is due, and fails by the line of the fault where one is."""
+    """`examples/issue-due-crl.sh` prints nothing on standard output. It fails with the fault `F3 signer` only if a CRL is due."""
     it = Authority(t)
     responder = Responder(it)
     it.signer()
@@ -244,7 +245,7 @@ def the_timer_s_script_where_a_responder_alone_signs(t, days):
     t.open("ca.db", *responder.words())
     ran = t.tried("env", f"DESK={program.program()}", "bash", EXAMPLES / "issue-due-crl.sh", "counter")
     t.same((ran.returncode, ran.stdout), (3 if days else 0, b""))
-    t.same(b"counter: crl: F3 signer\n" in ran.stderr, bool(days), "whether it is told of")
+    t.same(b"counter: crl: F3 signer\n" in ran.stderr, bool(days), "whether standard error has the fault")
 
 
 @test(seconds=4)
@@ -254,22 +255,22 @@ def a_responder_that_fails(t):
     it.signer()
     a_day(t, it, *it.signing())
     desk = t.open("ca.db", *it.signing(), *responder.words())
-    t.same(body_of(t, desk.ask("POST", "/ocsp", it.asks("05"))), INTERNAL, "while nothing holds its key")
-    t.same(t.control().ask("crl"), "crl 2 entries 1", "CRLs are the CA's")
+    t.same(body_of(t, desk.ask("POST", "/ocsp", it.asks("05"))), INTERNAL, "OCSP while the responder has no signer")
+    t.same(t.control().ask("crl"), "crl 2 entries 1", "a CRL, which the CA's signer signs")
     with program.Signer(t.room / "responder.sign", responder.sign):
-        t.same(it.reads("05", answer(t, it, desk, "05")), "revoked", "once something does")
-    # A signature of another key has its form; that is not looked at, and openssl sees it.
+        t.same(it.reads("05", answer(t, it, desk, "05")), "revoked", "OCSP once the responder has a signer")
+    # The desk checks only the form of a signature, so it accepts one of another key. openssl rejects it.
     other = Responder(it, name="other")
     with program.Signer(t.room / "responder.sign", other.sign):
         said = t.room / "said.der"
         said.write_bytes(answer(t, it, desk, "05"))
         ran = t.tried("openssl", "ocsp", "-issuer", it.pem, "-CAfile", it.pem, "-serial", "0x05", "-no_nonce", "-respin", said)
-        t.has(ran.stdout + ran.stderr, b"Response Verify Failure", "another key's")
+        t.has(ran.stdout + ran.stderr, b"Response Verify Failure", "a signature of another key")
 
 
 @test(seconds=13)
 def a_responder_that_hangs_holds_up_no_crl(t):
-    """Only the requester waits for its ten seconds. The CA's signer signs meanwhile."""
+    """Only the OCSP client waits for the responder's signer, for ten seconds. Meanwhile the CA's signer signs a CRL."""
     it = Authority(t)
     responder = Responder(it)
     it.signer()
@@ -279,16 +280,16 @@ def a_responder_that_hangs_holds_up_no_crl(t):
     control, request = t.control(), it.asks("05")
     with ThreadPoolExecutor(1) as pool, t.ten_seconds():
         waits = pool.submit(desk.ask, "POST", "/ocsp", request)
-        authority.until(lambda: hanging.asked, "that the responder is asked")
+        authority.until(lambda: hanging.asked, "a request to the responder's signer")
         with t.at_once("a CRL"):
             t.same(control.ask("crl"), "crl 2 entries 1", "a CRL")
-        t.same(waits.done(), False, "who asked still waits")
+        t.same(waits.done(), False, "whether the OCSP client got its answer")
         t.same(body_of(t, waits.result()), INTERNAL)
 
 
 @test(seconds=4)
 def a_signer_of_crls_that_hangs_holds_up_no_answer(t):
-    """Neither in its ten seconds nor after them. The responder is asked once for each OCSP line at the control socket."""
+    """OCSP is answered while a CRL waits ten seconds for its signature, and afterwards. Each `ocsp` line asks the responder's signer once."""
     it = Authority(t)
     responder = Responder(it)
     asked = responder.signer().asked
@@ -298,19 +299,20 @@ def a_signer_of_crls_that_hangs_holds_up_no_answer(t):
     desk = Passing(t, *it.signing(), *responder.words())
     with ThreadPoolExecutor(1) as pool, t.control() as control:
         crl = pool.submit(control.ask, "crl")
-        authority.until(lambda: hanging.asked, "that the CA's signer is asked")
-        t.same(it.reads("05", answer(t, it, desk.desk, "05")), "revoked", "an answer in its ten seconds")
+        authority.until(lambda: hanging.asked, "a request to the CA's signer")
+        t.same(it.reads("05", answer(t, it, desk.desk, "05")), "revoked", "an answer while the CRL waits")
         desk.advance(10_000)
         t.same(crl.result(), "F3 signer")
         before = len(asked)
         _, response = control.ask(f"ocsp {it.asks('05').hex()}").split()
-        t.same(it.reads("05", bytes.fromhex(response)), "revoked", "a line after them")
+        t.same(it.reads("05", bytes.fromhex(response)), "revoked", "an `ocsp` line after the ten seconds")
         t.same(len(asked) - before, 1, "how often the responder was asked")
 
 
 @test(seconds=4)
 def a_crl_that_is_signed_ends_no_back_off_of_a_responder(t):
-    """The CA's signer signs it. The responder hangs: a line has waited for it, and the next line does not."""
+    """The responder's signer hangs, and an `ocsp` line waits ten seconds for it. The CA's signer then signs a CRL. The next `ocsp` line still does
+    not wait."""
     it = Authority(t)
     responder = Responder(it)
     it.signer()
@@ -320,34 +322,34 @@ def a_crl_that_is_signed_ends_no_back_off_of_a_responder(t):
     with ThreadPoolExecutor(1) as pool, t.control() as control:
         control.peer.settimeout(20)
         waits = pool.submit(control.ask, line)
-        authority.until(lambda: hanging.asked, "that the responder is asked")
+        authority.until(lambda: hanging.asked, "a request to the responder's signer")
         desk.advance(10_000)
         t.same(waits.result(), unsigned, "the line that waited")
         t.same(control.ask("crl"), "crl 2 entries 1", "a CRL")
         with t.at_once("a line behind it"):
-            t.same(control.ask(line), unsigned, "a line behind it")
+            t.same(control.ask(line), unsigned, "the `ocsp` line after the CRL")
     t.same(len(hanging.asked), 1, "how often the responder was asked")
 
 
 @test(seconds=4)
 def the_log_s_last_word_is_about_either_key(t):
-    """The word `signer` marks a missing signature: of the responder's key for an answer, of the CA's for a CRL; and no other line has it."""
+    """A log line ends with `signer` if a signature is missing: the responder's for an OCSP answer, the CA's for a CRL. No other line does."""
     it = Authority(t)
     responder = Responder(it)
     with it.signer():
         a_day(t, it, *it.signing())
     desk = t.open("ca.db", "--log", *it.signing(), *responder.words())
     control = t.control()
-    t.same(body_of(t, desk.ask("POST", "/ocsp", it.asks("05"))), INTERNAL, "while nothing holds its key")
-    t.same([control.ask("crl"), control.ask("counts")], ["F3 signer", "good 1 revoked 1 expired 0"], "nor the CA's")
+    t.same(body_of(t, desk.ask("POST", "/ocsp", it.asks("05"))), INTERNAL, "OCSP while the responder has no signer")
+    t.same([control.ask("crl"), control.ask("counts")], ["F3 signer", "good 1 revoked 1 expired 0"], "replies while the CA has no signer")
     with program.Signer(t.room / "responder.sign", responder.sign):
         t.same(it.reads("05", answer(t, it, desk, "05")), "revoked")
-    t.same([line.endswith(" signer") for line in desk.end().err_lines], [True, True, False, False], "which lines have it")
+    t.same([line.endswith(" signer") for line in desk.end().err_lines], [True, True, False, False], "which log lines end with `signer`")
 
 
 @each({"a new certificate of the same key": False, "a new key": True}, seconds=6)
 def a_certificate_is_exchanged(t, is_new):
-    """An open desk goes on with the certificate that it read. Opened again, its next answer has the new one."""
+    """An open desk keeps the certificate that it read when it was opened. After a restart its answers have the new certificate."""
     it = Authority(t)
     it.signer()
     a_day(t, it, *it.signing())
@@ -364,13 +366,13 @@ def a_certificate_is_exchanged(t, is_new):
             der, sign = der_of(t, "next"), first.sign
         (t.room / "responder.der").write_bytes(der)
         response = answer(t, it, desk, "05")
-        t.same((certificates_in(response), it.reads("05", response)), ((CERTIFICATES, [first.der]), "revoked"), "what is open")
+        t.same((certificates_in(response), it.reads("05", response)), ((CERTIFICATES, [first.der]), "revoked"), "certificate and status")
         desk.end()
-    t.same(key_hash(der) != key_hash(first.der), is_new, "whether the key is another")
+    t.same(key_hash(der) != key_hash(first.der), is_new, "whether the new certificate has another key")
     with program.Signer(t.room / "responder.sign", sign):
         desk = t.open("ca.db", *it.signing(), *first.words())
         response = answer(t, it, desk, "05")
-        t.same(certificates_in(response), (CERTIFICATES, [der]), "the next answer has the new one")
+        t.same(certificates_in(response), (CERTIFICATES, [der]), "the certificate after the restart")
         t.same((named_by(response), it.reads("05", response)), ((0xA2, key_hash(der)), "revoked"))
 
 
@@ -386,17 +388,17 @@ def the_ca_s_certificate_in_its_answers(t, is_signed):
     bare = t.open("ca.db", "--requests", "9", *signing, command="serve")
     without = answer(t, it, bare, "05")
     bare.end()
-    t.same((certificates_in(without), named_by(without)), (None, (0xA2, key_hash(der))), "without the option there is no certificate")
+    t.same((certificates_in(without), named_by(without)), (None, (0xA2, key_hash(der))), "certificates and key hash in an answer without --embed")
     desk = t.open("ca.db", *signing, "--embed", "ca.der")
     for serial, told in STATUSES:
         response = answer(t, it, desk, serial)
         t.same((it.reads(serial, response, verify=is_signed), certificates_in(response)), (told, (CERTIFICATES, [der])), serial)
-        t.same(named_by(response), (0xA2, key_hash(der)), "by the issuer's key")
+        t.same(named_by(response), (0xA2, key_hash(der)), "the CA's key hash")
 
 
 @test(seconds=3)
 def without_the_options_each_byte_is_as_it_was(t):
-    """An answer with a placeholder digest depends only on its moment: with and without a certificate it differs in `certs`, and in the lengths around it."""
+    """An answer with a placeholder digest depends only on its moment. `--embed` adds only `certs`, and changes the enclosing lengths."""
     it = Authority(t)
     der = der_of(t, "ca")
     a_day(t, it)
@@ -407,12 +409,12 @@ def without_the_options_each_byte_is_as_it_was(t):
         got[words] = authority.basic_of(body_of(t, desk.ask("POST", "/ocsp", request)))
         desk.end()
     bare, with_it = (values_of(values_of(one)[0][1]) for one in got.values())
-    t.same(len(bare), 3, "parts of an answer without the options")
-    t.same([it[2] for it in with_it[:3]], [it[2] for it in bare], "and the same parts with a certificate behind them")
+    t.same(len(bare), 3, "fields of an answer without --embed")
+    t.same([it[2] for it in with_it[:3]], [it[2] for it in bare], "the same fields of an answer with --embed")
     line = f"{authority.moment_of(authority.now() + 10)} ocsp {request.hex()}\n"
     told = bytes.fromhex(t.done("script", "ca.db", given=line).split()[1])
-    t.same(len(values_of(values_of(authority.basic_of(told))[0][1])), 3, "and a script's")
-    t.same(len(der) + 12 > len(with_it[3][2]) > len(der), True, "certs")
+    t.same(len(values_of(values_of(authority.basic_of(told))[0][1])), 3, "fields of a script's answer")
+    t.same(len(der) + 12 > len(with_it[3][2]) > len(der), True, "whether `certs` has the certificate's length, and up to 11 bytes of heads")
 
 
 # Refusals by `bad-responder`
@@ -430,14 +432,14 @@ def bytes_that_are_no_certificate(t, broken):
     it = Authority(t)
     responder = Responder(it)
     (t.room / "responder.der").write_bytes(broken(responder.der))
-    # The register is missing: the fault would be `F2 store`.
+    # The register is missing, so a check after that of the certificate would report `F2 store`.
     for command, more, sealed in (("open", ("--control", "counter"), ("--unsigned",)), ("serve", ("--requests", "9"), ())):
         bad_responder(t, [command, "none.db", "--port", "1", *more, *responder.words()])
         bad_responder(t, [command, "none.db", "--port", "1", *more, *sealed, "--embed", "responder.der"])
 
 
 def info(*parts):
-    """Another SubjectPublicKeyInfo in a TBSCertificate, of these parts of the key's AlgorithmIdentifier and its bits."""
+    """A change of a TBSCertificate: its SubjectPublicKeyInfo gets these parts, each made of the key's AlgorithmIdentifier and bits."""
     return lambda certified: [*certified[:KEY], tlv(SEQUENCE, *parts_of(certified, parts)), *certified[KEY + 1 :]]
 
 
@@ -480,21 +482,21 @@ KEYLESS = {
 
 @each(KEYLESS, seconds=2)
 def a_certificate_without_a_key_of_its_algorithm(t, change):
-    """By the grammar of RFC 5280 4.1, all else being as openssl made it."""
+    """A field of the TBSCertificate up to its key is missing, or of another form (RFC 5280 4.1). All other fields are as openssl made them."""
     it = Authority(t)
     responder = Responder(it)
     path, usual = t.room / "responder.der", rebuilt(it, responder.der, lambda certified: certified)
-    t.same(inside(usual, 0)[2], inside(responder.der, 0)[2], "put together again it is the same")
+    t.same(inside(usual, 0)[2], inside(responder.der, 0)[2], "the TBSCertificate, rebuilt without a change")
     path.write_bytes(rebuilt(it, responder.der, change))
     bad_responder(t, ["open", "none.db", "--port", "1", "--control", "counter", *responder.words()])
-    # As it was it is taken, and FILE is looked at.
+    # The unchanged certificate is accepted. The next fault is that the register is missing.
     path.write_bytes(usual)
     ran = t.desk("open", "none.db", "--port", "1", "--control", "counter", *responder.words())
     t.same((ran.status, ran.err), (1, b"F2 store\n"))
 
 
 def gencrl(t):
-    """The files that openssl needs before it makes a CRL."""
+    """Writes the configuration with which openssl makes a CRL, and returns its path."""
     path = t.room / "ca.cnf"
     path.write_text("[ca]\ndatabase = index.txt\ndefault_md = sha256\ndefault_crl_days = 8\n")
     return path
@@ -517,26 +519,26 @@ def what_is_in_der_and_no_certificate(t, *words):
     (t.room / "index.txt").touch()
     t.tool("openssl", "ca", "-gencrl", "-name", "ca", "-config", gencrl(t), "-keyfile", it.key, "-cert", it.pem, "-out", "empty.crl")
     made = t.tool("openssl", *words)
-    t.true(made[:1] == b"\x30" and made != responder.der, f"{words[0]} gives a SEQUENCE, and not the certificate")
+    t.true(made[:1] == b"\x30" and made != responder.der, f"{words[0]} gives no SEQUENCE, or the certificate itself")
     (t.room / "responder.der").write_bytes(made)
     bad_responder(t, ["open", "none.db", "--port", "1", "--control", "counter", *responder.words()])
 
 
 def padded(it, der, size):
-    """A certificate like another with an extension of its own, of so many octets in all."""
+    """The certificate `der` with one more extension, which is so long that the certificate has `size` octets."""
     def made(octets, sign):
         extension = tlv(SEQUENCE, bytes.fromhex("06032A0304"), tlv(OCTETS, bytes(octets)))
         longer = lambda certified: [*certified[:EXTENSIONS], tlv(0xA3, tlv(SEQUENCE, *whole(inside(certified[EXTENSIONS], 0)[1]), extension))]
         return rebuilt(it, der, longer, sign)
 
-    # A signature of RSA has always as many octets.
+    # An RSA signature always has as many octets as the modulus: 256.
     octets = next(octets for octets in range(size - len(der) - 60, size) if len(made(octets, lambda _: bytes(256))) == size)
     return made(octets, it.sign)
 
 
 @each({"65,535 octets": 65_535, "65,536 octets": 65_536, "65,537 octets": 65_537, "a million octets": 1_000_000}, seconds=5)
 def a_certificate_of_so_many_octets(t, size):
-    """65,536 are the most; each answer has them as they are."""
+    """A certificate may have at most 65,536 octets. Each answer contains all of them."""
     it = Authority(t, "rsa-sha256")
     responder, ca = Responder(it), der_of(t, "ca")
     answers = {("--responder", "responder.der"): padded(it, responder.der, size), ("--embed", "ca.der"): padded(it, ca, size)}
@@ -560,7 +562,7 @@ def a_certificate_of_so_many_octets(t, size):
 
 @each({f"version {it}": it for it in (1, 2, 3)}, seconds=2)
 def before_a_bad_certificate_nothing_is_opened(t, version):
-    """The file stays as it was, to the octet, and has no log: also one that its opening would make newer."""
+    """The register's file stays as it was and gets no -wal, even if its version is an older one, which the command would otherwise migrate."""
     it = Authority(t)
     responder = Responder(it)
     registers.make(t.room / "ca.db", registers.Records(20, 3), version)
@@ -570,12 +572,12 @@ def before_a_bad_certificate_nothing_is_opened(t, version):
         opens = [command, "ca.db", "--port", program.free_port(), *more]
         bad_responder(t, [*opens, *responder.words()])
         bad_responder(t, [*opens, *(("--unsigned",) if command == "open" else ()), "--embed", "responder.der"])
-    t.same(faults.contents(t.room / "ca.db") == before, True, "the file's octets")
+    t.same(faults.contents(t.room / "ca.db") == before, True, "whether the file's octets are the same")
 
 
 @test(seconds=3)
 def a_certificate_that_can_t_be_read(t):
-    """A folder in its place, a read that fails, and one that gives fewer octets than asked."""
+    """An `open` or `read` that fails, or a folder at the path, is `bad-responder`. A read may return fewer octets than requested."""
     it = Authority(t)
     responder = Responder(it)
     responder.signer()
@@ -586,12 +588,12 @@ def a_certificate_that_can_t_be_read(t):
         t.same((ran.status, ran.out, ran.err, count["met"]), (1, b"", b"bad-responder\n", 1), fail)
     bad_responder(t, ["open", "ca.db", "--port", program.free_port(), "--control", "counter", "--unsigned", "--embed", "."])
     desk = t.open("ca.db", *responder.words(), faults=faults.environment(only="responder.der", short=1))
-    t.same(certificates_in(answer(t, it, desk, "05")), (CERTIFICATES, [responder.der]), "read octet by octet")
+    t.same(certificates_in(answer(t, it, desk, "05")), (CERTIFICATES, [responder.der]), "the certificate, which was read octet by octet")
 
 
 @test(seconds=15)
 def an_allocation_is_refused_while_it_is_opened(t):
-    """It listens as usual, or reports `F1 memory` and nothing else: out of memory is not a bad certificate."""
+    """If an allocation fails, `serve` listens as usual or reports only `F1 memory`. Out of memory is not reported as a bad certificate."""
     it = Authority(t)
     responder = Responder(it)
     responder.signer()
@@ -603,7 +605,7 @@ def an_allocation_is_refused_while_it_is_opened(t):
                 told += 1
                 ended = desk.wait()
                 t.same((ended.status, ended.err), (1, b"F1 memory\n"), f"allocation {at}")
-    t.true(told > 100, f"want of memory was told {told} times")
+    t.true(told > 100, f"`F1 memory` was reported only {told} times")
 
 
 @test(seconds=4)
@@ -634,7 +636,7 @@ def a_certificate_that_can_t_be_used(t):
 
 
 def leaf(t, it, name, serial, more=""):
-    """A certificate of a server, by the CA: NAME.pem and NAME.key."""
+    """Makes a server's certificate, which the CA signs, in NAME.pem, and its key in NAME.key."""
     (t.room / f"{name}.conf").write_text(f"subjectAltName=DNS:localhost,IP:127.0.0.1\n{more}")
     t.tool("openssl", "req", "-new", "-newkey", *KEYS["ecdsa-sha256"], "-nodes", "-keyout", f"{name}.key", "-out", f"{name}.csr", "-subj", f"/CN={name}")
     t.tool("openssl", "x509", "-req", "-in", f"{name}.csr", "-CA", it.pem, "-CAkey", it.key, "-set_serial", serial, "-days", 60,
@@ -645,7 +647,7 @@ LEAVES = (("good", 6), ("revoked", 5))
 
 
 def checked(t, it, extensions=DELEGATED):
-    """A leaf of the CA for each status, and the words that start each form of a desk over its register."""
+    """Makes a leaf certificate for each status, and the register of the CA. Returns the options for each form of a desk."""
     responder = Responder(it, extensions=extensions)
     der_of(t, "ca")
     it.signer()
@@ -657,7 +659,7 @@ def checked(t, it, extensions=DELEGATED):
 
 
 def below_a_root(t, it):
-    """The CA has a certificate of another, root.pem, in the place of its own; all.pem has both."""
+    """Replaces the self-signed certificate of the CA by one that the root of root.pem signed. all.pem has both."""
     root = Authority(t, name="root", subject="/CN=Root")
     (t.room / "below.conf").write_text("basicConstraints=critical,CA:TRUE\nkeyUsage=critical,keyCertSign,cRLSign\nsubjectKeyIdentifier=hash\n")
     t.tool("openssl", "req", "-new", "-key", it.key, "-out", "ca.csr", "-subj", "/CN=T")
@@ -665,7 +667,7 @@ def below_a_root(t, it):
     (t.room / "all.pem").write_bytes(it.pem.read_bytes() + root.pem.read_bytes())
 
 
-# A CA that stands below another, or that has a key identifier of its own, as its responder has.
+# Two more forms: a root signed the CA's certificate, or the CA and its responder have key identifiers that are no hashes.
 BELOW, OWN = ", below a root", ", by key identifiers of their own"
 
 
@@ -690,7 +692,7 @@ def forms(*more):
 
 @each(forms(BELOW, OWN), seconds=4)
 def openssl_takes_both_forms(t, form):
-    """It trusts only the root, and knows the CA as the issuer in its request. The CRL is of the CA too."""
+    """openssl trusts only the root. It is given the CA's certificate, as the issuer in its request and to verify the CRL."""
     it, words = asked(t, form)
     desk = t.open("ca.db", *it.signing(), *words)
     for name, _ in LEAVES:
@@ -754,7 +756,7 @@ def gnutls_takes_both_forms(t, form):
 
 @each(forms(OWN), seconds=6)
 def nss_takes_both_forms(t, form):
-    """By the URL in the leaves, with a GET."""
+    """NSS asks with GET, at the URL in the leaf certificate."""
     need("certutil", "vfychain")
     it, words = asked(t, form)
     desk = t.open("ca.db", *it.signing(), *words)
@@ -824,8 +826,8 @@ STAPLING = """    server {{
 
 @each({**forms(BELOW), "neither": "neither"}, seconds=8)
 def nginx_staples_with_the_leaf_alone(t, form):
-    """By the lines of docs/OPERATIONS.md: where the chain is the leaf, nginx takes an answer only with a certificate in it. Where the CA is in the chain it
-    takes each, and so does curl, which looks for the CA there."""
+    """nginx runs with the lines of docs/OPERATIONS.md. If its chain is only the leaf, nginx accepts an answer only with a certificate in it. If the
+    chain has the CA, nginx and curl accept each answer."""
     need("nginx")
     it, words = asked(t, form)
     desk = t.open("ca.db", *it.signing(), *words)
@@ -846,18 +848,19 @@ def nginx_staples_with_the_leaf_alone(t, form):
         return b"OCSP Response Status: successful" in ran.stdout and b"Cert Status: good" in ran.stdout
 
     asks = ("curl", "-sS", "-o", "/dev/null", "-w", "%{http_code}", "--cert-status", "--cacert", "all.pem", f"https://localhost:{other}/")
-    authority.until(lambda: t.tried(*asks).stdout == b"204", "what is stapled and curl takes")
+    authority.until(lambda: t.tried(*asks).stdout == b"204", "a stapled answer that curl accepts")
     if words:
         authority.until(stapled, "a stapled answer")
         return
     stapled()
-    authority.until(lambda: "OCSP_basic_verify() failed" in (folder / "error.log").read_text(), "nginx to refuse it")
-    t.same(stapled(), False, "an answer without a certificate")
+    authority.until(lambda: "OCSP_basic_verify() failed" in (folder / "error.log").read_text(), "nginx's refusal in its log")
+    t.same(stapled(), False, "whether an answer without a certificate is stapled")
 
 
 @test(seconds=5)
 def a_signer_of_a_responder_only(t):
-    """examples/signer.py, and examples/only_ours.py before openssl, with a responder's key: they sign its answers, and no CRL and nothing else."""
+    """examples/signer.py and examples/only_ours.py (with openssl) sign only OCSP answers with a responder's key. They refuse a CRL and any other
+    message."""
     authority.need_cryptography(t)
     it = Authority(t)
     responder = Responder(it)
@@ -874,13 +877,13 @@ def a_signer_of_a_responder_only(t):
     only_ours = ["python3", EXAMPLES / "only_ours.py"]
     told = ("openssl", "dgst", "-sha256", "-sign", responder.key)
     before = [*only_ours, "--responder", responder.pem, it.pem, *told]
-    t.true(t.tool(*before, given=part), "an answer is signed")
+    t.true(t.tool(*before, given=part), "examples/only_ours.py refuses the responder's answer")
     ran = t.tried(*before[:-1], it.key, given=part)
-    t.same((ran.returncode, ran.stdout), (1, b""), "the CA's key signs in place of the responder's")
+    t.same((ran.returncode, ran.stdout), (1, b""), "the CA's key in place of the responder's is refused")
     for what, message in (("a CRL", signer.asked[0]), ("another message", b"0"), ("a byte more", part + b"\0")):
         ran = t.tried(*before, given=message)
         t.same((ran.returncode, ran.stdout), (1, b""), f"{what} is refused")
     ran = t.tried(*only_ours, it.pem, *told, given=part)
-    t.same((ran.returncode, ran.stdout), (1, b""), "by who signs for the CA alone")
+    t.same((ran.returncode, ran.stdout), (1, b""), "examples/only_ours.py without --responder refuses the answer")
     ran = t.tried("python3", EXAMPLES / "signer.py", "--only-ours", it.pem, "--responder", responder.pem, it.key, "other.sign")
     t.has(ran.stderr, b"is the certificate of another key")

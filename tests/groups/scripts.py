@@ -1,4 +1,4 @@
-"""The scripts of examples/ for cron and for registering certificates: their output, their exit status, and that a failure loses nothing."""
+"""The scripts of examples/ that publish CRLs, register certificates and copy registers: their output and exit status. A failure loses no data."""
 
 import fcntl
 import hashlib
@@ -18,20 +18,20 @@ from lib.trial import Skipped, each, need, test
 
 
 def played(t, script, *words, before=(), more=None):
-    """Runs a script of examples/ with the tested program as its `desk`: its status, its output, and its lines on standard error. It uses no proxy."""
+    """Runs a script of examples/ with the tested program as its `desk`, and without a proxy. Returns its status, its output, and its error lines."""
     env = {**os.environ, "DESK": program.program(), "TZ": "America/New_York", **authority.NO_PROXY, **(more or {})}
     ran = t.tried(*before, EXAMPLES / script if not before else t.room / script, *words, env=env)
     return ran.returncode, ran.stdout.decode(), ran.stderr.decode().splitlines()
 
 
 def fails(t, ran, told, status=1):
-    """Checks that it printed nothing, and one line with this text on standard error."""
-    t.same((ran[0], ran[1], len(ran[2])), (status, "", 1), f"status, output and lines told, of which {ran[2]!r}")
+    """Checks that a script printed nothing on standard output, and on standard error one line with this text."""
+    t.same((ran[0], ran[1], len(ran[2])), (status, "", 1), f"status, output and number of error lines, which are {ran[2]!r}")
     t.has(ran[2][0], told)
 
 
 def as_nobody(t, script):
-    """A function that runs a script as a user without rights, who can read a copy of it."""
+    """The words before a script that run it as a user without rights. That user can read the copy of the script in the test's folder."""
     if os.geteuid():
         return ("env",)
     need("setpriv")
@@ -42,7 +42,7 @@ def as_nobody(t, script):
 
 
 def small_disk(t, size):
-    """A folder of so many kB, with a file system of its own."""
+    """A folder with a file system of its own, of `size` kB."""
     if os.geteuid():
         raise Skipped("a small file system wants root")
     need("mount")
@@ -55,7 +55,7 @@ def small_disk(t, size):
 
 
 def contents(folder):
-    """All that is in a folder: of each file its bytes and its place on the disk."""
+    """The files below a folder: of each its inode number and its bytes."""
     return {it.relative_to(folder): (it.stat().st_ino, it.read_bytes()) for it in sorted(folder.rglob("*")) if it.is_file()}
 
 
@@ -63,7 +63,7 @@ def contents(folder):
 
 
 def open_desk(t, *lines):
-    """A CA with an open desk and a signer, and the folder `www`; these lines run at its control socket."""
+    """A CA with a signer and an open desk, which runs these lines at its control socket. Also makes the folder `www`."""
     it = Authority(t)
     it.register()
     it.signer()
@@ -94,23 +94,23 @@ def published(t, it, desk, number):
 @test(seconds=3)
 def a_crl_is_published_if_it_differs(t):
     it, desk = open_desk(t, "crl")
-    # As of a cron job whose files are for its user alone.
+    # A cron job may have a umask that lets only its own user read new files.
     before = os.umask(0o077)
-    t.same(publish(t, desk), (0, "crl 1 published in www\n", []), "the first one")
+    t.same(publish(t, desk), (0, "crl 1 published in www\n", []), "the first CRL")
     os.umask(before)
     published(t, it, desk, 1)
     before = contents(t.room / "www")
-    t.same(publish(t, desk), (0, "", []), "the same again")
-    t.same(contents(t.room / "www"), before, "what is the same stays as it is")
+    t.same(publish(t, desk), (0, "", []), "the same CRL again")
+    t.same(contents(t.room / "www"), before, "the files after the same CRL")
     now = authority.now()
     at_control(t, "subscriber acme", "order 1 30", f"register 1 05 {moment_of(now)} {moment_of(now + DAY)}", "request 05 superseded", "revoke 1", "crl")
-    t.same(publish(t, desk), (0, "crl 2 published in www\n", []), "a newer one")
+    t.same(publish(t, desk), (0, "crl 2 published in www\n", []), "a newer CRL")
     published(t, it, desk, 2)
     t.same(list(authority.listed(t, (t.room / "www/ca.crl").read_bytes())), [5])
     (t.room / "www/ca.crl.pem").unlink()
-    t.same(publish(t, desk), (0, "crl 2 published in www\n", []), "where one of the two is missing")
+    t.same(publish(t, desk), (0, "crl 2 published in www\n", []), "the same CRL while ca.crl.pem is missing")
     published(t, it, desk, 2)
-    # What a run left that was killed.
+    # A killed run left this folder.
     (t.room / "www/.publish-crl.abc").mkdir()
     (t.room / "www/.publish-crl.abc/ca.crl").write_text("half")
     t.same(publish(t, desk), (0, "", []))
@@ -118,12 +118,12 @@ def a_crl_is_published_if_it_differs(t):
 
 
 def other_authority(subject):
-    """Publishes by the certificate of another CA, of this name."""
+    """Publishes while the script is given the certificate of another CA, which has this name."""
     return lambda t, desk: (Authority(t, name="other", subject=subject), publish(t, desk, ca="other.pem"))[1]
 
 
 def trusted_elsewhere(t, desk):
-    """The CA's certificate is one that the machine trusts, and another one is named."""
+    """The machine trusts the CA's certificate, but the script is given the certificate of another CA."""
     (t.room / "trusted").mkdir()
     shutil.copy(t.room / "ca.pem", t.room / "trusted")
     t.tool("openssl", "rehash", "trusted")
@@ -141,7 +141,7 @@ def gone(t, desk):
     return publish(t, desk)
 
 
-# Failures while CRL 2 is published and 3 is the latest, and the message.
+# Each failure happens while CRL 2 is published and CRL 3 is the latest. The text is in the error message.
 FAILURES = {
     "a CA of the same name with another key": (other_authority("/CN=T"), "is not verified by other.pem: verify failure"),
     "a CA of another name": (other_authority("/CN=U"), "is not verified by other.pem: Error getting CRL issuer certificate"),
@@ -163,7 +163,7 @@ def a_published_crl_stays_after_a_failure(t, fail, told):
     at_control(t, "crl")
     before = contents(t.room / "www")
     fails(t, fail(t, desk), told)
-    t.same(contents(t.room / "www"), before, "what is published")
+    t.same(contents(t.room / "www"), before, "the published files")
 
 
 @each({"ca.crl": "ca.crl", "ca.crl.pem": "ca.crl.pem"}, seconds=2)
@@ -174,8 +174,8 @@ def an_older_crl_beside_one_form_only(t, left):
         (t.room / "www" / name).unlink()
     before = contents(t.room / "www")
     fails(t, publish(t, desk, "/crl/1"), "/crl/1 is no newer than number 2 in www: was the register set back?")
-    t.same(contents(t.room / "www"), before, "what is published")
-    # The same CRL in a PEM of other bytes is no other CRL.
+    t.same(contents(t.room / "www"), before, "the published files")
+    # A PEM file with a line before the same CRL still counts as that CRL.
     (t.room / "www/ca.crl.pem").write_bytes(b"published by hand\n" + t.tool("openssl", "crl", "-in", f"www/{left}"))
     t.same(publish(t, desk)[:2], (0, "crl 2 published in www\n"))
 
@@ -191,20 +191,20 @@ def a_folder_that_is_none_or_not_to_be_written(t):
     os.chmod(t.room / "www", 0o555)
     if not os.geteuid():
         fails(t, publish(t, desk, before=as_nobody(t, "publish-crl.sh")), "nothing can be written in www")
-    t.same(contents(t.room / "www"), before, "what is published")
+    t.same(contents(t.room / "www"), before, "the published files")
 
 
 @test(seconds=2)
 def a_disk_that_is_full(t):
     _, desk = open_desk(t, "crl")
-    # A page of each file, in both copies, has no room.
+    # The disk has three pages of 4 kB, which the two published files and the filler take.
     folder = small_disk(t, 12)
     t.same(publish(t, desk, folder=folder)[0], 0)
     (folder / "filler").write_bytes(bytes(4_096))
     at_control(t, "crl")
     before = contents(folder)
     t.same(publish(t, desk, folder=folder)[:2], (1, ""), "status and output")
-    t.same(contents(folder), before, "what is published")
+    t.same(contents(folder), before, "the files on the disk")
 
 
 @test(seconds=2)
@@ -222,7 +222,7 @@ def a_crl_that_has_ended(t):
 
 @test(seconds=3)
 def a_register_that_was_set_back(t):
-    """Two CRLs of one number: the one that was published stays."""
+    """If the desk has another CRL of the published number, the published CRL stays."""
     it, desk = open_desk(t, "crl")
     desk.end()
     for name in ("ca.db", "ca.db-wal"):
@@ -240,12 +240,12 @@ def a_register_that_was_set_back(t):
     fails(t, publish(t, desk), "is no newer than number 2 in www: was the register set back?")
     t.same(contents(t.room / "www"), before)
     at_control(t, "crl")
-    t.same(publish(t, desk)[1], "crl 3 published in www\n", "a greater number is taken again")
+    t.same(publish(t, desk)[1], "crl 3 published in www\n", "a CRL with a greater number")
 
 
 @test(seconds=3)
 def crls_are_published_after_the_ninth(t):
-    """openssl prints their numbers in hexadecimal."""
+    """The script compares CRL numbers as numbers, although openssl prints them in hexadecimal."""
     it, desk = open_desk(t, *["crl"] * 9)
     for more, number in ((0, 9), (1, 10), (6, 16), (1, 17)):
         at_control(t, *["crl"] * more)
@@ -269,9 +269,9 @@ def a_crl_is_published_once_another_run_has_ended(t):
     fcntl.flock(folder, fcntl.LOCK_EX)
     with ThreadPoolExecutor(1) as pool:
         run = pool.submit(publish, t, desk)
-        # Time in which it could begin to write.
+        # The script would begin to write in this time if it did not wait.
         time.sleep(1)
-        t.same((run.done(), names(t.room / "www")), (False, []), "whether it has ended, and what is in the folder")
+        t.same((run.done(), names(t.room / "www")), (False, []), "whether the script has ended, and the files in the folder")
         os.close(folder)
         t.same(run.result(), (0, "crl 1 published in www\n", []))
 
@@ -297,11 +297,11 @@ def a_reader_gets_the_old_one_or_the_new_one(t):
     finally:
         ended.set()
         reader.join()
-    t.same((len(crls), seen <= crls), (5, True), "CRLs, and whether nothing else was read")
+    t.same((len(crls), seen <= crls), (5, True), "number of CRLs, and whether each read got one of them")
 
 
 def played_by_curl(t, does):
-    """The environment in which these lines of a shell script are `curl`."""
+    """Makes a shell script of these lines. In the returned environment it runs in place of `curl`."""
     (t.room / "bin").mkdir()
     (t.room / "bin/curl").write_text(f"#!/bin/sh\n{does}\n")
     (t.room / "bin/curl").chmod(0o755)
@@ -309,7 +309,7 @@ def played_by_curl(t, does):
 
 
 def issue_at_once(t, desk, **how):
-    """Issues a CRL of a revocation that waits for one."""
+    """Revokes a certificate, and has issue-due-crl.sh issue the CRL that lists it."""
     now = authority.now()
     registers = f"register 1 05 {moment_of(now)} {moment_of(now + DAY)}"
     at_control(t, "subscriber acme", "order 1 30", registers, "request 05 key-compromise", "revoke 1")
@@ -318,18 +318,18 @@ def issue_at_once(t, desk, **how):
 
 @each({"publish-crl.sh": (publish, ["/crl"]), "issue-due-crl.sh": (issue_at_once, ["/metrics", "/list/revoked?limit=250"])}, seconds=2)
 def each_request_to_a_desk_ends_after_a_minute(t, script, paths):
-    """Else one run would wait forever for a desk that hangs, and no later one could begin."""
+    """Without the limit, one run would wait forever for a desk that hangs, and no later run could begin."""
     _, desk = open_desk(t, "crl")
     more = played_by_curl(t, f'echo "$@" >>"{t.room}/asked" && exec {shutil.which("curl")} "$@"')
-    t.same(script(t, desk, more=more)[0], 0, "its status")
+    t.same(script(t, desk, more=more)[0], 0, "the script's status")
     asked = (t.room / "asked").read_text().splitlines()
-    t.same([it for it in asked if " --max-time 60 " not in it], [], "calls of curl that may take longer")
-    t.same([it.partition(f"127.0.0.1:{desk.port}")[2] for it in asked], paths, "what is asked")
+    t.same([it for it in asked if " --max-time 60 " not in it], [], "calls of curl without the limit")
+    t.same([it.partition(f"127.0.0.1:{desk.port}")[2] for it in asked], paths, "the requested paths")
 
 
 @test
 def what_a_server_says_is_told_in_one_line_of_plain_characters(t):
-    """It may be a proxy's page, and goes to a terminal or into a mail."""
+    """The body of a failed response may be a proxy's page. The script prints it on one line without control characters, for a terminal or a mail."""
     (t.room / "www").mkdir()
     (t.room / "ca.pem").write_text("")
     body = b"one\n\x1b[31mtwo\x07\r\n"
@@ -349,7 +349,7 @@ def what_a_server_says_is_told_in_one_line_of_plain_characters(t):
 
 @test
 def a_run_that_is_ended_leaves_nothing_beside_what_is_published(t):
-    """As a unit of systemd is stopped. Else what was fetched and not yet checked would stay in the folder of the web server."""
+    """At SIGTERM, with which systemd stops a unit, the script removes its unchecked files from the web server's folder, and ends."""
     (t.room / "www").mkdir()
     (t.room / "ca.pem").write_text("")
     env = {**os.environ, **played_by_curl(t, f'touch "{t.room}/asked"\nexec sleep 60')}
@@ -357,18 +357,18 @@ def a_run_that_is_ended_leaves_nothing_beside_what_is_published(t):
     run = subprocess.Popen(words, cwd=t.room, env=env, stdin=subprocess.DEVNULL, stderr=subprocess.DEVNULL, start_new_session=True)
     t.callback(run.wait, program.LONGEST)
     t.callback(run.kill)
-    authority.until((t.room / "asked").exists, "that it asks")
-    t.same(len(names(t.room / "www")), 1, "what it has in the folder")
+    authority.until((t.room / "asked").exists, "the script's call of curl")
+    t.same(len(names(t.room / "www")), 1, "number of files in the folder while the script runs")
     os.killpg(run.pid, signal.SIGTERM)
     run.wait(program.LONGEST)
-    t.same(names(t.room / "www"), [], "what is left")
+    t.same(names(t.room / "www"), [], "files after SIGTERM")
 
 
 # register-pem.sh
 
 
 def issued(t, it, name, serial, subject="/CN=acme", days=90):
-    """A certificate of the CA, as NAME.pem."""
+    """Makes a certificate of the CA in NAME.pem. Returns its notBefore and notAfter, in seconds."""
     t.tool("openssl", "req", "-new", "-utf8", "-key", it.key, "-subj", subject, "-out", "x.csr")
     t.tool("openssl", "x509", "-req", "-in", "x.csr", "-CA", it.pem, "-CAkey", it.key, "-set_serial", f"0x{serial}", "-days", days, "-out", f"{name}.pem")
     told = t.tool("openssl", "x509", "-in", f"{name}.pem", "-noout", "-dates").decode()
@@ -389,7 +389,7 @@ commonName = supplied
 
 
 def by_openssl_ca(t, it, name, serial, begins, ends):
-    """A certificate of these two moments, as NAME.pem."""
+    """Makes a certificate with this notBefore and notAfter in NAME.pem."""
     for file, text in (("ca.cnf", CONFIG), ("index.txt", ""), ("serial", f"{serial}\n")):
         (t.room / file).write_text(text)
     t.tool("openssl", "req", "-new", "-key", it.key, "-subj", "/CN=acme", "-out", "x.csr")
@@ -398,7 +398,7 @@ def by_openssl_ca(t, it, name, serial, begins, ends):
 
 
 def ended(t, it):
-    """A certificate of January 2020, as ended.pem."""
+    """Makes a certificate whose validity was January 2020 in ended.pem."""
     by_openssl_ca(t, it, "ended", "14", "200101000000Z", "200131000000Z")
 
 
@@ -420,21 +420,21 @@ def rows(t, table):
 
 
 def name_of(common):
-    """The subscriber's name of a common name, as examples/register-pem.sh says it."""
+    """The subscriber's name that examples/register-pem.sh makes of a common name."""
     if re.fullmatch(r"[A-Za-z0-9._-]{1,64}", common) and not re.search(r"\.[0-9a-f]{16}$", common):
         return common
     letters = re.sub(rb"[^A-Za-z0-9._-]+", b"-", common.encode()).strip(b"-")[:47].decode()
     return f"{letters}.{hashlib.sha256(common.encode()).hexdigest()[:16]}"
 
 
-# Common names of which some differ in what a subscriber's name can't have.
+# Common names. Some of them differ only in characters that a subscriber's name can't have.
 COMMON_NAMES = ["Müller", "Möller", "M-ller", "Muller", "日本", "日本語", "Ünal & Söhne", "Example Corp", "Example-Corp", " Example Corp", "*.example", "a_b", "a-b", "a b",
                 "ł" * 64, "x" * 64, "x" * 63 + "ß", "a/b", "a+b", "-", "--", "🔑"]
 
 
 @test(seconds=12)
 def two_common_names_are_two_subscribers(t):
-    """Whatever they are in UTF-8; the name that one comes to is its own, also where a common name is written as that name."""
+    """Each common name gets a subscriber of its own, whatever its characters are, even if it equals the name that the script makes of another one."""
     it, desk = unsigned_desk(t)
     names = [*COMMON_NAMES, name_of("Müller"), name_of("日本")]
     for at, common in enumerate(names, 16):
@@ -443,11 +443,11 @@ def two_common_names_are_two_subscribers(t):
     files = [f"{at}.pem" for at, _ in enumerate(names, 16)]
     for first in range(0, len(files), 3):
         status, out, told = register_pem(t, "-c", "counter", *files[first : first + 3])
-        t.same((status, told), (0, []), "all are registered")
-        t.same([int(line.rpartition(" ")[2]) for line in out.splitlines()], list(range(1, len(names) + 1))[first : first + 3], "each for a subscriber of its own")
+        t.same((status, told), (0, []), "status and error lines")
+        t.same([int(line.rpartition(" ")[2]) for line in out.splitlines()], list(range(1, len(names) + 1))[first : first + 3], "subscribers")
     again = len(names) + 16
     t.tool("openssl", "x509", "-req", "-in", "x.csr", "-CA", it.pem, "-CAkey", it.key, "-set_serial", again, "-days", 30, "-out", "again.pem")
-    t.has(register_pem(t, "-c", "counter", "again.pem")[1], f"of subscriber {len(names)}\n", "the next certificate of one of them")
+    t.has(register_pem(t, "-c", "counter", "again.pem")[1], f"of subscriber {len(names)}\n", "a second certificate with the last common name")
     desk.end()
     t.same([name for _, name in rows(t, "subscriber")], [name_of(common) for common in names])
 
@@ -472,14 +472,14 @@ def certificates_are_registered_at_the_control_socket(t):
     t.same(at_control(t, "status 05", "status 7fffffff00aa", "status 6"), ["good"] * 3)
     ran = register_pem(t, "-c", "counter", "a.pem", "b.pem")
     t.same(ran, (3, "", ["a.pem: serial number 05 is not registered anew, status: good",
-                         "b.pem: serial number 7FFFFFFF00AA is not registered anew, status: good"]), "once more")
-    # As DER, under a named subscriber.
+                         "b.pem: serial number 7FFFFFFF00AA is not registered anew, status: good"]), "the same certificates again")
+    # A certificate in DER, for a subscriber that -s names.
     issued(t, it, "d", "08", "/CN=d")
     t.tool("openssl", "x509", "-in", "d.pem", "-outform", "DER", "-out", "d.der")
     t.same(register_pem(t, "-c", "counter", "-s", "b.example", "d.der")[1], "d.der: serial number 08 registered, order 5 of subscriber 3\n")
     desk.end()
     t.same([name for _, name in rows(t, "subscriber")], ["first", name_of("a & sons, Zürich"), "b.example"])
-    # Both ends of a validity are counted, so `-days 90` has 91.
+    # The second of notAfter belongs to the validity, so `-days 90` is a second longer than 90 days, and needs an order of 91.
     t.same(rows(t, "orders"), [(1, 1, 398), (2, 2, 91), (3, 3, 398), (4, 1, 2), (5, 3, 91)])
     held = {order: (begins, ends) for _, order, begins, ends in rows(t, "cert")}
     t.same([held[order] for order in (2, 3, 4)], [tuple(days[name]) for name in "abc"], "validities")
@@ -510,7 +510,7 @@ def refused_certificates_are_reported_and_the_others_registered(t):
 
 @test(seconds=2)
 def a_certificate_of_another_ca_that_the_machine_trusts_is_refused(t):
-    """The CA that is named counts alone: a serial number that was registered can't be taken back."""
+    """Only the CA that -a names is trusted, because a registered serial number can't be removed."""
     unsigned_desk(t)
     other = Authority(t, name="other", subject="/CN=U")
     issued(t, other, "strange", "15")
@@ -534,7 +534,7 @@ def a_certificate_and_a_control_socket_at_paths_with_a_blank(t):
 
 @test(seconds=2)
 def a_certificate_of_a_ca_below_another_one(t):
-    """The other CA signed the certificate that is given."""
+    """-a may name a CA certificate that another CA signed."""
     it, _ = unsigned_desk(t)
     root = Authority(t, name="root", subject="/CN=Root")
     (t.room / "ca.ext").write_text("basicConstraints=critical,CA:TRUE\n")
@@ -547,7 +547,7 @@ def a_certificate_of_a_ca_below_another_one(t):
 
 @test(seconds=2)
 def an_order_that_stays_without_its_certificate_is_reported(t):
-    """Where fewer days are allowed now than there were, the order is accepted and the certificate is not."""
+    """The schedule allows 398 days, and since 2026-03-15 only 47. An order of 91 days is accepted, but its certificate is refused."""
     it = Authority(t)
     it.register()
     t.done("schedule", "ca.db", "1970-01-01T00:00:00Z=398", "2026-03-15T00:00:00Z=47")
@@ -570,7 +570,7 @@ def as_many_days_as_given_to_openssl(t):
     asn1 = lambda at: re.sub("[-:T]", "", moment_of(at))
     by_openssl_ca(t, it, "b", "06", asn1(begins), asn1(ends - 1))
     told = t.tool("openssl", "x509", "-in", "b.pem", "-noout", "-enddate").decode()
-    t.same(authority.openssl_time(told.partition("=")[2].strip()), ends - 1, "notAfter, to which openssl was told")
+    t.same(authority.openssl_time(told.partition("=")[2].strip()), ends - 1, "notAfter, as -enddate set it")
     t.same(registers(1, "06", ends - 1), "registered")
 
 
@@ -593,10 +593,10 @@ def certificates_as_lines_of_a_script(t):
     at = {name: [moment_of(one) for one in issued(t, it, name, serial, days=days)] for name, serial, days in (("a", "05", 90), ("b", "06", 30))}
     ended(t, it)
     status, lines, told = register_pem(t, "-o", "2", "-n", "1", "-a", "ca.pem", "a.pem", "ended.pem", "b.pem")
-    t.same((status, told), (3, ["ended.pem: it ended, 2020-01-31T00:00:00Z"]), "one is left out")
+    t.same((status, told), (3, ["ended.pem: it ended, 2020-01-31T00:00:00Z"]), "status and error lines of a certificate that has ended")
     t.same(lines.splitlines(), ["order 1 91", f"register 2 05 {at['a'][0]} {at['a'][1]}", "order 1 31", f"register 3 06 {at['b'][0]} {at['b'][1]}"])
     t.same(t.done("script", "ca.db", "--clock", "--strict", given=lines), "order 2\nregistered\norder 3\nregistered\n")
-    # Where the number of the next order is another one, nothing is registered.
+    # If -o is not the number of the next order, the script of lines registers nothing.
     issued(t, it, "c", "07")
     for number, refusal in (("3", "E09 order-filled"), ("9", "E08 no-order")):
         _, lines, _ = register_pem(t, "-o", number, "-n", "1", "c.pem")
@@ -605,7 +605,7 @@ def certificates_as_lines_of_a_script(t):
     t.same(t.done("audit", "ca.db"), "sound, 2 certificates, 0 revoked, 0 CRLs\n")
 
 
-# Words that can't be read.
+# Command lines with wrong or missing words, for which each script prints its usage.
 WORDS = {
     "register-pem.sh": ([], ["-c", "counter"], ["-c", "counter", "-o", "1", "a.pem"], ["a.pem"], ["-o", "1", "a.pem"], ["-n", "1", "a.pem"], ["-c", "counter", "-o", "1", "-n", "1", "a.pem"],
                         ["-o", "one", "-n", "1", "a.pem"], ["-o", "1", "-n", "1", "-s", "acme", "a.pem"], ["-x", "a.pem"]),
@@ -619,7 +619,7 @@ def words_that_can_t_be_read(t, script, rows):
     for words in rows:
         status, out, told = played(t, script, *words)
         t.same((status, out), (2, ""), f"status and output of {words}")
-        t.true(any(re.match(f"[uU]sage: .*{script} ", line) for line in told), f"told of {words}: {told}")
+        t.true(any(re.match(f"[uU]sage: .*{script} ", line) for line in told), f"no usage after the words {words}: {told}")
 
 
 # backup.sh
@@ -633,7 +633,7 @@ def back_up(t, register="ca.db", folder="copies", *control, **how):
 
 
 def register_and_copies(t, *older):
-    """A closed register, and a folder with copies of these names."""
+    """Makes a closed register, and a folder with older copies of these names."""
     t.register(lines=REGISTERED)
     (t.room / "copies").mkdir()
     for name in older:
@@ -656,19 +656,19 @@ def a_copy_of_a_closed_register(t):
     [copy] = copies.iterdir()
     t.same(out, f"copies/{copy.name}: sound, 1 certificates, 0 revoked, 1 CRLs\n")
     t.true(re.fullmatch(r"ca\.db-\d{8}T\d{6}Z", copy.name), copy.name)
-    t.same({name: (t.room / name).read_bytes() for name in before}, before, "the register itself")
+    t.same({name: (t.room / name).read_bytes() for name in before}, before, "the register's own files")
     modes = {it.name: "%o" % (it.stat().st_mode & 0o777) for it in [copy, *copy.iterdir()]}
-    t.same({mode for name, mode in modes.items() if name.startswith("ca.db") and name != copy.name}, {"600"}, "modes of its files")
+    t.same({mode for name, mode in modes.items() if name.startswith("ca.db") and name != copy.name}, {"600"}, "modes of the copy's files")
     t.same(modes[copy.name], "700")
     t.same((copy / "ca.db").owner(), (t.room / "ca.db").owner(), "the owner of the register's file")
-    # It is a register: to go back to it, copy its files.
+    # The copy is a register that commands can open.
     replies = t.done("script", copy / "ca.db", given="2026-01-02T00:00:00Z status 05\n2026-01-02T00:00:00Z counts\n")
     t.same(replies, "good\ngood 1 revoked 0 expired 0\n")
 
 
 @test(seconds=2)
 def a_copy_of_a_register_whose_desk_was_ended(t):
-    """The last answered commands are only in its -wal."""
+    """The last commands before the end are only in the register's -wal file."""
     register_and_copies(t)
     t.clock("2026-01-02T00:00:00Z")
     desk = t.open("ca.db", "--control", "counter")
@@ -698,9 +698,9 @@ def a_copy_of_an_open_register_comes_from_a_snapshot(t):
     t.tool("btrfs", "subvolume", "snapshot", "-r", "srv/ca", "srv/ca-now")
     at_control(t, "crl")
     status, out, told = back_up(t, "srv/ca-now/ca.db")
-    t.same((status, out.partition(": ")[2], told), (0, "sound, 1 certificates, 1 revoked, 1 CRLs\n", []), "as it was at the snapshot")
+    t.same((status, out.partition(": ")[2], told), (0, "sound, 1 certificates, 1 revoked, 1 CRLs\n", []), "a copy of the snapshot")
     fails(t, back_up(t, "srv/ca/ca.db"), "srv/ca/ca.db is open: name its control socket, or close it")
-    t.same(at_control(t, "crl"), ["crl 3 entries 1"], "the desk goes on")
+    t.same(at_control(t, "crl"), ["crl 3 entries 1"], "a CRL of the open desk")
     desk.end()
 
 
@@ -710,20 +710,21 @@ def a_copy_of_an_open_register_by_its_control_socket(t):
     t.clock("2026-01-02T00:00:00Z")
     t.open("ca.db", "--control", "counter")
     at_control(t, "request 05 superseded", "revoke 1")
-    # What a run left that was killed.
+    # A killed run left this file.
     (t.room / "ca.db.copy.part").write_text("a front")
     status, out, told = back_up(t, "ca.db", "copies", "counter")
     t.same((status, out.partition(": ")[2], told), (0, "sound, 1 certificates, 1 revoked, 1 CRLs\n", []))
     [copy] = copies.iterdir()
     t.same({it.name: "%o" % (it.stat().st_mode & 0o777) for it in copy.iterdir()}, {"ca.db": "600"})
-    t.same([it.name for it in t.room.iterdir() if ".copy" in it.name], [], "what is left beside the register")
-    t.same(at_control(t, "crl"), ["crl 2 entries 1"], "the desk goes on")
+    t.same([it.name for it in t.room.iterdir() if ".copy" in it.name], [], "copies that are left beside the register")
+    t.same(at_control(t, "crl"), ["crl 2 entries 1"], "a CRL of the open desk")
     t.same(t.done("script", copy / "ca.db", given="2026-01-02T00:00:00Z counts\n"), "good 0 revoked 1 expired 0\n")
 
 
 @test(seconds=2)
 def a_copy_of_an_open_register_in_another_folder(t):
-    """The script runs in another folder than the desk. All paths have a blank, and are relative to its folder. The copy has the moment in UTC."""
+    """The script runs in another folder than the desk. All paths have a blank, and are relative to the script's folder. The name of the copy has the
+    moment in UTC."""
     for name in ("the register", "the script", "all copies"):
         (t.room / name).mkdir()
     t.register("the register/my ca.db")
@@ -731,24 +732,24 @@ def a_copy_of_an_open_register_in_another_folder(t):
     begun = authority.now()
     words = ("env", "-C", "the script", EXAMPLES / "backup.sh", "../the register/my ca.db", "../all copies", "../my control")
     ran = t.tried(*words, env={**os.environ, "DESK": program.program(), "TZ": "America/New_York"})
-    t.same((ran.returncode, ran.stderr), (0, b""), f"its status and standard error; it printed {ran.stdout!r}")
+    t.same((ran.returncode, ran.stderr), (0, b""), f"status and standard error of the script, which printed {ran.stdout!r}")
     [copy] = (t.room / "all copies").iterdir()
     t.same(names(copy), ["my ca.db"])
     name = lambda moment: time.strftime("my ca.db-%Y%m%dT%H%M%SZ", time.gmtime(moment))
-    t.true(name(begun) <= copy.name <= name(authority.now()), f"{copy.name} was made at another moment")
+    t.true(name(begun) <= copy.name <= name(authority.now()), f"{copy.name} is not named after its moment in UTC")
 
 
 @test(seconds=2)
 def seven_are_kept(t):
     others = ["ca.db-2-20250101T000000Z", "other.db-20250101T000000Z"]
     copies = register_and_copies(t, *(f"ca.db-2026010{day}T000000Z" for day in range(1, 9)), *others)
-    # What a run left that was killed.
+    # A killed run left this folder.
     (copies / ".backup.abc").mkdir()
     (copies / ".backup.abc/ca.db").write_text("half")
     t.same(back_up(t)[0], 0)
     kept = names(copies)
-    t.same(kept[1:7], [f"ca.db-2026010{day}T000000Z" for day in range(3, 9)], "six older ones")
-    t.same((len(kept), [kept[0], kept[-1]]), (9, others), "and the new one; what is of other registers stays")
+    t.same(kept[1:7], [f"ca.db-2026010{day}T000000Z" for day in range(3, 9)], "the six newest of the older copies")
+    t.same((len(kept), [kept[0], kept[-1]]), (9, others), "number of all copies, and the copies of other registers")
 
 
 @test(seconds=2)
@@ -777,8 +778,8 @@ def what_is_kept_is_synced_before_it_has_its_name(t, script, wanted):
     (t.room / "bin").mkdir()
     (t.room / "bin/sync").write_text(f'#!/bin/sh\nls "$@" >>"{t.room}/synced" && exec {shutil.which("sync")} "$@"\n')
     (t.room / "bin/sync").chmod(0o755)
-    t.same(script(t, more={"PATH": f"{t.room}/bin:{os.environ['PATH']}"})[0], 0, "its status")
-    t.same(re.sub(r"\.\w{6}/", "/", (t.room / "synced").read_text()).splitlines(), wanted, "files, in a folder that has six more characters in its name")
+    t.same(script(t, more={"PATH": f"{t.room}/bin:{os.environ['PATH']}"})[0], 0, "the script's status")
+    t.same(re.sub(r"\.\w{6}/", "/", (t.room / "synced").read_text()).splitlines(), wanted, "the synced files")
 
 
 def an_open_one(t):
@@ -798,7 +799,7 @@ def a_cut_one(t):
 
 
 def in_the_way(t):
-    """A folder is at the path of the desk's copy."""
+    """A folder is at the path where the desk creates its copy."""
     t.open("ca.db", "--control", "counter")
     (t.room / "ca.db.copy").mkdir()
     return back_up(t, "ca.db", "copies", "counter")
@@ -833,7 +834,7 @@ def without_the_program(t):
 
 
 def an_older_one(t):
-    """Of version 2, which an audit does not look at: another command is to open it first."""
+    """The register has version 2. An audit refuses it until another command has migrated it."""
     for name in ("ca.db", "ca.db-wal"):
         (t.room / name).unlink(missing_ok=True)
     registers.make(t.room / "ca.db", registers.Records(50), 2)
@@ -860,8 +861,8 @@ def no_copy_goes_where_it_fails(t, fail, told):
     copies = register_and_copies(t, *(f"ca.db-2026010{day}T000000Z" for day in range(1, 9)))
     before = contents(copies)
     fails(t, fail(t), told)
-    t.same(contents(copies), before, "copies")
-    t.same(len(names(copies)), 8, "nothing else lies there")
+    t.same(contents(copies), before, "the files of the older copies")
+    t.same(len(names(copies)), 8, "number of entries in the folder of copies")
 
 
 @test(seconds=2)
@@ -869,6 +870,6 @@ def a_full_disk_of_copies(t):
     register_and_copies(t)
     folder = small_disk(t, 16)
     fails(t, back_up(t, folder=folder), "ca.db can't be copied into ")
-    t.same(names(folder), [], "nothing is left")
+    t.same(names(folder), [], "files on the full disk")
     fails(t, back_up(t, folder="nowhere"), "nowhere is no folder that can be read")
 

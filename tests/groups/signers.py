@@ -1,4 +1,4 @@
-"""Signers at a Unix socket: real keys and signatures of openssl under each algorithm, bytes that are no signature, and signers that fail."""
+"""Signers at a Unix socket: keys and signatures of openssl for each algorithm, bytes that are no signature, and signers that fail or hang."""
 
 import json
 import os
@@ -26,13 +26,13 @@ P256 = ("--signer", "ca.sign", "--algorithm", "ecdsa-sha256")
 
 
 def refused(t, words, what=""):
-    """A command that ends with `bad-signer` before it did anything."""
+    """Checks that a command only reports `bad-signer`, and exits with status 1."""
     ran = t.desk(*words)
     t.same((ran.status, ran.out, ran.err), (1, b"", b"bad-signer\n"), what or program.shown(words))
 
 
 def tried(t, lines, signing=P256, file="ca.db"):
-    """The replies to lines, all at one moment."""
+    """Runs these lines as a script, all at one moment, and returns the replies."""
     return t.done("script", file, *signing, given="".join(f"{MOMENT} {it}\n" for it in lines)).splitlines()
 
 
@@ -50,8 +50,8 @@ def openssl_verifies_what_a_key_signed(t, algorithm):
     it.verifies(crl)
     part, identifier, signature = authority.signed_part(crl)
     t.same(identifier.hex().upper(), IDENTIFIERS[algorithm], "the CRL's AlgorithmIdentifier")
-    t.same(authority.values_of(authority.inside(crl, 0)[1])[1][2], identifier, "and the one inside of what is signed")
-    t.same(signer.asked, [part], "the bytes that were to be signed")
+    t.same(authority.values_of(authority.inside(crl, 0)[1])[1][2], identifier, "the AlgorithmIdentifier in the signed part")
+    t.same(signer.asked, [part], "the messages that the signer received")
     desk = t.open("ca.db", "--requests", "1000", *it.signing(), command="serve")
     url = f"http://127.0.0.1:{desk.port}/ocsp"
     for serial, told in (("05", "revoked"), ("06", "good"), ("07", "unknown")):
@@ -59,7 +59,7 @@ def openssl_verifies_what_a_key_signed(t, algorithm):
         response = body_of(t, desk.ask("GET", authority.path_of(it.asks(serial))))
         t.same(it.reads(serial, response), told, f"OCSP of {serial} by GET")
         part, identifier, _ = authority.signed_part(authority.basic_of(response))
-        t.same((identifier.hex().upper(), signer.asked[-1]), (IDENTIFIERS[algorithm], part), "what is signed of an answer, and how")
+        t.same((identifier.hex().upper(), signer.asked[-1]), (IDENTIFIERS[algorithm], part), "the algorithm of an answer, and its signed bytes")
     it.verifies(body_of(t, desk.ask("GET", "/crl"), "application/pkix-crl"), "GET /crl")
 
 
@@ -71,21 +71,21 @@ def once_no_signer_has_the_key(t, algorithm):
     with program.Signer(t.room / "ca.sign", it.sign):
         t.done("script", "ca.db", *it.signing(), given=first_day(begun))
     desk = t.open("ca.db", "--requests", "1000", *it.signing(), command="serve")
-    t.same(body_of(t, desk.ask("POST", "/ocsp", it.asks("05"))), INTERNAL, "OCSP that nobody signs")
-    t.same(body_of(t, desk.ask("GET", "/status/06"), "application/json"), b'{"status":"good"}', "the server goes on")
+    t.same(body_of(t, desk.ask("POST", "/ocsp", it.asks("05"))), INTERNAL, "OCSP without a signer")
+    t.same(body_of(t, desk.ask("GET", "/status/06"), "application/json"), b'{"status":"good"}', "GET /status without a signer")
     desk.end()
     later = moment_of(begun + 3600)
     lines = f"{later} crl\n{later} status 06\n"
-    t.same(t.done("script", "ca.db", *it.signing(), given=lines), "F3 signer\ngood\n", "a CRL that nobody signs")
+    t.same(t.done("script", "ca.db", *it.signing(), given=lines), "F3 signer\ngood\n", "a CRL and a status without a signer")
     ran = t.desk("crl", "ca.db", "--number", 2)
-    t.same((ran.status, ran.out, ran.err), (1, b"", b"E21 no-crl\n"), "none is recorded")
+    t.same((ran.status, ran.out, ran.err), (1, b"", b"E21 no-crl\n"), "the CRL that was not signed")
     refused(t, ["script", "ca.db"], "a digest does not follow a key")
     row = f"order,serial,notBefore,notAfter\n1,05,{moment_of(begun)},{moment_of(begun + 90 * authority.DAY)}\n"
-    t.same(t.done("import", "ca.db", "--now", later, given=row), "same\n", "an import signs nothing")
-    t.same(t.done("schedule", "ca.db", "1970-01-01T00:00:00Z=398"), "schedule set\n", "nor does a schedule")
-    # The number that failed is the next one's.
+    t.same(t.done("import", "ca.db", "--now", later, given=row), "same\n", "an import, which needs no signature")
+    t.same(t.done("schedule", "ca.db", "1970-01-01T00:00:00Z=398"), "schedule set\n", "a schedule, which needs no signature")
+    # The next CRL gets the number that the failed one would have had.
     it.signer("again")
-    t.same(t.done("script", "ca.db", *it.signing("again"), given=f"{later} crl\n"), "crl 2 entries 1\n", "once it is back")
+    t.same(t.done("script", "ca.db", *it.signing("again"), given=f"{later} crl\n"), "crl 2 entries 1\n", "a CRL once a signer has the key again")
 
 
 @each({"by examples/signer.py": "signer.py", "by socat and openssl": "socat"}, seconds=4)
@@ -100,7 +100,7 @@ def a_tool_that_signs_standard_input(t, tool):
     else:
         words = ["socat", "-t", "10", "UNIX-LISTEN:ca.sign,fork,mode=600", "EXEC:openssl dgst -sha256 -sign ca.key"]
     authority.started(t, words, t.room / "ca.sign")
-    t.same(t.room.joinpath("ca.sign").stat().st_mode & 0o777, 0o600, "who may have anything signed")
+    t.same(t.room.joinpath("ca.sign").stat().st_mode & 0o777, 0o600, "the mode of the signer's socket")
     t.same(tried(t, ["crl", "crl"]), ["crl 1 entries 0", "crl 2 entries 0"])
     it.verifies(t.done("crl", "ca.db").encode("latin-1"))
 
@@ -112,29 +112,30 @@ def examples_signer_py_signs_under_each_algorithm(t, algorithm):
     it.register()
     t.same(t.tool("python3", authority.EXAMPLES / "signer.py", it.key).decode(), f"{algorithm}\n")
     authority.started(t, ["python3", authority.EXAMPLES / "signer.py", it.key, "ca.sign"], t.room / "ca.sign")
-    # With P-256 it draws eight nonces ahead: more than those.
+    # With P-256 the signer draws eight nonces ahead. Twelve CRLs use more than those.
     t.same(tried(t, ["crl"] * 12, it.signing()), [f"crl {number} entries 0" for number in range(1, 13)])
     crls = [t.done("crl", "ca.db", "--number", number).encode("latin-1") for number in range(1, 13)]
     for number in (1, 8, 12):
         it.verifies(crls[number - 1], f"CRL {number}")
     # Two signatures with one r would give the key away (FIPS 186-5 6.4.1).
     if algorithm.startswith("ecdsa"):
-        t.same(len({authority.inside(authority.signed_part(crl)[2], 0)[1] for crl in crls}), 12, "different r")
+        t.same(len({authority.inside(authority.signed_part(crl)[2], 0)[1] for crl in crls}), 12, "number of different r")
 
 
 @test(seconds=4)
 def examples_signer_py_uses_no_processor_time_while_nobody_comes(t):
-    """Even if it draws nonces ahead."""
+    """The signer draws some nonces ahead. While no client comes, it uses less than a tenth of a processor."""
     authority.need_cryptography(t)
     it = Authority(t)
     process = authority.started(t, ["python3", authority.EXAMPLES / "signer.py", it.key, "ca.sign"], t.room / "ca.sign")
-    t.true(signature(t.room / "ca.sign", b"a message") != b"", "it signs")
+    t.true(signature(t.room / "ca.sign", b"a message") != b"", "the signer does not sign")
     native_signer.is_idle(t, process)
 
 
 @test(seconds=5)
 def examples_signer_py_started_thrice_at_a_stale_socket(t):
-    """Each takes half a second to remove what it found: one serves, and the others find that one."""
+    """Three signers start at once, and each takes half a second to remove the stale socket. One serves. The others report that a signer listens
+    already."""
     authority.need_cryptography(t)
     it = Authority(t)
     with socket.socket(socket.AF_UNIX) as stale:
@@ -146,16 +147,16 @@ def examples_signer_py_started_thrice_at_a_stale_socket(t):
     for process in processes:
         t.callback(authority.end, process)
     serving = [process for process in processes if process.stdout.readline()]
-    t.same(len(serving), 1, "how many serve")
+    t.same(len(serving), 1, "number of signers that serve")
     others = [(process.communicate()[1], process.returncode) for process in processes if process not in serving]
-    t.same(others, [(b"something listens at ca.sign already\n", 1)] * 2, "the others")
-    t.true(signature(t.room / "ca.sign", b"a message") != b"", "it signs")
+    t.same(others, [(b"something listens at ca.sign already\n", 1)] * 2, "standard error and status of the others")
+    t.true(signature(t.room / "ca.sign", b"a message") != b"", "the serving one does not sign")
     serving[0].stdout.close()
 
 
 @test(seconds=3)
 def examples_signer_py_leaves_what_is_no_stale_socket(t):
-    """A file, a link to nothing, and a link to a stale socket stay as they are, and the program ends."""
+    """examples/signer.py ends with an error at the path of a file, a dangling link or a link to a stale socket, and leaves them unchanged."""
     authority.need_cryptography(t)
     it = Authority(t)
     (t.room / "file").write_text("precious")
@@ -172,48 +173,49 @@ def examples_signer_py_leaves_what_is_no_stale_socket(t):
 
 @test(seconds=3)
 def examples_signer_py_leaves_the_socket_of_a_later_one(t):
-    """A signer that ends leaves the socket of one that was started after its own was removed."""
+    """After a signer's socket was removed, a second signer starts at that path. The first signer ends, and leaves the socket of the second."""
     authority.need_cryptography(t)
     it = Authority(t)
     words = ["python3", authority.EXAMPLES / "signer.py", it.key, "ca.sign"]
     earlier = authority.started(t, words, t.room / "ca.sign")
-    t.true(signature(t.room / "ca.sign", b"a message") != b"", "the earlier one signs")
+    t.true(signature(t.room / "ca.sign", b"a message") != b"", "the earlier signer does not sign")
     (t.room / "ca.sign").unlink()
     authority.started(t, words, t.room / "ca.sign")
     earlier.terminate()
-    t.same(earlier.wait(program.LONGEST), 0, "the earlier one's status")
-    t.true(signature(t.room / "ca.sign", b"a message") != b"", "the later one goes on")
+    t.same(earlier.wait(program.LONGEST), 0, "the earlier signer's status")
+    t.true(signature(t.room / "ca.sign", b"a message") != b"", "the later signer does not sign once the earlier one has ended")
 
 
 @each(ALGORITHMS, seconds=4)
 def a_signature_follows_a_placeholder_digest(t, algorithm):
-    """The next CRL is signed, with the next number and the same entries. The CRL with the placeholder digest stays as it was, and no other follows."""
+    """The next CRL is signed, and has the next number and the same entries. The CRL with the placeholder digest stays. After that
+    the register refuses a digest, and each other algorithm."""
     it = Authority(t, algorithm)
     it.register()
     begun = authority.now()
-    t.same(t.done("script", "ca.db", given=first_day(begun)).splitlines(), first_day_replies(begun), "the first day, sealed")
+    t.same(t.done("script", "ca.db", given=first_day(begun)).splitlines(), first_day_replies(begun), "the first day, with a placeholder digest")
     read = lambda number: t.done("crl", "ca.db", "--number", number).encode("latin-1")
     algorithm_of = lambda crl: authority.signed_part(crl)[1].hex().upper()
     sealed = read(1)
     t.same(algorithm_of(sealed), "300906052B0E03021A0500", "the digest's AlgorithmIdentifier: SHA-1 with NULL")
     signer = it.signer()
     desk = t.open("ca.db", "--requests", "1000", *it.signing(), command="serve")
-    t.same(it.asked_by_openssl("05", f"http://127.0.0.1:{desk.port}/ocsp", verify=True), "revoked", "OCSP is signed from the first answer on")
-    t.same(body_of(t, desk.ask("GET", "/crl"), "application/pkix-crl"), sealed, "GET /crl is the sealed one as yet")
+    t.same(it.asked_by_openssl("05", f"http://127.0.0.1:{desk.port}/ocsp", verify=True), "revoked", "the first OCSP answer, which is signed")
+    t.same(body_of(t, desk.ask("GET", "/crl"), "application/pkix-crl"), sealed, "GET /crl, which still has the placeholder digest")
     desk.end()
-    t.same(t.done("script", "ca.db", *it.signing(), given=f"{moment_of(begun)} crl\n"), "crl 2 entries 1\n", "the number goes on")
+    t.same(t.done("script", "ca.db", *it.signing(), given=f"{moment_of(begun)} crl\n"), "crl 2 entries 1\n", "the next CRL, with a signer")
     signed = read(2)
     it.verifies(signed)
-    t.same((algorithm_of(signed), signer.asked[-1]), (IDENTIFIERS[algorithm], authority.signed_part(signed)[0]), "how it is signed, and what")
-    t.has(t.tool("openssl", "crl", "-inform", "DER", "-noout", "-crlnumber", given=signed), b"2\n", "its number")
-    t.same(authority.listed(t, signed), authority.listed(t, sealed), "what both list")
-    t.same(read(1), sealed, "the sealed one stays")
+    t.same((algorithm_of(signed), signer.asked[-1]), (IDENTIFIERS[algorithm], authority.signed_part(signed)[0]), "algorithm and signed bytes")
+    t.has(t.tool("openssl", "crl", "-inform", "DER", "-noout", "-crlnumber", given=signed), b"2\n", "the number of CRL 2")
+    t.same(authority.listed(t, signed), authority.listed(t, sealed), "the entries of CRL 2, and those of CRL 1")
+    t.same(read(1), sealed, "CRL 1 after CRL 2")
     for words in ([], *(["--signer", "ca.sign", "--algorithm", other] for other in KEYS if other != algorithm)):
         refused(t, ["script", "ca.db", *words])
     t.same(t.done("audit", "ca.db"), "sound, 2 certificates, 1 revoked, 2 CRLs\n")
 
 
-# A digest, which is no signature
+# CRLs with a placeholder digest
 
 
 SEALED = {"a script": [], "a strict one": ["--strict"], "one by the clock": ["--clock"], "both": ["--clock", "--strict"]}
@@ -221,23 +223,23 @@ SEALED = {"a script": [], "a strict one": ["--strict"], "one by the clock": ["--
 
 @each(SEALED)
 def the_first_crl_with_a_placeholder_digest_has_a_warning(t, more):
-    """Once, on standard error; the replies and the status are as they were, and nothing is said of any CRL but the first of the register."""
+    """The register's first CRL causes one warning on standard error. It changes neither the replies nor the status. Later CRLs cause none."""
     t.register()
     moment = "" if "--clock" in more else f"{MOMENT} "
 
     def told(*lines):
         ran = t.desk("script", "ca.db", *more, given="".join(f"{moment}{it}\n" for it in lines))
-        t.same((ran.status, ran.err), (0, b""), "status, and what else is on standard error")
+        t.same((ran.status, ran.err), (0, b""), "status, and standard error without the warning")
         return ran.lines, ran.is_warned
 
-    t.same(told("subscriber acme", "next-crl"), (["subscriber 1", "next-crl at-once"], False), "no CRL")
+    t.same(told("subscriber acme", "next-crl"), (["subscriber 1", "next-crl at-once"], False), "lines without a CRL")
     t.same(told("crl", "subscriber emca", "crl"), (["crl 1 entries 0", "subscriber 2", "crl 2 entries 0"], True), "the first CRL")
     t.same(told("crl"), (["crl 3 entries 0"], False), "a later one")
 
 
 @test
 def the_warning_comes_even_if_replies_can_t_be_written(t):
-    """The register has the CRL even if its reply can't be written."""
+    """If the reply to the first CRL can't be written, the register still has the CRL, and the warning is printed."""
     t.register()
     ran = t.tried("sh", "-c", f"{program.program()} script ca.db > /dev/full", given=f"{MOMENT} crl\n".encode())
     t.same((ran.returncode, ran.stderr), (1, program.SEALED + b"F5 write\n"))
@@ -246,13 +248,13 @@ def the_warning_comes_even_if_replies_can_t_be_written(t):
 
 @test
 def nothing_else_has_the_warning(t):
-    """Not where a key signs, nor in memory, nor where a CRL is refused."""
+    """No warning comes for a CRL that a signer signs or fails to sign, for a script without a file, or for a refused CRL."""
     t.register(key=P256_KEY)
-    t.same(tried(t, ["crl"]), ["F3 signer"], "a signer that is away")
+    t.same(tried(t, ["crl"]), ["F3 signer"], "a CRL without a signer at the socket")
     t.signer()
-    t.same(tried(t, ["crl"]), ["crl 1 entries 0"], "a key")
+    t.same(tried(t, ["crl"]), ["crl 1 entries 0"], "a signed CRL")
     ran = t.desk("script", given=f"{MOMENT} crl\n")
-    t.same((ran.status, ran.out, ran.err), (0, b"crl 1 entries 0\n", b""), "in memory")
+    t.same((ran.status, ran.out, ran.err), (0, b"crl 1 entries 0\n", b""), "a CRL of a script without a file")
     t.register("other.db")
     ran = t.desk("script", "other.db", given="9999-12-31T00:00:00Z crl\n")
     t.same((ran.status, ran.out, ran.err, ran.is_warned), (0, b"E02 clock-end\n", b"", False), "a CRL that is refused")
@@ -263,11 +265,12 @@ def nothing_else_has_the_warning(t):
 
 @test(seconds=20)
 def a_crl_of_3000_entries_is_sent_whole_and_verified(t):
-    """Over 100 kB, and so far more than a buffer of 4,096 bytes. The signer answers once the desk has shut down its side for writing."""
+    """The message to sign has over 100 kB, far more than a buffer of 4,096 bytes. The signer answers after the desk has shut down its side for
+    writing."""
     it = Authority(t)
     file = it.register(authority.in_memory(t) / "ca.db")
     signer = it.signer()
-    # Serial numbers of 19 octets, as they are drawn.
+    # Serial numbers of 19 octets that look random.
     serials = [f"{(1 << 150) + (at * 0x9E3779B97F4A7C15F39CC0605CEDC835) % (1 << 149):038x}" for at in range(3000)]
     begins, ends = MOMENT, "2026-03-01T00:00:00Z"
     lines = [f"{begins} subscriber acme"]
@@ -278,21 +281,22 @@ def a_crl_of_3000_entries_is_sent_whole_and_verified(t):
     counting = faults.environment(count=t.room / "count", only="socket")
     told = t.done("script", file, *it.signing(), given="\n".join(lines) + "\n", faults=counting).splitlines()
     t.same(told[-2:], ["crl 1 entries 3000", "crl 2 entries 3000"])
-    # The system may wait anew for each part of a longer piece.
-    t.same(faults.counted(t.room / "count")["write"], sum(-(-len(asked) // 32_768) for asked in signer.asked), "pieces that are written")
+    # The desk writes at most 32,768 bytes at a time, because the kernel may wait anew for each part of a longer write.
+    t.same(faults.counted(t.room / "count")["write"], sum(-(-len(asked) // 32_768) for asked in signer.asked), "calls of write at the socket")
     crl = t.done("crl", file).encode("latin-1")
-    t.true(len(crl) > 100_000, f"the CRL has {len(crl)} bytes")
+    t.true(len(crl) > 100_000, f"the CRL has only {len(crl)} bytes")
     it.verifies(crl)
-    t.same(len(signer.asked), 2, "how often it was asked")
-    t.same(signer.asked[1], authority.signed_part(crl)[0], "what the signer got")
+    t.same(len(signer.asked), 2, "how often the signer was asked")
+    t.same(signer.asked[1], authority.signed_part(crl)[0], "the message that the signer received")
     t.same(authority.listed(t, crl), {int(serial, 16): (program.seconds_of(begins), 4) for serial in serials})
     desk = t.open(file, *it.signing())
-    t.same(body_of(t, desk.ask("GET", "/crl"), "application/pkix-crl") == crl, True, "GET /crl is the same")
+    t.same(body_of(t, desk.ask("GET", "/crl"), "application/pkix-crl") == crl, True, "whether GET /crl is the same CRL")
 
 
 @each({f"{size} bytes": size for size in (4095, 4096, 4097, 8192, 20_000)}, seconds=2)
 def an_ocsp_answer_so_long_is_sent_whole(t, size):
-    """With exactly so many bytes to sign: each requested CertID adds some, and each octet of a serial number one."""
+    """The message to sign has exactly `size` bytes. Each CertID in the request lengthens it, and each further octet of a serial number adds one
+    byte."""
     it = Authority(t)
     it.register()
     signer = it.signer()
@@ -302,14 +306,14 @@ def an_ocsp_answer_so_long_is_sent_whole(t, size):
         request = it.asks(*(f"{at:x}" + "5A" * more for at, more in enumerate(octets, 0x1101)))
         response = body_of(t, desk.ask("POST", "/ocsp", request))
         t.same(authority.answered_ids(response), authority.cert_ids(request), "the CertIDs")
-        t.same(signer.asked[-1], authority.signed_part(authority.basic_of(response))[0], "what the signer got")
+        t.same(signer.asked[-1], authority.signed_part(authority.basic_of(response))[0], "the message that the signer received")
         t.same(it.reads("1101" + "5A" * octets[0], response), "unknown")
         return len(signer.asked[-1])
 
     count = (size - 150) // 103
     lacking = size - answered([0] * count)
     t.true(0 <= lacking <= 17 * count, f"{lacking} bytes are lacking with {count} serial numbers of two octets")
-    t.same(answered([lacking // count + (at < lacking % count) for at in range(count)]), size, "bytes")
+    t.same(answered([lacking // count + (at < lacking % count) for at in range(count)]), size, "bytes of the message to sign")
 
 
 # Which socket
@@ -333,8 +337,8 @@ def only_the_named_socket_is_used(t, command):
 
 # The forms of signatures and keys
 
-# An ECDSA signature is the DER of two positive INTEGERs below 2^256 or 2^384 (RFC 5480 appendix A, X.690 8.3, 10.1): whether it has that form
-# under P-256 and under P-384.
+# An ECDSA signature is the DER of two positive INTEGERs below 2^256 or 2^384 (RFC 5480 appendix A, X.690 8.3, 10.1). Each row has bytes, whether they
+# have that form under P-256, and whether they have it under P-384.
 ECDSA_FORMS = [
     # r and s are 1; 127; 128; 2^15.
     ("3006020101020101", True, True),
@@ -350,7 +354,7 @@ ECDSA_FORMS = [
     ("300702010102020001", False, False),
     ("3007020200000201FF", False, False),
     ("3004020002020101", False, False),
-    # One, three, other tags, lengths in more octets than they need, and bytes behind.
+    # One INTEGER, three, other tags, lengths in more octets than necessary or wrong ones, bytes after the end, and a cut signature.
     ("3003020101", False, False),
     ("3009020101020101020101", False, False),
     ("3106020101020101", False, False),
@@ -387,14 +391,14 @@ def signatures_of_lengths(*lengths):
     return ["07" * it for it in lengths]
 
 
-# The algorithm, the register's key, and the signatures that are and are not of their form.
+# The algorithm, the register's key, and signatures, each with whether it has the form of the algorithm.
 FORMS = {
     "ecdsa-sha256": ("ecdsa-sha256", P256_KEY, [(it, fits) for it, fits, _ in ECDSA_FORMS]),
     "ecdsa-sha384": ("ecdsa-sha384", P384_KEY, [(it, fits) for it, _, fits in ECDSA_FORMS]),
     # As long as the modulus (RFC 8017 8.2.2), and 64 octets (RFC 8032 5.1.6).
     "rsa-sha256": ("rsa-sha256", RSA_2048_KEY, [(it, len(it) == 512) for it in signatures_of_lengths(0, 63, 64, 65, 255, 256, 257, 4096, 4097)]),
     "ed25519": ("ed25519", ED25519_KEY, [(it, len(it) == 128) for it in signatures_of_lengths(0, 63, 64, 65, 255, 256, 257, 4096, 4097)]),
-    # A modulus of one octet, of two, and of two octets that needs a third in DER (RFC 8017 A.1.1).
+    # Other RSA moduli. One of them begins with a zero octet in DER, which does not count (RFC 8017 A.1.1).
     "a modulus of one octet": ("rsa-sha256", "300602010F020103", [(it, len(it) == 2) for it in signatures_of_lengths(0, 1, 2, 3, 4)]),
     "a modulus with a zero octet": ("rsa-sha256", "3008020300FFFF020103", [(it, len(it) == 4) for it in signatures_of_lengths(0, 1, 2, 3, 4)]),
     "a modulus of three octets": ("rsa-sha256", "3008020301FFFF020103", [(it, len(it) == 6) for it in signatures_of_lengths(0, 1, 2, 3, 4)]),
@@ -411,10 +415,10 @@ def what_is_no_signature_is_f3_and_the_next_command_goes_on(t, algorithm, key, r
     got = tried(t, ["crl"] * len(rows), ("--signer", "ca.sign", "--algorithm", algorithm))
     t.same(list(zip((it for it, _ in rows), got)), list(zip((it for it, _ in rows), wanted)), "signatures and replies")
     issued = sum(1 for _, fits in rows if fits)
-    t.same(t.sql("ca.db", "SELECT count(*) FROM crl"), [(issued,)], "CRLs that are recorded")
+    t.same(t.sql("ca.db", "SELECT count(*) FROM crl"), [(issued,)], "number of recorded CRLs")
     last = [it for it, fits in rows if fits][-1]
     crl = t.done("crl", "ca.db", "--number", issued).encode("latin-1")
-    t.same(authority.signed_part(crl)[2].hex().upper(), last.upper(), "the signature that stands in the last one")
+    t.same(authority.signed_part(crl)[2].hex().upper(), last.upper(), "the signature in the last CRL")
 
 
 @each(ALGORITHMS, seconds=4)
@@ -430,7 +434,7 @@ def a_signature_of_openssl_cut_short_or_made_longer(t, algorithm):
 
 @each(ALGORITHMS, seconds=4)
 def a_signature_of_one_algorithm_under_the_others(t, algorithm):
-    """A number below 2^256 is below 2^384: the desk checks only the form."""
+    """The desk checks only the form of a signature. So a P-256 signature is accepted under P-384, because numbers below 2^256 are below 2^384."""
     own = Authority(t, algorithm)
     own.register()
     others = [Authority(t, it, name=it) for it in KEYS]
@@ -441,7 +445,7 @@ def a_signature_of_one_algorithm_under_the_others(t, algorithm):
     t.same(tried(t, ["crl"] * len(gives), own.signing()), [f"crl {next(numbers)} entries 0" if it else "F3 signer" for it in fits])
 
 
-# Keys as a register has them, and whether they are of an algorithm: of a point its first octet and how many there are (SEC 1 2.3.3).
+# Each row has an algorithm, a public key's first octet and number of octets, and whether the key is of the algorithm (SEC 1 2.3.3 for points).
 POINTS = [
     ("ecdsa-sha256", 4, 65, True), ("ecdsa-sha256", 2, 33, True), ("ecdsa-sha256", 3, 33, True), ("ecdsa-sha256", 4, 64, False),
     ("ecdsa-sha256", 4, 66, False), ("ecdsa-sha256", 4, 33, False), ("ecdsa-sha256", 2, 65, False), ("ecdsa-sha256", 0, 1, False),
@@ -475,14 +479,14 @@ def each_command_wants_a_key_of_its_algorithm(t, algorithm):
             for words in (["script", "ca.db"], ["serve", "ca.db", "--port", program.free_port(), "--requests", 1],
                           ["open", "ca.db", "--port", program.free_port(), "--control", "counter"]):
                 refused(t, [*words, "--signer", "ca.sign", "--algorithm", other])
-    t.true(not (t.room / "counter").exists(), "no counter was made")
+    t.true(not (t.room / "counter").exists(), "the refused command created a control socket")
 
 
 # Signers that fail
 
 
 def gives(*pieces, pause=0.0):
-    """Reads all, and gives these, one after the other."""
+    """A signer that reads the whole message, and sends these pieces one after the other."""
 
     def manner(peer, it):
         program.read_all(peer)
@@ -516,18 +520,19 @@ def endless(peer):
 
 @each(FAILING, seconds=2)
 def a_signer_that_fails_once(t, manner):
-    """The CRL is F3, and nothing is recorded. An OCSP request is internalError. The next command goes on with the same signer."""
+    """The signer fails at every other request. A failed CRL is `F3 signer` and is not recorded. A failed OCSP request is internalError. The next
+    request is signed."""
     t.register(key=P256_KEY)
     well = gives(ANY_SIGNATURE)
     t.enter_context(Peer(t.room / "ca.sign", lambda peer, it: (manner if it.asked % 2 else well)(peer, it)))
     got, seconds = timed(lambda: tried(t, ["crl", "crl", "crl", "subscriber acme", "crl"]))
     t.same(got, ["F3 signer", "crl 1 entries 0", "F3 signer", "subscriber 1", "crl 2 entries 0"])
-    t.true(seconds < 9, f"it took {seconds:.1f} s: a failure was waited for")
+    t.true(seconds < 9, f"it took {seconds:.1f} s, so the desk waited for a signer that had failed")
     t.same(t.sql("ca.db", "SELECT number FROM crl ORDER BY number"), [(1,), (2,)])
     desk = t.open("ca.db", *P256)
     request = bytes.fromhex("30423040303E303C303A300906052B0E03021A05000414" + "00" * 20 + "0414" + "00" * 20 + "020105")
-    t.same(body_of(t, desk.ask("POST", "/ocsp", request)), INTERNAL, "an answer that nobody signs")
-    t.same(body_of(t, desk.ask("POST", "/ocsp", request))[:2] == INTERNAL[:2], False, "the next one is signed")
+    t.same(body_of(t, desk.ask("POST", "/ocsp", request)), INTERNAL, "an OCSP answer that the signer does not sign")
+    t.same(body_of(t, desk.ask("POST", "/ocsp", request))[:2] == INTERNAL[:2], False, "whether the next answer is internalError")
 
 
 NOBODY = {"no such path": None, "a file": "file", "a socket at which nobody listens": "socket", "a folder": "folder"}
@@ -547,7 +552,7 @@ def nobody_is_at_the_signer_s_socket(t, what):
     at_once(t, lambda: tried(t, ["crl", "subscriber acme", "next-crl"]), ["F3 signer", "subscriber 1", "next-crl at-once"], "a script")
     t.same(t.sql("ca.db", "SELECT count(*) FROM crl"), [(0,)])
     if what == "file":
-        t.same(path.read_text(), "precious", "the file stays")
+        t.same(path.read_text(), "precious", "the contents of the file")
 
 
 @each({"byte by byte": gives(*(bytes([it]) for it in ANY_SIGNATURE), pause=0.002), "after a second": lambda peer, it: late(peer)}, seconds=3)
@@ -568,27 +573,27 @@ def hangs(peer, it):
 
 
 def drips(peer, it):
-    """A byte each second: a timeout of ten seconds for each byte would never end."""
+    """Sends a byte each second, without end. A timeout of ten seconds for each byte would never expire."""
     program.read_all(peer)
     while not it.ended.wait(1):
         peer.sendall(b"\7")
 
 
 def takes_little(peer, it):
-    """Reads the full buffer of a socket each four seconds: a timeout of ten seconds for each write would take longer."""
+    """Reads a full socket buffer every four seconds. A timeout of ten seconds for each write would expire too late."""
     while not it.ended.wait(4):
         peer.recv(65_536)
 
 
-# A name of 992 bytes, of a message that has more than so many single bytes as a socket holds.
+# A name of 992 bytes. Written byte by byte, a message with this name does not fit into a socket's buffers.
 LONG_NAME = "308203DC" + program.NAME[4:] * 76
 LINES = [f"{MOMENT} crl", f"{MOMENT} counts"]
 
 
 @test(seconds=14)
 def a_signer_has_ten_seconds_in_all(t):
-    """Of a script and of an open desk, where the signer hangs and where it drips; of a script also where it takes little, and where signals end each
-    wait: all at once."""
+    """A script and an open desk wait ten seconds for a signer that hangs, and for one that drips. A script also does so if the signer reads slowly,
+    or if signals interrupt each wait. All these run at once."""
     signing = lambda name: ("--signer", f"{name}.sign", "--algorithm", "ecdsa-sha256")
 
     def by_script(name, **how):
@@ -600,7 +605,7 @@ def a_signer_has_ten_seconds_in_all(t):
         return by_script(name, faults=faults.environment(short=1, only="socket"))
 
     def by_stopped(name):
-        """A process that is stopped and continued gets EINTR while it waits at a socket (signal(7))."""
+        """SIGSTOP and SIGCONT interrupt the wait at a socket with EINTR (signal(7))."""
         with faults.Lines(t, f"{name}.db", signing(name)) as desk, ThreadPoolExecutor(1) as asker:
             begun = time.monotonic()
             told = asker.submit(lambda: [desk.ask(it) for it in LINES])
@@ -626,7 +631,7 @@ def a_signer_has_ten_seconds_in_all(t):
         for name, work in {name: pool.submit(work, name) for name, (_, work) in works.items()}.items():
             told, seconds = work.result()
             t.same(told, ["F3 signer", "good 0 revoked 0 expired 0"], name)
-            # As long on a machine that is busy, and never less.
+            # A busy machine may take longer than ten seconds, but never less.
             t.true(TEN_SECONDS[0] <= seconds < TEN_SECONDS[1], f"{name} took {seconds:.1f} s in place of ten")
 
 
@@ -638,7 +643,7 @@ ENTERED = ["subscriber acme", "order 1 398", f"register 1 05 {MOMENT} 2026-12-31
 
 
 class Hanging:
-    """A signer at a socket that keeps whoever comes waiting until they go, and answers once it is mended."""
+    """A signer at a socket that keeps each client waiting until the client disconnects. Once `mended` is set, it answers."""
 
     def __init__(self, t, path="ca.sign"):
         self.mended = threading.Event()
@@ -658,31 +663,31 @@ class Hanging:
 
 
 def timed(work):
-    """Its result, and how many seconds it took."""
+    """The result of `work()`, and how many seconds it took."""
     begun = time.monotonic()
     return work(), time.monotonic() - begun
 
 
 def at_once(t, work, wanted, what):
-    """Checks the result, and that it did not wait for a signer."""
+    """Checks the result of `work()`, and that it came without a wait for the signer."""
     with t.at_once(what):
         t.same(work(), wanted, what)
 
 
 def after_ten_seconds(t, signer, desk, work):
-    """The reply to a line that waits for the signer. It comes when ten seconds have passed, to the millisecond."""
+    """The result of `work()`, whose line waits for the signer. Checks that the reply comes after exactly ten seconds of the desk's time."""
     asked = signer.asked
     with ThreadPoolExecutor(1) as pool:
         waits = pool.submit(work)
-        authority.until(lambda: signer.asked > asked, "that the signer is asked")
+        authority.until(lambda: signer.asked > asked, "a request to the signer")
         desk.advance(9_999)
-        t.same(waits.done(), False, "a reply a millisecond before")
+        t.same(waits.done(), False, "whether the reply came a millisecond early")
         desk.advance(1)
         return waits.result()
 
 
 def is_signed(control):
-    """Whether an `ocsp` line is answered by more than internalError."""
+    """Whether the reply to an `ocsp` line is other than internalError."""
     return control.ask(f"ocsp {OCSP.hex()}") != f"ocsp {INTERNAL.hex()}"
 
 
@@ -694,14 +699,14 @@ def hung(t):
     desk = Passing(t, *P256)
     control = t.control()
     signed = after_ten_seconds(t, signer, desk, lambda: is_signed(control))
-    t.same((signed, signer.asked), (False, 1), "an answer that nobody signs, and how often the signer was asked")
+    t.same((signed, signer.asked), (False, 1), "whether the answer is signed, and how often the signer was asked")
     return signer, desk, control
 
 
 @test(seconds=3)
 def a_signer_that_hangs_holds_nobody_up_for_ten_seconds_more(t):
-    """Each `ocsp` line is internalError at once, and all else is answered at once. Then one line tries the signer, and all is as before. An
-    OCSP request over HTTP asks the signer each time, because only its client waits."""
+    """During the back-off each `ocsp` line is internalError at once, and all else is answered at once. The first `ocsp` line after it asks the signer
+    again. An OCSP request over HTTP asks the signer each time, because only its client waits."""
     signer, passing, control = hung(t)
     desk = passing.desk
     for _ in range(3):
@@ -721,8 +726,8 @@ def a_signer_that_hangs_holds_nobody_up_for_ten_seconds_more(t):
         at_once(t, lambda: is_signed(control), True, "a line once it answers again")
     told = [re.search(r'("POST|"GET|control "ocsp|control).*?( signer)?$', it) for it in desk.end().err_lines]
     unsigned = [it[2] is not None for it in told if it[1] == 'control "ocsp']
-    t.same(unsigned, [True] * (len(unsigned) - 4) + [False] * 4, "which `ocsp` lines have the word `signer` in the log")
-    t.same([it[0] for it in told if it[1] != 'control "ocsp' and it[2]], [], "which other lines have it")
+    t.same(unsigned, [True] * (len(unsigned) - 4) + [False] * 4, "which `ocsp` lines end with `signer` in the log")
+    t.same([it[0] for it in told if it[1] != 'control "ocsp' and it[2]], [], "other lines of the log that end with `signer`")
 
 
 @test(seconds=3)
@@ -735,13 +740,14 @@ def a_signer_that_still_hangs_is_tried_once_in_ten_seconds(t):
         t.same(signer.asked, asked, "how often the signer was asked")
         desk.advance(1)
         signed = after_ten_seconds(t, signer, desk, lambda: is_signed(control))
-        t.same((signed, signer.asked), (False, asked + 1), "an answer that nobody signs, and how often the signer was asked")
+        t.same((signed, signer.asked), (False, asked + 1), "whether the answer is signed, and how often the signer was asked")
     at_once(t, lambda: is_signed(control), False, "a line behind that")
 
 
 @test(seconds=4)
 def a_back_off_begins_though_the_line_began_a_little_later_than_its_ten_seconds(t):
-    """A line of another client is answered first, and each reading of the elapsed time is a millisecond later than the one before."""
+    """The desk answers another client first, and a millisecond passes with each reading of the elapsed time. So the `ocsp` line begins a little
+    after the beginning of its ten seconds. The back-off begins even so."""
     t.register(key=P256_KEY)
     t.clock(MOMENT)
     signer, passed = Hanging(t), t.room / "passed"
@@ -754,8 +760,8 @@ def a_back_off_begins_though_the_line_began_a_little_later_than_its_ten_seconds(
     other.peer.sendall(b"counts\n")
     desk.process.send_signal(signal.SIGCONT)
     t.same(other.file.readline(), b"good 0 revoked 0 expired 0\n")
-    authority.until(lambda: signer.asked, "that the signer is asked")
-    # It is shared with the desk, so it is never empty. The event loop reads the time for the last milliseconds, four times a second.
+    authority.until(lambda: signer.asked, "a request to the signer")
+    # The desk has this file mapped, so the test never empties it. The last milliseconds pass as the event loop reads the time, four times a second.
     with open(passed, "r+b") as it:
         it.write((9_985).to_bytes(8, "little"))
     t.same(control.file.readline(), f"ocsp {INTERNAL.hex()}\n".encode(), "the line that waited")
@@ -765,7 +771,8 @@ def a_back_off_begins_though_the_line_began_a_little_later_than_its_ten_seconds(
 
 @test(seconds=3)
 def a_crl_asks_a_signer_during_its_back_off(t):
-    """While it hangs the CRL waits for its own ten seconds; once it answers the CRL is issued at once, and OCSP is signed again."""
+    """While the signer hangs, a CRL waits for its own ten seconds. Once the signer answers, a CRL is issued at once, and `ocsp` lines are signed
+    again."""
     signer, desk, control = hung(t)
     told = after_ten_seconds(t, signer, desk, lambda: control.ask("crl"))
     t.same((told, signer.asked), ("F3 signer", 2), "a CRL")
@@ -779,14 +786,14 @@ def a_crl_asks_a_signer_during_its_back_off(t):
 
 @test(seconds=3)
 def a_crl_that_fails_at_once_ends_the_back_off(t):
-    """The signer was ended. Another one, at the same socket, is asked for the next `ocsp` line."""
+    """The hanging signer's socket is removed, so a CRL fails at once. The next `ocsp` line asks another signer at the same path."""
     _, _, control = hung(t)
     at_once(t, lambda: is_signed(control), False, "a line behind it")
     (t.room / "ca.sign").unlink()
     at_once(t, lambda: control.ask("crl"), "F3 signer", "a CRL that no signer signs")
     signer = t.signer()
     at_once(t, lambda: is_signed(control), True, "a line once another signer is there")
-    t.same(len(signer.asked), 1, "how often that was asked")
+    t.same(len(signer.asked), 1, "how often the other signer was asked")
 
 
 # The native signer
@@ -815,7 +822,7 @@ def valgrind_finds_no_fault_in_the_native_signer(t, algorithm):
 
 @test(seconds=60)
 def a_fuzzer_finds_no_fault_in_what_the_native_signer_accepts(t):
-    """DESK_FUZZ seconds, 60 by default. Its corpus is compared with examples/only_ours.py."""
+    """The fuzzer runs for DESK_FUZZ seconds, by default 60. For its corpus, the native signer and examples/only_ours.py accept the same messages."""
     need("clang", "nice")
     try:
         fuzzer = native_signer.checker("fuzzer", "clang", "-O1", "-DFUZZED", "-fsanitize=fuzzer,address,undefined", "-fno-sanitize-recover=all")
@@ -831,4 +838,4 @@ def a_fuzzer_finds_no_fault_in_what_the_native_signer_accepts(t):
                   timeout=60 + 3 * int(seconds), env={"CA": str(it.pem), "PATH": os.environ["PATH"]})
     t.same(ran.returncode, 0, f"the fuzzer's status: {ran.stderr[-3000:].decode()}")
     messages = [path.read_bytes() for path in corpus.iterdir()]
-    t.true(native_signer.compared(t, messages, it) >= 4, "of what it has found, some is accepted")
+    t.true(native_signer.compared(t, messages, it) >= 4, "fewer than four messages of the corpus are accepted")

@@ -1,4 +1,4 @@
-"""Sizes at which the behaviour must not change: numbers of rows, entries, CRLs and bytes. Between them the register is closed and opened again."""
+"""Registers and CRLs of many rows, entries and bytes behave as small ones do. Most tests close the register and open it again between steps."""
 
 from lib.program import moment_of, parted, seconds_of
 from lib.trial import test
@@ -12,18 +12,19 @@ LONGEST = 0x7F << 152
 
 
 def entered(first, last, behind=0):
-    """Lines that order and register certificates for subscriber 1, each under its own order, with the serial numbers `behind` + `first` to `behind` + `last`."""
+    """Lines that order and register certificates for subscriber 1, each with its own order. Their serial numbers are `behind` + `first` to `behind` +
+    `last`."""
     end = "2026-01-10T00:00:00Z"
     return "".join(f"{DAY} order 1 398\n{DAY} register {at} {behind + at:x} {DAY} {end}\n" for at in range(first, last + 1))
 
 
 def revoked(first, last, behind=0):
-    """Lines that request and revoke these certificates."""
+    """Lines that request the revocation of these certificates, and revoke them."""
     return "".join(f"{DAY} request {behind + at:x} superseded\n{DAY} revoke {at}\n" for at in range(first, last + 1))
 
 
 def replies(t, lines, file="ca.db"):
-    """The replies of a script over a file, none of which may be a refusal or a fault."""
+    """Runs a script over a file, and returns its replies. None of them may be a refusal or a fault."""
     told = t.done("script", file, given=lines).splitlines()
     t.same([it for it in told if it[0] in "EF"], [], "refusals and faults")
     return told
@@ -51,9 +52,9 @@ def the_tenth_crl_and_those_behind_it(t):
     for number in range(1, 13):
         t.same(replies(t, f"{DAY} crl\n"), [f"crl {number} entries 1"])
     whole = [t.desk("crl", "ca.db", "--number", number) for number in range(1, 13)]
-    t.same([it.status for it in whole], [0] * 12, "each CRL is there")
-    t.same(len({it.out for it in whole}), 12, "and has its own number")
-    t.same(t.desk("crl", "ca.db").out, whole[-1].out, "the latest")
+    t.same([it.status for it in whole], [0] * 12, "status of `desk crl` for each number")
+    t.same(len({it.out for it in whole}), 12, "number of different CRLs")
+    t.same(t.desk("crl", "ca.db").out, whole[-1].out, "the CRL without --number, which is the latest")
 
 
 @test(seconds=5)
@@ -64,13 +65,13 @@ def more_entries_than_a_thousand_and_a_crl_of_more_than_100_kb(t):
     replies(t, revoked(1_002, 2_400, LONGEST))
     t.same(replies(t, f"{DAY} crl\n"), ["crl 2 entries 2400"])
     der = t.desk("crl", "ca.db").out
-    t.true(len(der) > 100_000, f"the CRL has {len(der)} bytes")
+    t.true(len(der) > 100_000, f"the CRL has only {len(der)} bytes")
     text = t.tool("openssl", "crl", "-inform", "DER", "-noout", "-text", given=der).decode()
     t.same(text.count("Serial Number:"), 2_400, "entries of CRL 2")
     opened = t.open()
     t.true(parted(opened.ask("GET", "/crl"))[2] == der, "GET /crl gives other bytes")
     opened.end()
-    # All of them have ended: the next CRL is the last that lists them.
+    # All these certificates have expired, so the next CRL is the last that lists them.
     t.same(
         replies(t, f"{LATER} crl\n{LATER} crl\n{LATER} listing {LONGEST + 1:x}\n"),
         ["crl 3 entries 2400", "crl 4 entries 0", "listing first 1 last 3"],
@@ -110,7 +111,7 @@ def a_schedule_of_three_steps_and_of_sixteen(t):
 @test(seconds=5)
 def a_file_of_more_than_50_mb_is_opened(t):
     t.register(lines=f"{DAY} subscriber acme\n" + entered(1, 1) + f"{DAY} crl\n{DAY} crl\n")
-    # Nothing but an audit looks into an older CRL.
+    # An older CRL of zeros has no effect here, because only an audit checks its bytes.
     t.sql("ca.db", "UPDATE crl SET der = zeroblob(52000000) WHERE number = 1")
     t.true((t.room / "ca.db").stat().st_size > 50_000_000, "the file is not large")
     t.same(t.done("script", "ca.db", given=f"{DAY} counts\n{DAY} subscriber b\n"), "good 1 revoked 0 expired 0\nsubscriber 2\n")

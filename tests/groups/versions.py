@@ -1,5 +1,5 @@
-"""The first command that opens a register of version 1 or 2 migrates it to version 3. The records stay as they are, and the derived rows follow from them,
-whatever they were before. A kill or running out of memory leaves the old or the new version."""
+"""The first command that opens a register of version 1 or 2 migrates it to version 3. It keeps the records, and computes the derived rows anew from
+them. A kill or running out of memory during the migration leaves the old or the new version."""
 
 from functools import cache
 
@@ -31,8 +31,8 @@ def is_newer(t, records, before, file="ca.db", what=""):
     """Checks that the file is a register of version 3 with these records, and with the derived rows that follow from them."""
     t.same(registers.rows_of(t.room / file), before, f"the records{what}")
     found, sound = registers.beside(t.room / file)
-    t.same(found, registers.expected(records), f"what is kept beside them{what}")
-    t.same(sound, ([("ok",)], []), f"what SQLite says of the file{what}")
+    t.same(found, registers.expected(records), f"the derived rows{what}")
+    t.same(sound, ([("ok",)], []), f"the results of SQLite's checks of the file{what}")
 
 
 @each(VERSIONS, seconds=5)
@@ -43,8 +43,8 @@ def an_older_register_is_made_newer_by_the_first_command(t, version):
     line, reply = counts_line(t, records)
     t.same(t.done("script", "ca.db", given=line), reply, "the counts")
     is_newer(t, records, before)
-    t.same(registers.schema_of(t.room / "ca.db"), registers.schema_of(t.room / "new.db"), "its schema is that of a new register")
-    t.same(t.done("script", "ca.db", given=line), reply, "the counts, opened once more")
+    t.same(registers.schema_of(t.room / "ca.db"), registers.schema_of(t.room / "new.db"), "the schema, which is that of a new register")
+    t.same(t.done("script", "ca.db", given=line), reply, "the counts of a second run")
     t.same(t.done("audit", "ca.db"), f"sound, 1000 certificates, {len(records.revocations)} revoked, {len(records.crls)} CRLs\n")
     for number in (1, 2, len(records.crls)):
         t.same(t.desk("crl", "ca.db", "--number", number).out, records.crls[number - 1][2], f"CRL {number}")
@@ -70,7 +70,7 @@ def each_command_that_opens_makes_it_newer(t, version):
 
 @each(VERSIONS, seconds=2)
 def it_is_given_a_key_identifier(t, version):
-    """It is made newer by that: its CRLs stay byte for byte, and the next one has it."""
+    """`key-id` migrates the register too. The issued CRLs stay the same, byte for byte, and the next CRL has the key identifier."""
     records = made(t, 50, version)
     before = registers.rows_of(t.room / "ca.db")
     t.same(t.done("key-id", "ca.db", "0A0B"), "key-id set\n")
@@ -78,7 +78,7 @@ def it_is_given_a_key_identifier(t, version):
     name = bytes.fromhex(program.NAME) + b"\x80\x0a" + next_one.to_bytes(8, "big") + b"\x0a\x0b"
     wanted["office"] = [(*row[:2], name, *row[3:]) for row in wanted["office"]]
     t.same(registers.rows_of(t.room / "ca.db"), before, "the records")
-    t.same(registers.beside(t.room / "ca.db"), (wanted, ([("ok",)], [])), "what is kept beside them, with the key identifier behind the Name")
+    t.same(registers.beside(t.room / "ca.db"), (wanted, ([("ok",)], [])), "derived rows, with the key identifier after the Name")
     t.has(t.done("script", "ca.db", given=f"{moment_of(records.last)} crl\n"), f"crl {next_one} entries ")
     t.has(t.desk("crl", "ca.db").out, bytes.fromhex("0603551D23040630048002" "0A0B"), "its authorityKeyIdentifier")
     for number, _, crl in records.crls:
@@ -92,7 +92,7 @@ def an_audit_leaves_it_as_it_was(t, version):
     before = (t.room / "ca.db").read_bytes()
     ran = t.desk("audit", "ca.db")
     t.same((ran.status, ran.out, ran.err), (1, b"", b"old-version\n"))
-    t.same((t.room / "ca.db").read_bytes() == before, True, "the file's bytes are the same")
+    t.same((t.room / "ca.db").read_bytes() == before, True, "whether the file's bytes are the same")
 
 
 @each(VERSIONS, seconds=2)
@@ -104,7 +104,7 @@ def other_tables_than_its_versions_are_no_register(t, version):
         t.sql("ca.db", statement)
         ran = t.desk("script", "ca.db", given="2026-01-01T00:00:00Z counts\n")
         t.same((ran.status, ran.out, ran.err), (1, b"", b"not-a-register\n"), statement)
-        t.same(t.sql("ca.db", "SELECT version FROM office"), [(version,)], "it stays as it was")
+        t.same(t.sql("ca.db", "SELECT version FROM office"), [(version,)], f"the version after {statement}")
 
 
 @test

@@ -1,4 +1,4 @@
-"""Pending signatures of OCSP answers and CRLs: only the requester waits for one, and lines at the control socket after it."""
+"""Pending signatures of OCSP answers and CRLs. Only the client that needs a signature waits for it. Control lines also wait for an earlier line's."""
 
 import hashlib
 import os
@@ -22,7 +22,7 @@ AT_ONCE = 32
 
 
 def asked_for(serial):
-    """An OCSP request for this serial number of two octets, of another issuer, in the form of RFC 6960 4.1.1."""
+    """An OCSP request in the form of RFC 6960 4.1.1, for another issuer and this serial number of two octets."""
     octets = serial.to_bytes(2, "big")
     issuer = bytes.fromhex("300906052B0E03021A05000414" + "00" * 20 + "0414" + "00" * 20)
     identifier = b"\x30" + bytes([len(issuer) + 4]) + issuer + b"\x02\x02" + octets
@@ -42,18 +42,18 @@ def ocsp_answer(desk, serial):
 
 
 def is_signed(response):
-    """Whether it is successful (RFC 6960 4.2.1), with the signature."""
+    """Whether the OCSP response is successful (RFC 6960 4.2.1), and has ANY_SIGNATURE."""
     return bytes.fromhex("0A0100") in response[:8] and ANY_SIGNATURE in response
 
 
 def own_signature(message):
-    """Bytes in the form of an ECDSA signature, other ones for each message."""
+    """Bytes in the form of an ECDSA signature, which differ for each message."""
     number = b"\x02\x20\x01" + hashlib.sha256(message).digest()[1:]
     return b"\x30\x44" + number * 2
 
 
 def files(desk):
-    """How many descriptors the desk has."""
+    """How many file descriptors the desk has."""
     return len(os.listdir(f"/proc/{desk.process.pid}/fd"))
 
 
@@ -78,21 +78,21 @@ def opened(t, *words):
 
 @test(seconds=3)
 def at_most_32_signatures_are_requested_at_once(t):
-    """And each answer gets its own signature."""
+    """The desk requests at most 32 signatures at once, and gives each of 40 answers its own signature."""
     held = Held(t, signature=own_signature)
     desk = opened(t)
     with ThreadPoolExecutor(AT_ONCE + 8) as pool:
         answers = [pool.submit(ocsp_answer, desk, 0x1100 + at) for at in range(AT_ONCE + 8)]
-        t.true(held.signers.until(AT_ONCE), f"only {held.signers.now} are asked for at once")
-        # Time in which the desk could ask for one more.
+        t.true(held.signers.until(AT_ONCE), "fewer than 32 signatures are requested")
+        # The desk could request one more in this time.
         time.sleep(0.3)
-        t.same(held.signers.most, AT_ONCE, "at once")
+        t.same(held.signers.most, AT_ONCE, "signatures requested at once")
         held.release.set()
         for at, it in enumerate(answers):
             part, _, signature = authority.signed_part(authority.basic_of(it.result()))
-            t.true(names(part, 0x1100 + at), f"answer {at} is another one's")
+            t.true(names(part, 0x1100 + at), f"client {at} got the answer for another serial number")
             t.same(signature, own_signature(part), f"signature {at}")
-    t.same(len(held.signers.asked), AT_ONCE + 8, "signatures")
+    t.same(len(held.signers.asked), AT_ONCE + 8, "requested signatures")
 
 
 @test(seconds=3)
@@ -105,7 +105,7 @@ def nobody_else_waits(t):
     desk = Passing(t, *SIGNING).desk
     with ThreadPoolExecutor(4) as pool:
         waits = [pool.submit(ocsp_answer, desk, 0x1100 + at) for at in range(4)]
-        t.true(held.signers.until(4), "they are asked for")
+        t.true(held.signers.until(4), "fewer than four signatures are requested")
         quick(t, desk)
         with t.control() as control:
             with t.at_once("a query at the control socket"):
@@ -113,7 +113,7 @@ def nobody_else_waits(t):
             t.same(control.ask("request 05 key-compromise").split(" due ")[0], "request 1")
             with t.at_once("a revocation"):
                 t.same(control.ask("revoke 1"), "revoked")
-        t.same([it.done() for it in waits], [False] * 4, "who asked still waits")
+        t.same([it.done() for it in waits], [False] * 4, "which OCSP clients got an answer")
         held.release.set()
         t.same([is_signed(it.result()) for it in waits], [True] * 4)
 
@@ -124,12 +124,12 @@ def an_answer_whose_turn_comes_too_late_is_not_signed(t):
     t.register(key=P256_KEY)
     desk, body = Passing(t, *SIGNING), asked_for(0x1100)
     clients = [desk.comes(b"POST /ocsp HTTP/1.1\r\nContent-Length: %d\r\n\r\n" % len(body) + body) for _ in range(AT_ONCE + 40)]
-    t.true(held.signers.until(AT_ONCE), "all that may be asked for are")
+    t.true(held.signers.until(AT_ONCE), "fewer than 32 signatures are requested")
     desk.advance(10_000)
     with t.at_once("the answers of all"):
         t.same([is_signed(program.parted(program.read_all(it))[2]) for it in clients], [False] * len(clients), "which answers are signed")
     held.release.set()
-    t.true(is_signed(ocsp_answer(desk.desk, 0x2200)), "an answer behind them")
+    t.true(is_signed(ocsp_answer(desk.desk, 0x2200)), "the next answer is not signed")
     t.same(held.signers.connected, AT_ONCE + 1, "connections to the signer")
 
 
@@ -140,18 +140,18 @@ def clients_that_reset_make_room_for_others(t):
     desk, body = Passing(t, *SIGNING), asked_for(0x1100)
     request = b"POST /ocsp HTTP/1.1\r\nContent-Length: %d\r\n\r\n" % len(body) + body
     clients = [desk.comes(request) for _ in range(AT_ONCE)]
-    t.true(held.signers.until(AT_ONCE), "all that may be asked for are")
+    t.true(held.signers.until(AT_ONCE), "fewer than 32 signatures are requested")
     for it in clients:
-        # Closing sends a reset.
+        # With this option, `close` sends a reset.
         it.setsockopt(socket.SOL_SOCKET, socket.SO_LINGER, b"\1\0\0\0\0\0\0\0")
         it.close()
     desk.comes(request)
-    authority.until(lambda: held.signers.connected == AT_ONCE + 1, "that the next signature is requested", seconds=10)
+    authority.until(lambda: held.signers.connected == AT_ONCE + 1, "a request for the next signature", seconds=10)
 
 
 @test(seconds=3)
 def a_client_in_the_place_of_one_that_reset_gets_its_own_answer(t):
-    """The one that reset waited in the queue. The next client has its slot, and a signature of its own."""
+    """A client whose request waits in the queue resets its connection. The next client gets its slot, and its own signature."""
     held = Held(t)
     t.register(key=P256_KEY)
     desk = Passing(t, *SIGNING)
@@ -159,22 +159,22 @@ def a_client_in_the_place_of_one_that_reset_gets_its_own_answer(t):
     clients = [t.enter_context(desk.desk.connect()) for _ in range(AT_ONCE)]
     for at, it in enumerate(clients):
         it.sendall(request(0x1100 + at))
-    t.true(held.signers.until(AT_ONCE), "all that may be asked for are")
-    # It is accepted before its request comes, and so it is polled.
+    t.true(held.signers.until(AT_ONCE), "fewer than 32 signatures are requested")
+    # The desk accepts this connection before the request comes, so it polls the connection.
     gone = t.enter_context(desk.desk.connect())
-    authority.until(lambda: program.is_read(gone), "that it is accepted")
+    authority.until(lambda: program.is_read(gone), "the desk to accept the connection")
     gone.sendall(request(0x2200))
-    authority.until(lambda: program.is_read(gone), "that its request is read")
+    authority.until(lambda: program.is_read(gone), "the desk to read its request")
     desk.advance(0)
     port = str(gone.getsockname()[1])
-    # Closing sends a reset.
+    # With this option, `close` sends a reset.
     gone.setsockopt(socket.SOL_SOCKET, socket.SO_LINGER, b"\1\0\0\0\0\0\0\0")
     gone.close()
-    authority.until(lambda: desk.lost == [(port, "broken")], "that it is lost")
+    authority.until(lambda: desk.lost == [(port, "broken")], "the lost connection in the log")
     clients.append(desk.comes(request(0x3300)))
     held.release.set()
     t.same([is_signed(program.parted(program.read_all(it))[2]) for it in clients], [True] * (AT_ONCE + 1), "whether each answer is signed")
-    t.same([sum(names(it, serial) for it in held.signers.asked) for serial in (0x2200, 0x3300)], [0, 1], "signatures of who went and of who came")
+    t.same([sum(names(it, serial) for it in held.signers.asked) for serial in (0x2200, 0x3300)], [0, 1], "signatures for the lost and next client")
 
 
 @test(seconds=3)
@@ -185,40 +185,40 @@ def a_disconnected_client_is_not_signed_for(t):
     desk = passing.desk
     with ThreadPoolExecutor(AT_ONCE + 1) as pool:
         waits = [pool.submit(ocsp_answer, desk, 0x1100 + at) for at in range(AT_ONCE)]
-        t.true(held.signers.until(AT_ONCE), "all that may be asked for are")
+        t.true(held.signers.until(AT_ONCE), "fewer than 32 signatures are requested")
         with desk.connect() as gone:
             body = asked_for(0x2200)
             gone.sendall(b"POST /ocsp HTTP/1.1\r\nContent-Length: %d\r\n\r\n" % len(body) + body)
-            authority.until(lambda: program.is_read(gone), "that the request of the client that disconnects is read")
+            authority.until(lambda: program.is_read(gone), "the desk to read the request of the client that disconnects")
             port = str(gone.getsockname()[1])
-        # The desk looks for a client that has waited for some time before it requests its signature.
+        # Before the desk requests a signature that was queued for some time, it checks whether the client has closed its side.
         passing.advance(1)
         stays = pool.submit(ocsp_answer, desk, 0x3300)
-        # Time in which the desk reads the request of the client that stays. It may come later, too.
+        # The desk usually reads the request of the client that stays in this time, but may do so later.
         time.sleep(0.3)
         held.release.set()
-        t.true(is_signed(stays.result()), "who stayed")
+        t.true(is_signed(stays.result()), "the answer for the client that stayed is not signed")
         t.same([is_signed(it.result()) for it in waits], [True] * AT_ONCE)
     asked = held.signers.asked
-    t.same([sum(names(it, serial) for it in asked) for serial in (0x2200, 0x3300)], [0, 1], "signatures of who went and of who stayed")
+    t.same([sum(names(it, serial) for it in asked) for serial in (0x2200, 0x3300)], [0, 1], "signatures for the lost client and the one that stayed")
     passing.advance(0)
     t.same(passing.lost, [(port, "broken")], "the lost connections in the log")
 
 
 @test(seconds=3)
 def the_oldest_client_that_waits_for_a_signature_makes_room(t):
-    """Two clients wait, and all descriptors are theirs and those of their signatures. Another client is answered at once."""
+    """Two clients wait for signatures, and the desk has no free file descriptor. It evicts the older client, and answers another client at once."""
     held = Held(t)
     t.register(key=P256_KEY)
     desk, body = Passing(t, *SIGNING), asked_for(0x1100)
     clients = [desk.comes(b"POST /ocsp HTTP/1.1\r\nContent-Length: %d\r\n\r\n" % len(body) + body) for _ in range(2)]
-    t.true(held.signers.until(2), "both signatures are requested")
-    authority.until(lambda: desk.files == desk.before + 4, "that no other connection is left")
+    t.true(held.signers.until(2), "fewer than two signatures are requested")
+    authority.until(lambda: desk.files == desk.before + 4, "the end of all other connections")
     t.tool("prlimit", "--pid", desk.desk.process.pid, f"--nofile={desk.files}:{desk.files}")
     t.same(program.parted(desk.desk.send(b"GET /counts HTTP/1.1\r\n\r\n", timeout=20))[0], 200, "GET /counts")
-    t.same(program.read_all(clients[0]), b"", "the oldest is evicted, with no answer")
+    t.same(program.read_all(clients[0]), b"", "the response to the evicted client")
     held.release.set()
-    t.true(is_signed(program.parted(program.read_all(clients[1]))[2]), "the answer of the other one")
+    t.true(is_signed(program.parted(program.read_all(clients[1]))[2]), "the answer for the other client is not signed")
     desk.loses(clients[0], why="crowded")
 
 
@@ -230,7 +230,7 @@ def a_client_that_half_closes_after_its_request_is_answered(t):
         body = asked_for(0x1111)
         half.sendall(b"POST /ocsp HTTP/1.1\r\nContent-Length: %d\r\n\r\n" % len(body) + body)
         half.shutdown(socket.SHUT_WR)
-        t.true(is_signed(program.parted(program.read_all(half))[2]), "its answer")
+        t.true(is_signed(program.parted(program.read_all(half))[2]), "the answer is not signed")
 
 
 @test(seconds=3)
@@ -238,22 +238,22 @@ def a_client_that_half_closes_while_its_signature_is_made_is_answered(t):
     held = Held(t)
     t.register(key=P256_KEY)
     desk, body = Passing(t, *SIGNING), asked_for(0x1100)
-    # It is accepted before its request comes, and so it is polled.
+    # The desk accepts this connection before the request comes, so it polls the connection.
     half = t.enter_context(desk.desk.connect())
-    authority.until(lambda: program.is_read(half), "that it is accepted")
+    authority.until(lambda: program.is_read(half), "the desk to accept the connection")
     half.sendall(b"POST /ocsp HTTP/1.1\r\nContent-Length: %d\r\n\r\n" % len(body) + body)
-    t.true(held.signers.until(1), "its signature is requested")
+    t.true(held.signers.until(1), "no signature is requested")
     half.shutdown(socket.SHUT_WR)
-    # The desk has noticed the end when it has answered two other clients.
+    # `advance` waits until the desk has answered two other clients. By then it has noticed the half-close.
     desk.advance(0)
     held.release.set()
-    t.true(is_signed(program.parted(program.read_all(half))[2]), "its answer")
+    t.true(is_signed(program.parted(program.read_all(half))[2]), "the answer is not signed")
     desk.loses()
 
 
 @test(seconds=14)
 def only_the_requester_waits_ten_seconds(t):
-    """The signer hangs for one of them."""
+    """The signer hangs for one of two serial numbers. Answers for the other one are signed meanwhile."""
     ends = threading.Event()
     t.callback(ends.set)
 
@@ -268,29 +268,29 @@ def only_the_requester_waits_ten_seconds(t):
     with ThreadPoolExecutor(1) as pool, t.ten_seconds():
         hangs = pool.submit(ocsp_answer, desk, 0x1111)
         while not hangs.done():
-            t.true(is_signed(ocsp_answer(desk, 0x2222)), "another one")
+            t.true(is_signed(ocsp_answer(desk, 0x2222)), "an answer for the other serial number is not signed")
             time.sleep(0.1)
         t.same(hangs.result(), INTERNAL)
     lines = desk.end().err_lines
-    t.same(sum(it.endswith(" signer") for it in lines), 1, "lines of the log that tell of it")
+    t.same(sum(it.endswith(" signer") for it in lines), 1, "log lines that end with `signer`")
 
 
 @test
 def ten_seconds_to_the_millisecond(t):
-    """They end for one client, and not yet for another one whose request came a millisecond later."""
+    """The ten seconds end for one client, but not yet for another client, whose request came a millisecond later."""
     t.register(key=P256_KEY)
     held = Held(t)
     desk = Passing(t, *SIGNING)
     with ThreadPoolExecutor(2) as pool:
         first = pool.submit(ocsp_answer, desk.desk, 0x1111)
-        t.true(held.signers.until(1), "the first is asked for")
+        t.true(held.signers.until(1), "the first signature is not requested")
         desk.advance(1)
         second = pool.submit(ocsp_answer, desk.desk, 0x2222)
-        t.true(held.signers.until(2), "the second is asked for")
+        t.true(held.signers.until(2), "the second signature is not requested")
         desk.advance(9_999)
         t.same(first.result(), INTERNAL)
         held.release.set()
-        t.true(is_signed(second.result()), "the second is not signed")
+        t.true(is_signed(second.result()), "the second answer is not signed")
 
 
 @test(seconds=3)
@@ -312,14 +312,14 @@ def a_revocation_is_in_each_answer_requested_after_it(t):
     desk = Passing(t, *it.signing()).desk
     with ThreadPoolExecutor(2) as pool, t.control() as control:
         before = pool.submit(desk.ask, "GET", authority.path_of(it.asks("06")))
-        t.true(signers.until(1), "the first is asked for")
+        t.true(signers.until(1), "the first signature is not requested")
         t.same(control.ask("request 06 key-compromise").split(" due ")[0], "request 2")
         t.same(control.ask("revoke 2"), "revoked")
         behind = pool.submit(desk.ask, "GET", authority.path_of(it.asks("06")))
-        t.true(signers.until(2), "the second is asked for")
+        t.true(signers.until(2), "the second signature is not requested")
         release.set()
-        t.same(it.reads("06", body_of(t, before.result())), "good", "what was asked before")
-        t.same(it.reads("06", body_of(t, behind.result())), "revoked", "what was asked behind it")
+        t.same(it.reads("06", body_of(t, before.result())), "good", "the answer requested before the revocation")
+        t.same(it.reads("06", body_of(t, behind.result())), "revoked", "the answer requested after the revocation")
 
 
 @test(seconds=2)
@@ -330,9 +330,9 @@ def serve_waits_for_the_signatures_of_its_last_requests(t):
     desk = t.open("ca.db", "--requests", count, *SIGNING, command="serve")
     with ThreadPoolExecutor(count) as pool:
         waits = [pool.submit(ocsp_answer, desk, 0x1100 + at) for at in range(count)]
-        t.true(held.signers.until(AT_ONCE), "as many as may be are asked for")
+        t.true(held.signers.until(AT_ONCE), "fewer than 32 signatures are requested")
         time.sleep(0.2)
-        t.same(desk.process.poll(), None, "it has not ended")
+        t.same(desk.process.poll(), None, "the exit status of the desk, which still runs")
         held.release.set()
         t.same([is_signed(it.result()) for it in waits], [True] * count)
     t.same(desk.wait().status, 0)
@@ -340,7 +340,7 @@ def serve_waits_for_the_signatures_of_its_last_requests(t):
 
 @test(seconds=2)
 def a_signer_with_a_full_queue_is_asked_again(t):
-    """The desk connects again to a signer whose queue is full."""
+    """If the listen queue of the signer's socket is full, the desk tries to connect again."""
     t.register(key=P256_KEY)
     server = t.enter_context(socket.socket(socket.AF_UNIX))
     server.bind(str(t.room / "ca.sign"))
@@ -368,7 +368,7 @@ def the_first_answer_stays_first_though_the_signer_has_no_room(t):
     for serial in (0x1100, 0x2200):
         body = asked_for(serial)
         desk.comes(b"POST /ocsp HTTP/1.1\r\nContent-Length: %d\r\n\r\n" % len(body) + body)
-    # The desk tries the first one again, in vain.
+    # The desk again tries to connect for the first answer, in vain.
     desk.advance(10)
     server.accept()[0].close()
     desk.advance(10)
@@ -383,33 +383,33 @@ def a_signature_is_requested_again_once_a_descriptor_is_free(t):
     held = Held(t)
     t.register(key=P256_KEY)
     desk = t.open("ca.db", *SIGNING)
-    # Four clients, which all connect before the first one sends its request, and three connections to the signer.
+    # Descriptors for four clients, which all connect before the first one sends its request, and for three connections to the signer.
     before = files(desk)
     t.tool("prlimit", "--pid", desk.process.pid, f"--nofile={before + 7}:{before + 7}")
     with ExitStack() as open_ones, ThreadPoolExecutor(4) as pool:
         peers = [open_ones.enter_context(desk.connect()) for _ in range(4)]
-        authority.until(lambda: files(desk) == before + 4, "four peers")
+        authority.until(lambda: files(desk) == before + 4, "the connections of four clients")
         for at, peer in enumerate(peers):
             request = asked_for(0x1100 + at)
             peer.sendall(b"POST /ocsp HTTP/1.1\r\nHost: ca.example\r\nContent-Length: %d\r\n\r\n" % len(request) + request)
         waits = [pool.submit(program.read_all, peer) for peer in peers]
-        t.true(held.signers.until(3), f"only {held.signers.now} are asked for")
+        t.true(held.signers.until(3), "fewer than three signatures are requested")
         time.sleep(0.2)
-        t.same([it.done() for it in waits], [False] * 4, "all wait")
+        t.same([it.done() for it in waits], [False] * 4, "which clients got an answer")
         held.release.set()
         t.same([is_signed(program.parted(it.result())[2]) for it in waits], [True] * 4)
 
 
 @test(seconds=4)
 def a_signer_of_many_processes(t):
-    """They sign at one socket, and end together."""
+    """The three processes of examples/signer.py sign at one socket, and end together."""
     authority.need_cryptography(t)
     it = Authority(t)
     it.register()
     words = ["python3", authority.EXAMPLES / "signer.py", "--processes", 3, it.key, "ca.sign"]
     signer = authority.started(t, words, t.room / "ca.sign")
     children = lambda: t.tried("pgrep", "-P", signer.pid).stdout.split()
-    authority.until(lambda: len(children()) == 2, "two processes more")
+    authority.until(lambda: len(children()) == 2, "two more processes of the signer")
     others = children()
     desk = t.open("ca.db", *it.signing())
     requests = [it.asks(f"11{at:02x}") for at in range(12)]
@@ -420,14 +420,14 @@ def a_signer_of_many_processes(t):
     signer.terminate()
     signer.wait(program.LONGEST)
     is_there = lambda pid: t.tried("kill", "-0", pid.decode()).returncode == 0
-    authority.until(lambda: not any(map(is_there, others)), "the end of the others")
+    authority.until(lambda: not any(map(is_there, others)), "the end of the signer's other processes")
 
 
 # Signatures for the control socket
 
 
 def with_certificate(t):
-    """A register with a certificate of serial number 5, for which a revocation can be requested."""
+    """Makes a register with a certificate of serial number 5, for which a revocation can be requested."""
     t.register(key=P256_KEY, lines="".join(f"{DAY} {it}\n" for it in ("subscriber acme", "order 1 398", f"register 1 05 {DAY} 2026-03-01T00:00:00Z")))
     t.clock(DAY)
 
@@ -439,14 +439,14 @@ def certified(t):
 
 
 def requests_revocation(t, desk):
-    """Requests over HTTP the revocation of serial number 5, which is accepted at once."""
+    """Requests over HTTP that serial number 5 be revoked. Checks that the desk accepts the request at once."""
     with t.at_once("a request for revocation"):
         status = program.parted(desk.ask("POST", "/requests", b'{"serial":"05","ground":"superseded"}'))[0]
-    t.same(status, 200, "the request")
+    t.same(status, 200, "the status of the request for revocation")
 
 
 def quick(t, desk):
-    """A request over HTTP is answered at once."""
+    """Checks that a request over HTTP is answered at once."""
     with t.at_once("GET /counts"):
         t.same(program.parted(desk.ask("GET", "/counts"))[0], 200)
 
@@ -457,17 +457,17 @@ def a_crl_delays_control_lines_and_no_http_request(t):
     desk = certified(t)
     with ThreadPoolExecutor(2) as pool, t.control() as first, t.control() as second:
         crl = pool.submit(first.ask, "crl")
-        t.true(held.signers.until(1), "it is asked for")
+        t.true(held.signers.until(1), "the CRL's signature is not requested")
         request = pool.submit(second.ask, "request 05 superseded")
         quick(t, desk)
-        # Time in which the desk could answer the line.
+        # The desk could answer the line in this time.
         time.sleep(0.3)
-        t.same((crl.done(), request.done()), (False, False), "lines that are answered")
-        # Nor is what would come of it there.
-        t.has(desk.ask("GET", "/metrics"), b"\ndesk_lines_total{reply=\"accepted\"} 0\n", "lines that were told")
+        t.same((crl.done(), request.done()), (False, False), "which of the two lines are answered")
+        # The desk has not run the `request` line either.
+        t.has(desk.ask("GET", "/metrics"), b"\ndesk_lines_total{reply=\"accepted\"} 0\n", "the count of accepted lines")
         held.release.set()
         t.same((crl.result(), request.result().split(" due ")[0]), ("crl 1 entries 0", "request 1"))
-    t.same(len(held.signers.asked), 1, "signatures")
+    t.same(len(held.signers.asked), 1, "requested signatures")
 
 
 @test(seconds=5)
@@ -477,7 +477,7 @@ def replies_come_in_the_order_of_their_lines(t):
     with ThreadPoolExecutor(1) as pool, t.control() as control:
         replies = pool.submit(control.ask, "counts\ncrl\nstatus 05\ncrl\ncounts")
         t.same(replies.result(), "good 1 revoked 0 expired 0")
-        t.true(held.signers.until(1), "a CRL is asked for")
+        t.true(held.signers.until(1), "the signature of a CRL is not requested")
         held.release.set()
         told = [control.file.readline().decode().rstrip("\n") for _ in range(4)]
     t.same(told, ["crl 1 entries 0", "good", "crl 2 entries 0", "good 1 revoked 0 expired 0"])
@@ -504,16 +504,16 @@ def a_request_goes_on_and_the_crl_is_signed_anew(t):
     desk = certified(t)
     with ThreadPoolExecutor(1) as pool, t.control() as control:
         crl = pool.submit(control.ask, "crl")
-        t.true(held.signers.until(1), "it is asked for")
-        # In a later second than the CRL's.
+        t.true(held.signers.until(1), "the CRL's signature is not requested")
+        # The revocation is requested in a later second than the CRL.
         t.clock(program.seconds_of(DAY) + 1)
         requests_revocation(t, desk)
-        t.same(crl.done(), False, "the CRL is there")
+        t.same(crl.done(), False, "whether the CRL is issued")
         held.release.set()
         t.same(crl.result(), "crl 1 entries 0")
     first, second = held.signers.asked
-    t.true(first != second, "it is of another moment")
-    t.has(authority.body_of(t, desk.ask("GET", "/crl"), "application/pkix-crl"), second, "what was signed last")
+    t.true(first != second, "the second message to sign is the same as the first")
+    t.has(authority.body_of(t, desk.ask("GET", "/crl"), "application/pkix-crl"), second, "the CRL has the message that was signed last")
 
 
 @test(seconds=3)
@@ -529,14 +529,14 @@ def a_crl_is_signed_anew_three_times_and_then_waited_for(t):
     with ThreadPoolExecutor(2) as pool, t.control() as control:
         crl = pool.submit(control.ask, "crl")
         for count in range(1, 4):
-            authority.until(lambda: len(signers.asked) == count, f"signature {count}")
+            authority.until(lambda: len(signers.asked) == count, f"request {count} for a signature")
             t.clock(program.seconds_of(DAY) + count)
             requests_revocation(t, desk)
             release.put(None)
-        authority.until(lambda: len(signers.asked) == 4, "the last signature")
+        authority.until(lambda: len(signers.asked) == 4, "the fourth request for a signature")
         counts = pool.submit(desk.ask, "GET", "/counts")
         time.sleep(0.3)
-        t.same(counts.done(), False, "somebody is answered meanwhile")
+        t.same(counts.done(), False, "whether GET /counts is answered while the desk waits for the signature")
         release.put(None)
         t.same(crl.result(), "crl 1 entries 0")
         counts.result()
@@ -550,13 +550,13 @@ def a_crl_whose_signature_does_not_come(t):
     with ThreadPoolExecutor(1) as pool, t.control() as control:
         with t.ten_seconds():
             crl = pool.submit(control.ask, "crl")
-            t.true(held.signers.until(1), "it is asked for")
+            t.true(held.signers.until(1), "the CRL's signature is not requested")
             while not crl.done():
                 quick(t, desk)
                 time.sleep(0.2)
             t.same(crl.result(), "F3 signer")
         held.release.set()
-        t.same(control.ask("crl"), "crl 1 entries 0", "the next")
+        t.same(control.ask("crl"), "crl 1 entries 0", "the next CRL")
 
 
 @test
@@ -566,10 +566,10 @@ def ten_seconds_of_a_line_to_the_millisecond(t):
     desk = Passing(t, *SIGNING)
     with ThreadPoolExecutor(1) as pool, t.control() as control:
         crl = pool.submit(control.ask, "crl")
-        t.true(held.signers.until(1), "it is asked for")
+        t.true(held.signers.until(1), "the CRL's signature is not requested")
         desk.advance(9_999)
         time.sleep(0.1)
-        t.same(crl.done(), False, "it is answered a millisecond before")
+        t.same(crl.done(), False, "whether the reply came a millisecond early")
         desk.advance(1)
         t.same(crl.result(), "F3 signer")
 
@@ -580,12 +580,12 @@ def an_ocsp_line_delays_no_http_request(t):
     desk = certified(t)
     with ThreadPoolExecutor(1) as pool, t.control() as control:
         line = pool.submit(control.ask, f"ocsp {asked_for(0x1111).hex()}")
-        t.true(held.signers.until(1), "it is asked for")
+        t.true(held.signers.until(1), "the answer's signature is not requested")
         quick(t, desk)
-        t.same(line.done(), False, "its answer is there")
+        t.same(line.done(), False, "whether the line is answered")
         held.release.set()
         word, response = line.result().split()
-    t.true(word == "ocsp" and is_signed(bytes.fromhex(response)), "it is signed")
+    t.true(word == "ocsp" and is_signed(bytes.fromhex(response)), "the reply is no signed answer")
 
 
 @test(seconds=3)
@@ -598,7 +598,7 @@ def no_signer_listens_for_a_crl(t):
 
 @test(seconds=5)
 def a_crl_of_more_than_a_socket_takes_at_once(t):
-    """The signer begins to read it after a second."""
+    """The message to sign is longer than the socket's buffers, and the signer begins to read after a second. The desk answers HTTP meanwhile."""
     count = 6_000
     registers.make_revoked(t.room / "ca.db", count, P256_KEY)
     server = t.enter_context(socket.socket(socket.AF_UNIX))
@@ -615,13 +615,14 @@ def a_crl_of_more_than_a_socket_takes_at_once(t):
             message = program.read_all(peer)
             peer.sendall(ANY_SIGNATURE)
         t.same(crl.result(), f"crl 1 entries {count}")
-    t.true(len(message) > 250_000, f"{len(message)} bytes")
-    t.has(authority.body_of(t, desk.ask("GET", "/crl"), "application/pkix-crl"), message, "what was signed")
+    t.true(len(message) > 250_000, f"the message to sign has only {len(message)} bytes")
+    t.has(authority.body_of(t, desk.ask("GET", "/crl"), "application/pkix-crl"), message, "the CRL has the signed message")
 
 
 @test(seconds=4)
 def a_signer_that_ends_before_it_has_read_a_long_crl_holds_up_no_line(t):
-    """The message is more than a socket takes at once, and the signer reads a byte of it. No time passes."""
+    """The message to sign is longer than the socket's buffers. The signer reads one byte and closes the connection. The CRL then fails at once: no
+    time passes for the desk."""
     registers.make_revoked(t.room / "ca.db", 6_000, P256_KEY)
     server = t.enter_context(socket.socket(socket.AF_UNIX))
     server.bind(str(t.room / "ca.sign"))
@@ -633,8 +634,8 @@ def a_signer_that_ends_before_it_has_read_a_long_crl_holds_up_no_line(t):
         crl = pool.submit(control.ask, "crl")
         peer, _ = server.accept()
         with peer:
-            t.same(len(peer.recv(1)), 1, "the beginning of the message")
-            # Time in which the desk fills the socket's buffers.
+            t.same(len(peer.recv(1)), 1, "bytes of the message that the signer read")
+            # The desk fills the socket's buffers in this time.
             time.sleep(0.3)
         with t.at_once("the line"):
             t.same(crl.result(), "F3 signer")

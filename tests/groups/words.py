@@ -1,4 +1,4 @@
-"""The command line: each word and option, the help, the refused words, and the effects of the accepted ones."""
+"""The command line: its commands and options, the help, and which words are refused or accepted, with their effects."""
 
 import re
 import subprocess
@@ -11,7 +11,7 @@ ISSUER = ("--name", NAME, "--key", KEY)
 SERVE, OPEN = ("serve", "none.db"), ("open", "none.db", "--control", "S")
 UNSIGNED = (*OPEN, "--unsigned")
 SCHEDULE, FIRST_STEP = ("schedule", "none.db"), "1970-01-01T00:00:00Z=398"
-# A socket and an algorithm.
+# Error messages, or their beginnings.
 BOTH = "give both --signer and --algorithm, or neither; an algorithm is ecdsa-sha256, ecdsa-sha384, rsa-sha256 or ed25519"
 ONE_OF_BOTH = (
     "open needs --signer SOCKET with --algorithm NAME, or --unsigned for a placeholder digest instead of signatures, and not both; with --responder, --signer may be left out, and --unsigned is refused"
@@ -24,13 +24,14 @@ MOMENT, STEP = "a moment is written as", "a step is written as"
 
 
 def refused(t, *words):
-    """Runs a wrong command line: status 2, nothing on standard output, no file created. Returns standard error, which ends with the usage."""
+    """Runs a wrong command line. Checks that its status is 2, that it prints an error and the usage on standard error only, and creates no file.
+    Returns standard error."""
     ran = t.desk(*words)
     told = ran.err.decode()
     t.same((ran.status, ran.out), (2, b""), "status and standard output")
-    t.true(told.startswith("error: "), f"no error is told first: {told!r}")
-    t.true(re.search(r"^Usage: \S+", told, re.MULTILINE), f"no usage is told: {told!r}")
-    t.same(sorted(it.name for it in t.room.iterdir()), [], "files that were made")
+    t.true(told.startswith("error: "), f"standard error does not begin with an error: {told!r}")
+    t.true(re.search(r"^Usage: \S+", told, re.MULTILINE), f"standard error has no usage: {told!r}")
+    t.same(sorted(it.name for it in t.room.iterdir()), [], "created files")
     return told
 
 
@@ -93,7 +94,7 @@ def words_that_are_refused(t, words):
 
 @test
 def an_option_without_its_value_is_named(t):
-    # Here no usage follows, but where it is found.
+    # For this error the program prints no usage, only how to get help.
     ran = t.desk("init", "none.db", *ISSUER, "--days")
     t.same((ran.status, ran.out), (2, b""), "status and standard output")
     t.same(ran.err_lines, ["error: a value is required for '--days <N>' but none was supplied", "", "For more information, try '--help'."])
@@ -108,7 +109,7 @@ def a_refusal_says_what_is_wrong(t, words, what):
     t.has(refused(t, *words), what)
 
 
-# Words with one value that is out of its form or its range: the words before it, its option, the value, and the message.
+# Options with a malformed value, or one out of range: the words before the option, the option, the value, and a part of the message.
 VALUES = [
     *[(("init", "none.db", *ISSUER), "--days", it, NUMBER) for it in ("x", "1.5", "", "0000000000000000398")],
     (("init", "none.db", *ISSUER), "--crl-life", "8d", NUMBER),
@@ -128,7 +129,7 @@ VALUES = [
 def a_bad_value_is_named_with_its_option(t, words, option, value, why):
     told = refused(t, *words, f"{option}={value}")
     first = told.splitlines()[0]
-    t.true(first.startswith(f"error: invalid value '{value}' for '{option}': "), f"the value and its option are not named first: {first!r}")
+    t.true(first.startswith(f"error: invalid value '{value}' for '{option}': "), f"the value and its option are not first: {first!r}")
     t.has(first, why)
 
 
@@ -176,7 +177,7 @@ def a_socket_and_a_known_algorithm_are_given_both_or_neither(t, words, named):
 })
 def open_is_told_of_a_signer_or_that_there_is_none(t, *words):
     told = refused(t, *words, "--port=80")
-    t.same(told.splitlines()[0], f"error: {ONE_OF_BOTH}", "the one line that says both ways")
+    t.same(told.splitlines()[0], f"error: {ONE_OF_BOTH}", "the error, which names both ways to open")
 
 
 @each({it or "nothing": (it,) for it in ("0.0.0.0", "::", "[::]", "::1", "127.0.0.2", "localhost", "192.0.2.1", "[::1]:80", "")})
@@ -226,7 +227,7 @@ LISTED = "a list is revoked, certificates, ending, open-requests, overdue, reque
     "subscribers by serial number": ("subscribers", "--serial=0a"),
 })
 def a_list_has_its_word(t, *words):
-    t.same(refused(t, "list", "none.db", *words).splitlines()[0], f"error: {LISTED}", "the one line that says which there are")
+    t.same(refused(t, "list", "none.db", *words).splitlines()[0], f"error: {LISTED}", "the error, which names all lists")
 
 
 @each({" ".join(it)[:40]: it for it in (
@@ -255,7 +256,7 @@ def a_script_over_memory_is_not_clocked_and_not_strict(t, option):
 
 @each({"script": (("script",),), "crl": (("crl",),), "import": (("import", "--now", "2026-01-01T00:00:00Z"),), "copy": (("copy", "none.db"),), "audit": (("audit",),)})
 def a_file_whose_name_is_no_text_is_refused(t, words):
-    # The byte FF, which is in no UTF-8.
+    # The name has the byte FF, which no UTF-8 text contains.
     t.has(refused(t, *words, "ca\udcff.db"), "not UTF-8")
 
 
@@ -269,10 +270,10 @@ def an_option_without_its_value_is_refused(t):
 @each({it: it for it in ("--version", "-V")})
 def the_version_is_printed(t, word):
     ran = t.desk(word)
-    t.same((ran.status, ran.out.decode(), ran.err), (0, f"desk {version()}\n", b""), "status, standard output and standard error: as CHANGELOG.md has it")
+    t.same((ran.status, ran.out.decode(), ran.err), (0, f"desk {version()}\n", b""), "status, version in CHANGELOG.md, and standard error")
 
 
-# The help of each command.
+# The words of a help command, and parts of its output.
 HELPED = {
     "--help": ("init", "script", "import", "crl", "serve", "open", "at", "replay", "schedule", "key-id", "list", "copy", "audit", "--why", "-V, --version"),
     "-h": ("init", "script", "import", "crl", "serve", "open", "at", "replay", "schedule", "key-id", "list", "copy", "audit"),
@@ -308,7 +309,7 @@ def a_text_that_can_t_be_printed_is_status_1(t, word):
     t.same((ran.returncode, ran.stderr), (1, b"F5 write\n"), "status and standard error")
 
 
-# Words that are taken: over a file that is not there they come to F2, which is status 1.
+# Accepted command lines. Their file is missing, so each ends with `F2 store` and status 1.
 TAKEN = {
     "the lowest port and number": (*SERVE, "--port", "1", "--requests", "1"),
     "the highest": (*SERVE, "--port", "65535", "--requests", "1000000"),
@@ -345,7 +346,7 @@ TAKEN = {
 def words_that_are_accepted(t, words):
     ran = t.desk(*words)
     t.same((ran.status, ran.out, ran.err), (1, b"", b"F2 store\n"), "status, standard output and standard error")
-    t.same(sorted(it.name for it in t.room.iterdir()), [], "files that were made")
+    t.same(sorted(it.name for it in t.room.iterdir()), [], "created files")
 
 
 def terms(t):
@@ -387,7 +388,7 @@ def an_import_has_the_clock_s_moment(t):
     t.clock("2026-01-01T00:00:09Z")
     t.same(t.done("import", "ca.db", "--clock", "--strict", given=row), "registered\n")
     t.same(t.sql("ca.db", "SELECT last_at FROM office"), [(1_767_225_609,)])
-    t.same(t.done("import", "ca.db", "--clock", given=row), "same\n", "the same row once more")
+    t.same(t.done("import", "ca.db", "--clock", given=row), "same\n", "the same row again")
 
 
 @test

@@ -40,7 +40,7 @@ REASONS = {"Unspecified": 0, "Key Compromise": 1, "CA Compromise": 2, "Affiliati
 MALFORMED, INTERNAL, TRY_LATER = (bytes.fromhex(f"30030A010{it}") for it in (1, 2, 3))
 
 
-# The environment names a proxy that does not exist: the scripts must use none, since the desk is on the same machine.
+# An environment with a proxy that does not exist. The scripts must not use it, since the desk is on the same machine.
 NO_PROXY = {"http_proxy": "http://127.0.0.1:1"}
 
 
@@ -79,7 +79,7 @@ class Authority:
         return self.t.signer(path, self.sign)
 
     def signing(self, path="ca.sign"):
-        """The options that name its signer."""
+        """The options that name the CA's signer."""
         return ("--signer", path, "--algorithm", self.algorithm)
 
     def verifies(self, crl, what="the CRL"):
@@ -96,13 +96,13 @@ class Authority:
         return request.read_bytes()
 
     def reads(self, serial, response, *words, verify=True):
-        """The status that openssl reads in a response for this serial number. If the response is not verified, it may have a placeholder digest."""
+        """The status that openssl reads in a response for this serial number. With verify=False it may have a placeholder digest."""
         file = self.t.room / "said.der"
         file.write_bytes(response)
         trust = ("-CAfile", self.pem) if verify else ("-noverify",)
         told = self.t.tool("openssl", "ocsp", "-issuer", self.pem, *trust, *words, "-serial", f"0x{serial}", "-no_nonce", "-respin", file).decode()
         if verify:
-            self.t.has(told, "Response verify OK", f"of {serial}")
+            self.t.has(told, "Response verify OK", f"the response for serial number {serial}")
         return status_of(told, serial)
 
     def asked_by_openssl(self, serial, url, *words, verify=False):
@@ -110,12 +110,12 @@ class Authority:
         trust = ("-CAfile", self.pem) if verify else ("-noverify",)
         told = self.t.tool("openssl", "ocsp", "-issuer", self.pem, *trust, *words, "-serial", f"0x{serial}", "-url", url).decode()
         if verify:
-            self.t.has(told, "Response verify OK", f"of {serial}")
+            self.t.has(told, "Response verify OK", f"the response for serial number {serial}")
         return status_of(told, serial)
 
 
 def with_key_identifier(it, identifier):
-    """Another certificate of a CA's key, with this subjectKeyIdentifier, in openssl's syntax."""
+    """Makes another certificate of a CA's key, with this subjectKeyIdentifier in openssl's syntax."""
     words = ("-key", it.key, "-out", it.pem, "-subj", "/CN=T", "-days", "3650")
     it.t.tool("openssl", "req", "-x509", *words, "-addext", f"subjectKeyIdentifier={identifier}", "-addext", "authorityKeyIdentifier=none")
 
@@ -214,7 +214,7 @@ def inside(value, *path):
 
 def cert_ids(request):
     """The CertIDs of an OCSP request (RFC 6960 4.1.1), each as its bytes."""
-    # An optional version and name stand before the list, with tags of their own.
+    # Before the list there may be a version and a name, which have other tags.
     requests = next(it for it in values_of(inside(request, 0)[1]) if it[0] == 0x30)
     return [inside(it, 0)[2] for _, _, it in values_of(requests[1])]
 
@@ -226,7 +226,7 @@ def basic_of(response):
 
 def answered_ids(response):
     """The CertIDs of a response, each as its bytes."""
-    # tbsResponseData: the responder, producedAt, the answers.
+    # tbsResponseData has the responder, producedAt, and then the list of responses.
     answers = next(it for it in values_of(inside(basic_of(response), 0)[1]) if it[0] == 0x30)
     return [inside(it, 0)[2] for _, _, it in values_of(answers[1])]
 
@@ -241,7 +241,7 @@ def signed_part(value):
 
 
 class Peer:
-    """A signer that handles each connection, one after the other, as `manner` says."""
+    """A signer that calls `manner` for each connection, one after the other."""
 
     def __init__(self, path, manner):
         self.manner, self.asked = manner, 0
@@ -298,7 +298,7 @@ def end(process):
 
 
 def until(holds, what, seconds=60):
-    """Waits until something holds, and fails if it never does."""
+    """Waits until `holds` returns true, and fails after `seconds`."""
     last = time.monotonic() + seconds * program.PATIENCE
     while not holds():
         if time.monotonic() > last:

@@ -160,7 +160,7 @@ class Case:
 
     def do_send(self, step):
         self.t.note(f"send {step.given[:2000]!r}")
-        # The lines of a head end with CR LF; one that is not ended stays as it is.
+        # Each line end becomes CR LF. A last line without LF gets no end.
         return self.answered(self.opened.send(step.given.replace(b"\r\n", b"\n").replace(b"\n", b"\r\n") if step.rest != "as-is" else step.given))
 
     def do_clock(self, step):

@@ -1,6 +1,7 @@
-"""Runs the program with injected faults (tests/faults.c), and compares the contents of its file and its later replies with those of a run without.
+"""Runs the program with injected faults (tests/faults.c), and compares the contents of its file and its later replies with those of a run without
+faults.
 
-On a slow build the variable DESK_FAULTS_STEP=N makes the tests try only each Nth of the call numbers.
+For a slow build the variable DESK_FAULTS_STEP=N makes the tests try only each Nth of the call numbers.
 """
 
 import hashlib
@@ -40,7 +41,7 @@ REGISTERED = [
     (f"{DAY_1} order 1 398", "order 1"),
     (f"{DAY_1} register 1 05 2026-01-01T00:00:00Z 2026-01-10T00:00:00Z", "registered"),
 ]
-# It is revoked, listed on two CRLs, and no more on a third.
+# It is revoked, and listed on two CRLs, but not on a third.
 LIFE = [
     *REGISTERED,
     (f"{DAY_2} request 05 key-compromise", "request 1 due 2026-01-03T00:00:00Z"),
@@ -51,7 +52,7 @@ LIFE = [
     (f"{PAST_END} crl", "crl 3 entries 0"),
     (f"{PAST_END} counts", "good 0 revoked 1 expired 0"),
 ]
-# The other changes, over a register with that certificate: a row that comes again, a request that is declined, a certificate that ends.
+# The other changes, over a register with that certificate: a repeated row, a declined request, and a certificate that ends.
 CHANGES = [
     (f"{DAY_2} register 1 05 2026-01-01T00:00:00Z 2026-01-10T00:00:00Z", "same"),
     (f"{DAY_2} request 05 asked", "request 1 due 2026-01-03T00:00:00Z"),
@@ -85,7 +86,7 @@ def counted(path):
 
 
 def run(t, words, given=b"", count="count", clock=None, **told):
-    """Runs the program with faults, to its end: the result, and the counts of calls."""
+    """Runs the program with faults to its end; returns the result and the counts of calls."""
     ran = program.run(words, given, cwd=t.room, clock=clock, faults=environment(count=t.room / count, same=1, **told))
     return ran, counted(t.room / count)
 
@@ -133,19 +134,19 @@ def tables(path):
 
 
 def states(t, base, lines, path="states.db"):
-    """The tables before each line of a script and after the last, without a fault; each line has its expected reply."""
+    """The tables before each line of a script and after the last one, without a fault. Checks that each line has its expected reply."""
     copy(base, t.room / path)
     found = [tables(t.room / path)]
     with Lines(t, path) as desk:
         for asked, wanted in lines:
             t.same(desk.ask(asked), wanted, asked)
             found.append(tables(t.room / path))
-        t.same(desk.end(), (0, "", ""), "its end")
+        t.same(desk.end(), (0, "", ""), "the end of the script")
     return found
 
 
 class Lines:
-    """`desk script` over a file, which gets line after line."""
+    """`desk script` over a register, which gets its lines one by one."""
 
     # The rest of standard output, the status and standard error of a run without a fault.
     ends = (("", 0, ""),)
@@ -192,9 +193,9 @@ class Lines:
 
 
 class Office:
-    """`desk open` over a file, which gets line after line at its control socket, each at its moment."""
+    """`desk open` over a register, which gets its lines one by one at the control socket, with the clock set to the moment of each."""
 
-    # SIGTERM ends it. Its first line was read before.
+    # SIGTERM ends it. `program.Opened` has already read its first line.
     ends = (("", -15, ""),)
 
     def __init__(self, t, path, words=(), **told):
@@ -232,7 +233,7 @@ class Office:
 
 
 class Course:
-    """Lines for a register, and its tables before each of them. Each round has a fault, after which the register must go on as if there had been none."""
+    """Lines for a register, and its tables before each of them. Each round has a fault, after which the register must continue as without it."""
 
     def __init__(self, t, base, lines, sound, asked_by=Lines):
         self.t, self.base, self.lines, self.sound, self.asked_by = t, base, lines, sound, asked_by
@@ -268,7 +269,7 @@ class Course:
                 if reply != fault and not (reply == INTERNAL_ERROR and " ocsp " in asked):
                     self.fail(where, f"{asked}: {reply!r}")
                 faults += 1
-                # The register has a change whose commit failed as a whole, or not at all.
+                # If a commit failed, the register has the whole change or nothing of it.
                 place = self.standing(path, place, reach, where)
                 if faults == 3:
                     break
@@ -284,7 +285,7 @@ class Course:
         return met
 
     def goes_on(self, path, place, reach, where):
-        """Opened again, the register has a prefix of the lines, accepts the rest, and is sound."""
+        """Checks that the register, opened again, has a prefix of the lines, accepts the rest, and is sound."""
         mark = (place, reach, *(hashlib.sha1(it or b"").digest() for it in contents(self.t.room / path)))
         if mark in self.known:
             return

@@ -12,7 +12,7 @@ from .program import TOP
 from .trial import Failed, Skipped, need
 
 SOURCES = TOP / "signer"
-# The prefix of each of its lines on standard error.
+# The prefix of each line that the signer prints on standard error.
 NAME = "desk-signer: "
 
 
@@ -28,7 +28,7 @@ def need_libcrypto():
 
 
 def made(name, *words):
-    """Makes a program once for all tests, by a command whose last word ends with the program's path; returns the path."""
+    """Builds a program once for all tests, and returns its path, which is appended to the last word of the command."""
     path = Path(os.environ["DESK_TESTS_FOLDER"]) / name
     with open(f"{path}.lock", "w", encoding="utf-8") as lock:
         fcntl.flock(lock, fcntl.LOCK_EX)

@@ -11,7 +11,7 @@ ASKED = b"GET /counts HTTP/1.1\r\nHost: localhost\r\n\r\n"
 
 
 class Passing:
-    """An open desk with a log, whose time stands still until `advance`."""
+    """An open desk with a log. Its elapsed time changes only by `set_forward` and `advance`."""
 
     def __init__(self, t, *words, file="ca.db", **how):
         self.t, self.file, self.millis = t, t.room / "passed", 1_000_000
@@ -41,7 +41,7 @@ class Passing:
         """Connects a client, which sends these bytes; returns it once the desk has read them."""
         made = self.t.enter_context(self.desk.connect())
         made.sendall(sent)
-        until(lambda: is_read(made), "that the desk has read it")
+        until(lambda: is_read(made), "the desk to read the bytes of the client")
         self.advance(0)
         return made
 

@@ -28,13 +28,13 @@ P256_KEY = (
     "046B17D1F2E12C4247F8BCE6E563A440F277037D812DEB33A0F4A13945D898C296"
     "4FE342E2FE1A7F9B8EE7EB4A7C0F9E162BCE33576B315ECECBB6406837BF51F5"
 )
-# The form of an ECDSA signature, r = s = 1 (RFC 5480 appendix A): no client verifies it.
+# This has the form of an ECDSA signature (RFC 5480 appendix A), but is not valid: r = s = 1.
 ANY_SIGNATURE = bytes.fromhex("3006020101020101")
 # The warning about the first CRL of a register that has a placeholder digest.
 SEALED = b"warning: CRL 1 has a placeholder digest instead of a signature, which no client accepts; to sign the next one: --signer SOCKET --algorithm NAME\n"
 # Timeouts are multiplied by this, for a slow machine or a slow build.
 PATIENCE = float(os.environ.get("DESK_PATIENCE", "1"))
-# After so many seconds a program that a test runs has hung: far more than any takes on a slow machine.
+# A program that runs for more seconds than this has hung: even on a slow machine none takes nearly as long.
 LONGEST = 200
 
 
@@ -45,7 +45,7 @@ def program():
 
 @dataclass
 class Ran:
-    """The result of a run of the program. `is_warned` has whether it printed the warning about a placeholder digest, which is left out of `err`."""
+    """The result of a run of the program. `is_warned` says whether it printed the warning about a placeholder digest, which `err` lacks."""
 
     status: int
     out: bytes
@@ -106,7 +106,7 @@ def run(words, given=b"", cwd=None, timeout=LONGEST, **how):
     return Ran(ran.returncode, ran.stdout, told, words, is_warned)
 
 
-# The first and the number of the ports that tests use, all below those that the system gives to clients.
+# The first port that tests use, and how many they use. All are below those that the system gives to clients.
 FIRST_PORT, PORTS = 10_240, 22_000
 
 
@@ -124,7 +124,7 @@ def next_port():
 
 
 def free_port():
-    """A port of 127.0.0.1 at which no program listens, another one each time."""
+    """A port of 127.0.0.1 at which no program listens; each call returns a new one."""
     while True:
         port = next_port()
         with socket.socket() as it, contextlib.suppress(OSError):
@@ -333,7 +333,7 @@ class Signers:
                 peer.sendall(signature)
 
     def until(self, count, seconds=60):
-        """Waits until so many requests are being answered at once; returns whether they are."""
+        """Waits until `count` requests are being answered at once; returns whether they are."""
         ends = time.monotonic() + seconds * PATIENCE
         while self.now < count and time.monotonic() < ends:
             time.sleep(0.005)

@@ -1,4 +1,5 @@
-"""Registers of any size that Python's sqlite3 makes, as a program of version 1, 2 or 3 would, and their expected contents once they were opened."""
+"""Registers of any size that Python's sqlite3 makes, as a program of version 1, 2 or 3 would, and their expected contents after the
+program has opened them."""
 
 import hashlib
 import random
@@ -114,7 +115,7 @@ def extension(identifier, value):
 
 
 def integer(octets):
-    """Returns the INTEGER that octets spell, the highest first."""
+    """Returns an INTEGER in DER, from its octets, the highest first."""
     digits = octets.lstrip(b"\0")
     return tlv(2, b"\0" + digits if digits[0] >= 128 else digits)
 
@@ -143,7 +144,7 @@ def on_crl(listed, number):
 
 
 class Records:
-    """Sound records: a CRL each day, certificates that expire on some day, and a fifth of them revoked before."""
+    """Sound records: a CRL each day, certificates that expire on some day, and a fifth of them revoked before their end."""
 
     def __init__(self, certificates, crls=40):
         choice = random.Random(certificates)
@@ -184,7 +185,7 @@ class Records:
 def make(path, records, version):
     """Makes a register of a version. In version 2 half of its derived rows are missing, and the other half are wrong."""
     with sqlite3.connect(path) as db:
-        # On one line each, as the program wrote them: the texts stand in the file.
+        # The statements are on one line, as the program wrote them, since the file keeps their text.
         texts = " ".join("".join((FIRST, SECOND, THIRD)[:version]).split()).replace("( ", "(").replace(" )", ")")
         db.executescript("PRAGMA journal_mode = DELETE; PRAGMA cache_size = -200000;" + texts)
         office = (1, version, bytes.fromhex(NAME), KEY, 398, 691200, 345600, 1000000, records.last)
@@ -206,7 +207,7 @@ def make(path, records, version):
 
 
 def make_revoked(path, count, key):
-    """Makes a register with another key, in which so many certificates are revoked, a fifth of all, and no CRL was issued."""
+    """Makes a register with this key, in which `count` certificates, a fifth of all, are revoked, and no CRL was issued."""
     make(path, Records(5 * count, 0), 3)
     with sqlite3.connect(path) as db:
         db.execute("UPDATE office SET pubkey = ?", (bytes.fromhex(key),))

@@ -85,7 +85,7 @@ class Trial(contextlib.ExitStack):
         text = given if isinstance(given, str) else given.decode("latin-1")
         self.note(program.shown(words) + (f"  < {show(text, 600)}" if text else ""))
         ran = program.run(words, given, cwd=self.room, **how)
-        # The first CRL with a placeholder digest has a warning, in each test, and no other CRL has one.
+        # In each test the program must warn about a first CRL with a placeholder digest, and about no other CRL.
         is_sealed = program.can_seal(ran.words) and "--signer" not in ran.words
         self.same(ran.is_warned, is_sealed and any(it.startswith("crl 1 entries ") for it in ran.lines), "whether there is a warning about a placeholder digest")
         return ran

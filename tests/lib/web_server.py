@@ -30,7 +30,7 @@ http {{
 """
 
 
-# The office's authority, by `openssl ca`.
+# The configuration of `openssl ca` for the office's CA.
 OFFICE = """[ca]
 default_ca = it
 [it]

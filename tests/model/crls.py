@@ -6,7 +6,7 @@ from .der import KEY, NAME, SHA1, integer, sha1, signed, time, value
 def crl(register, number):
     this_update = register.crls[number - 1]
     rows = sorted(register.entries(number), key=lambda it: it.serial)
-    # revokedCertificates is absent where there is none.
+    # Without an entry revokedCertificates is absent.
     revoked = value(0x30, *map(entry, rows)) if rows else b""
     times = time(this_update) + time(this_update + register.policy.crl_life)
     return signed(value(0x30, integer(1), SHA1, NAME, times, revoked, extensions(register, number)))

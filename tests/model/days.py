@@ -1,13 +1,13 @@
-"""A day of a plan: its steps, drawn from a seed, and what each must be answered.
+"""A day of a plan: its steps, drawn from a seed, and the expected answer to each.
 
-A step is a word and what belongs to it, and stands alone, so that steps can be left out:
+A step is a word and its arguments. Each step is complete by itself, so that steps can be left out:
     script LINE                               a line of a script
-    import NOW TEXT, schedule STEPS           these jobs, of a register that is closed
+    import NOW TEXT, schedule STEPS           these commands, on a closed register
     key-id HEX                                likewise
-    crl NUMBER, audit                         likewise; the latest CRL where the number is None
-    http NOW METHOD TARGET FIELDS BODY        a request to an open register, at a moment of the clock
-    tell NOW LINE                             a line at its counter
-    at NOW LINES                              lines told by `desk at`
+    crl NUMBER, audit                         likewise; the latest CRL if NUMBER is None
+    http NOW METHOD TARGET FIELDS BODY        a request to an open desk, at a moment of the clock
+    tell NOW LINE                             a line at the control socket of an open desk
+    at NOW LINES                              lines that `desk at` sends to it
 """
 
 import random
@@ -46,7 +46,7 @@ def policy_of(plan):
 
 
 def answer(register, step):
-    """What a step must be answered, in bytes; the register is as after it."""
+    """The expected answer to a step, in bytes. Changes the register of the model as the step does."""
     word, *given = step
     if word not in OPEN:
         register.closed()
@@ -87,16 +87,16 @@ def answers(plan, steps):
 
 
 class Day:
-    """Draws a plan's steps from a seed: `steps`, what each must be answered, and how much of what came."""
+    """Draws a plan's steps from a seed: `steps`, their expected answers `wanted`, and how often each kind of answer occurs."""
 
     def __init__(self, plan, seed):
         self.plan, self.draws = plan, Draws(seed, plan)
-        # Apart from the others, which so are the same with and without key identifiers and accepted clocks.
+        # These have their own generators, so that all other draws are the same without key identifiers and accepted clocks.
         self.identifiers = random.Random(f"key identifiers {seed}")
         self.clocks = random.Random(f"accepted clocks {seed}")
         self.register = Register(policy_of(plan))
         self.steps, self.wanted = [], []
-        # How often each refusal and each form came; the most of what can be many.
+        # How often each refusal and each form of a reply occurs, and the greatest value of each count and size.
         self.came, self.most = Counter(), Counter()
         self.draw()
 
@@ -112,7 +112,7 @@ class Day:
             self.look_at_all()
 
     def take(self, *step):
-        """Takes a step, and counts what comes of it."""
+        """Takes a step, and counts its effects."""
         before, last = self.ending(), self.register.last
         told = answer(self.register, step)
         self.steps.append(step)
@@ -123,7 +123,7 @@ class Day:
         return told
 
     def ending(self):
-        """The ends of the good certificates, of a plan that is for them."""
+        """The ends of the good certificates, if the plan does not revoke the certificates that it registers."""
         if self.plan.are_revoked:
             return []
         at = self.register.last
@@ -241,17 +241,17 @@ class Day:
             self.take("at", now, tuple(self.told(now) for _ in range(1 + self.draws.below(4))))
 
     def far_ahead(self, now):
-        """A request for revocation, which is refused, and half the time the line that accepts the clock."""
+        """A request for revocation, refused as the clock is far ahead, and half the time the line that accepts the clock."""
         serial = self.clocks.choice([*self.register.certificates] or [5])
         self.take("http", now, *self.draws.post("/requests", f'{{"serial":"{serial:x}","ground":"asked"}}'.encode()))
         if self.clocks.random() < 0.5:
             self.take("tell", now, f"accept-clock {text_of(min(now, moments.LAST_SECOND))}".encode())
 
     def told(self, now):
-        # An end of a line within it would be two lines.
+        # The words have no LF, which would make two lines of them.
         return self.draws.words(self.register, now).encode()
 
-    # In the end
+    # At the end of the day
 
     def too_many(self, now):
         """Four requests over HTTP for a good certificate: a fourth open one is refused."""
@@ -261,7 +261,7 @@ class Day:
             self.take("http", now, "POST", "/requests", (f"Content-Length: {len(body)}",), body)
 
     def look_at_all(self):
-        """Each CRL, each serial number's status, listing and OCSP answer, and what an audit says."""
+        """Takes steps for each CRL, for each serial number's status, listing and OCSP response, and for an audit."""
         now = min(max(self.register.last, self.plan.start) + self.draws.below(self.plan.pace), moments.CLOCK_END - 1)
         self.too_many(now)
         for number in range(len(self.register.crls) + 2):

@@ -1,4 +1,4 @@
-"""DER (X.690): values written from their parts, and read from bytes; and the seal by a digest."""
+"""Writes and reads values in DER (X.690), and makes the placeholder digest."""
 
 import hashlib
 
@@ -42,12 +42,12 @@ def time(seconds):
 
 
 def signed(message):
-    """What is signed, the algorithm, and its SHA-1 as a BIT STRING."""
+    """A SEQUENCE of a message, the algorithm, and the placeholder digest: the message's SHA-1 as a BIT STRING."""
     return value(0x30, message, SHA1, value(0x03, b"\0", sha1(message)))
 
 
 class NotDer(Exception):
-    """Bytes that are not what was to be read."""
+    """Bytes that do not have the expected form."""
 
 
 def wants(holds):
@@ -56,7 +56,7 @@ def wants(holds):
 
 
 def take(bytes_, tag=None):
-    """The tag and the contents of the value in front, and what follows it."""
+    """The tag and the contents of the first value, and the bytes after it."""
     wants(len(bytes_) >= 2 and bytes_[0] % 32 != 31 and tag in (None, bytes_[0]))
     size, at = bytes_[1], 2
     if size >= 128:
@@ -70,14 +70,14 @@ def take(bytes_, tag=None):
 
 
 def whole(bytes_, tag):
-    """The contents of the one value that these bytes are."""
+    """The contents of a value, which must have all these bytes."""
     _, contents, rest = take(bytes_, tag)
     wants(not rest)
     return contents
 
 
 def optional(bytes_, tag):
-    """The contents of the value in front where it has this tag, else None, and what follows."""
+    """The contents of the first value if it has this tag, else None; and the bytes after it."""
     if bytes_[:1] != bytes([tag]):
         return None, bytes_
     _, contents, rest = take(bytes_, tag)

@@ -1,4 +1,4 @@
-"""Moments, lines, imports and requests that are drawn so that each rule comes to bear, by what the register holds."""
+"""Draws moments, lines, imports and requests that fit the rows of the register, so that each rule is tested."""
 
 import base64
 import hashlib
@@ -12,7 +12,7 @@ from .moments import CLOCK_END, DAY, LAST_SECOND, YEAR_2050, text_of
 from .register import GROUNDS
 
 SERIAL_END = 2**159
-# Serial numbers at the bounds of their bytes and of all.
+# The least and the greatest serial number, and serial numbers at which the length in bytes changes.
 BOUNDS = (1, 0x7F, 0x80, 0xFF, 0x100, 0x7FFF, 0x8000, 2**127, 2**158, SERIAL_END - 1)
 LETTERS = "abcdefghijklmnopqrstuvwxyz"
 WORDS = ("subscriber", "order", "register", "request", "decline", "revoke", "crl")
@@ -46,7 +46,7 @@ class Draws:
     # Moments
 
     def moment(self, register):
-        """Mostly soon; at times at the first bound or a second past it, or refused."""
+        """A moment: mostly soon; sometimes the next bound or a second after it; sometimes one that is refused."""
         last, self.at_bound = max(register.last, self.plan.start), False
         if self.one_in(self.plan.leaps):
             return min(last + self.below(self.plan.leap), LAST_SECOND)
@@ -69,7 +69,7 @@ class Draws:
     # Values as text
 
     def id(self, rows):
-        """Near the last of so many; now and then any, or of none of them."""
+        """An id: mostly one of the last of so many rows; sometimes any one, or one that no row has."""
         case = self.below(12)
         if case == 0:
             return self.below(rows + 3)
@@ -87,12 +87,12 @@ class Draws:
         return self.any(list(register.certificates)) if register.certificates and not self.one_in(8) else self.new_serial()
 
     def serial(self, number):
-        """In one of its texts: letters large or small, zeros in front, or not."""
+        """A serial number in one of its spellings: with capital or small letters, with or without leading zeros."""
         text = f"{number:x}"
         text = text.zfill(self.any((1, len(text) + len(text) % 2, 40, len(text) + 1)))[-40:]
         return text.upper() if self.one_in(3) else text
 
-    # Commands, as the words behind the moment
+    # Commands, as the words after the moment
 
     def command(self, register, now):
         word = self.random.choices(WORDS, self.plan.weights)[0]
@@ -113,7 +113,7 @@ class Draws:
         return f"order {self.number(self.id(len(register.subscribers)))} {self.number(days)}"
 
     def row(self, register, now):
-        """A certificate of a late order, at times one that stands registered, or with a fault."""
+        """A certificate of a recent order; sometimes one that is already registered, or one with a mistake."""
         if self.one_in(16) and register.certificates:
             it = self.any(list(register.certificates.values()))
             return it.order, it.serial, it.not_before, it.not_after
@@ -124,7 +124,7 @@ class Draws:
         if self.at_step and left:
             order = max(left, key=lambda it: register.orders[it - 1].days)
         longest = DAY * self.longest(register, order, since)
-        # Where a step of the schedule begins the days that it allows are tried.
+        # Where a step of the schedule begins, the validity is mostly as long as the step allows, or a second longer.
         case = self.any((1, 2, 5)) if self.at_step else self.below(12)
         ends = {0: since - 1, 1: since + longest, 2: since + longest - 1, 3: now - 1, 4: now}
         until = ends[case] if case in ends else since + self.below(longest)
@@ -139,7 +139,7 @@ class Draws:
         return 398
 
     def not_before(self, register, now):
-        """Now, soon, lately, or where a step of the schedule begins."""
+        """A notBefore: now, soon, recently, or where a step of the schedule begins."""
         case = self.below(9)
         since, self.at_step = now, False
         if case == 0:
@@ -157,7 +157,7 @@ class Draws:
         return f"register {self.number(order)} {self.serial(serial)} {text_of(since)} {text_of(until)}"
 
     def wanted(self, register):
-        """The serial number of a late certificate, at times of any or of none; and a ground, at times none."""
+        """The serial number of a recent certificate, sometimes of any or of none; and a ground, sometimes one that is refused."""
         rows = list(register.certificates)
         place = self.id(len(rows))
         serial = rows[place - 1] if 1 <= place <= len(rows) else self.new_serial()
@@ -175,7 +175,7 @@ class Draws:
         return f"revoke {self.number(self.decided(register))}"
 
     def decided(self, register):
-        """A request that is to be decided, at times one that is declined."""
+        """The number of a request to decide, sometimes of one that is already declined."""
         declined = [i + 1 for i, it in enumerate(register.requests) if it.declined] if self.one_in(8) else []
         return self.any(declined) if declined else self.id(len(register.requests))
 
@@ -189,7 +189,7 @@ class Draws:
         return ("overdue", "next-crl", "counts")[case - 4]
 
     def words(self, register, now):
-        """A command, a query or an OCSP request, that can be read or not."""
+        """A command, a query or an OCSP request, or sometimes words that can't be read."""
         if self.at_bound and not self.one_in(3):
             return self.bound_words(register, now)
         if self.one_in(self.plan.bad):
@@ -202,7 +202,7 @@ class Draws:
         return self.command(register, now)
 
     def bound_words(self, register, now):
-        """What goes by what ends at this moment, or ended a second ago."""
+        """Words about a certificate or a deadline that ends at this moment, or ended a second ago."""
         ends = [it.serial for it in register.certificates.values() if now - it.not_after in (0, 1) and it.serial not in register.revocations]
         serials = [f"{it:x}" for it in ends]
         late = [i + 1 for i, it in enumerate(register.requests) if now - it.due in (0, 1) or it.serial in ends]
@@ -212,7 +212,7 @@ class Draws:
         return self.any(words)
 
     def bad_words(self, register, now):
-        """Words that mostly can't be read, each by one fault."""
+        """Words that mostly can't be read, each because of one mistake."""
         case = self.below(9)
         words = self.command(register, now).split(" ")
         if case == 0:
@@ -281,7 +281,7 @@ class Draws:
         return value(0x30, algorithm, value(0x04, name), value(0x04, key), value(0x02, self.octets(serial)))
 
     def octets(self, serial):
-        """The octets of a serial number; at times of one that no certificate has, or more than the fewest."""
+        """The octets of a serial number; sometimes of one that no certificate can have, or octets that are no INTEGER in DER."""
         case = self.below(30)
         if case == 0:
             return self.any((b"\0", b"\xff", b"\x80", b"\xff\x7f", b"\x80" + bytes(19), bytes(1) + b"\x80" + bytes(19), b"\x01" * 21, b"\x05" * 40))
@@ -397,9 +397,9 @@ class Draws:
 
 
 def next_bound(register, last):
-    """The first moment after which a certificate ends, a request is late or a CRL is old."""
+    """The first bound from `last` on: a certificate's notAfter, a request's deadline or the latest CRL's nextUpdate."""
     bounds = [it.not_after for it in register.certificates.values()] + [it.due for it in register.requests]
     bounds += [register.crls[-1] + register.policy.crl_life] if register.crls else []
-    # Where times in CRLs get another form, and the last moment before the clock's end, once they are near.
+    # Less than a day before them: the moment at which times in CRLs get another form, and the last moment before the clock's end.
     bounds += [it for it in (YEAR_2050, CLOCK_END - 1) if it - last < DAY]
     return min((it for it in bounds if it >= last), default=last)

@@ -8,7 +8,7 @@ from urllib.parse import unquote_to_bytes
 from . import crls, lines, moments, ocsp
 from .register import GROUNDS, Refused, refuse
 
-# Of 413 the older phrase (RFC 7231 6.5.11).
+# 413 has its older phrase (RFC 7231 6.5.11).
 PHRASES = {
     200: "OK", 400: "Bad Request", 404: "Not Found", 405: "Method Not Allowed", 409: "Conflict", 411: "Length Required", 413: "Payload Too Large",
     429: "Too Many Requests", 431: "Request Header Fields Too Large", 503: "Service Unavailable",
@@ -18,7 +18,7 @@ LONGEST_BODY = 65_536
 
 
 def request(method, target, fields=(), body=b""):
-    """The bytes of a request; its length is among its fields."""
+    """The bytes of a request. Its Content-Length must be one of `fields`."""
     head = [f"{method} {target} HTTP/1.1", *fields, "", ""]
     return "\r\n".join(head).encode("latin-1") + body
 
@@ -71,7 +71,7 @@ def answer(register, now, method, target, fields=(), body=b""):
 
 
 def route(path):
-    """The method that a path has, and what answers there."""
+    """The method that the path's route has, and the function that answers there."""
     _, first, *rest = path.split("/", 2)
     one = rest[0] if rest and rest[0] and "/" not in rest[0] else None
     if first == "ocsp" and rest and rest[0]:
@@ -88,12 +88,12 @@ def answered(register, now, body):
 
 
 def ocsp_by_get(register, now, text):
-    """Percent-decoded, then base64 with padding (RFC 6960 A.1, RFC 4648 4)."""
+    """The response to a text that is percent-decoded, and then must be base64 with padding (RFC 6960 A.1, RFC 4648 4)."""
     decoded = unquote_to_bytes(text)
     given = None
     if BASE64.fullmatch(decoded) and len(decoded) % 4 == 0:
         given = base64.b64decode(decoded)
-        # The bits behind the last byte are zero.
+        # The bits after the last byte must be zero.
         given = given if base64.b64encode(given) == decoded else None
     if given is None:
         return response(now, 200, ocsp.MALFORMED, kind="application/ocsp-response")

@@ -1,4 +1,4 @@
-"""The lines of scripts, of the counter and of imports, and the lines of their replies."""
+"""The lines of scripts, of the control socket and of imports, and their replies."""
 
 import csv
 import io

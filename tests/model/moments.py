@@ -24,7 +24,7 @@ def text_of(seconds):
 
 
 def read(text):
-    """The seconds of a moment's text (bytes); None where it is none."""
+    """The seconds of a moment's text (bytes); None if the text is not a moment."""
     parts = FORM.fullmatch(text)
     if not parts:
         return None
@@ -36,6 +36,6 @@ def read(text):
 
 
 def http_date(seconds):
-    """As in a Date field (RFC 9110 5.6.7)."""
+    """The text of a moment in a Date field (RFC 9110 5.6.7)."""
     it = date_of(seconds)
     return f"{DAYS[it.weekday()]}, {it.day:02} {MONTHS[it.month - 1]} {it.year:04} {it.hour:02}:{it.minute:02}:{it.second:02} GMT"

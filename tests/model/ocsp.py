@@ -1,4 +1,4 @@
-"""OCSP requests read, and the bytes of their responses (RFC 6960 4.1, 4.2)."""
+"""Reads OCSP requests, and writes their responses (RFC 6960 4.1, 4.2)."""
 
 import hashlib
 
@@ -36,7 +36,7 @@ def read_extensions(written):
 
 
 def read_id(contents):
-    """The serial number where a CertID of these contents names a certificate of the issuer, else None."""
+    """The serial number if a CertID with these contents names a certificate of the issuer, else None."""
     _, algorithm, rest = take(contents, 0x30)
     _, identifier, parameters = take(algorithm, 0x06)
     if parameters:
@@ -46,7 +46,7 @@ def read_id(contents):
     _, key, rest = take(rest, 0x04)
     octets = whole(rest, 0x02)
     wants(identifier and octets)
-    # The fewest octets (X.690 8.3.2).
+    # An INTEGER has the fewest octets (X.690 8.3.2).
     wants(len(octets) == 1 or not (octets[0] == 0 and octets[1] < 128 or octets[0] == 255 and octets[1] >= 128))
     serial = int.from_bytes(octets, "big", signed=True)
     hashed = {SHA1_NAMED: "sha1", SHA256_NAMED: "sha256"}.get(identifier)
@@ -57,7 +57,7 @@ def read_id(contents):
 
 
 def read_request(request):
-    """The CertIDs of a request, each with the serial number that it names or None, and the nonce that is repeated."""
+    """The CertIDs of a request, each with the serial number that it names or None, and the nonce that the response repeats."""
     wants(len(request) <= LONGEST)
     _, message, signature = take(whole(request, 0x30), 0x30)
     if signature:

@@ -1,39 +1,39 @@
-"""The plans of the days: each stresses rules, bounds or sizes that the others pass over."""
+"""The plans of the days: each tests rules, bounds or sizes that the others do not reach."""
 
 from dataclasses import dataclass, replace
 
 from .moments import CLOCK_END, DAY, YEAR_2050
 
 YEAR_2026 = 1_767_225_600
-# The first moment that 32 bits don't hold.
+# The first moment that does not fit into 32 bits.
 YEAR_2106 = 2**32
 
 
 @dataclass(frozen=True)
 class Plan:
-    # How many parts there are, each with so many lines of a script, an import, and so many exchanges of an open desk; in memory one script alone.
+    # The number of parts, each with `lines` lines of a script, an import, and `exchanges` exchanges with an open desk; in memory one script only.
     parts: int = 4
     lines: int = 480
     exchanges: int = 40
     in_memory: bool = False
-    # The first moment; the most seconds that mostly pass; one moment in so many comes after a leap, of so many seconds at most.
+    # The first moment; the most seconds that usually pass. One moment in `leaps` comes after a leap of at most `leap` seconds.
     start: int = YEAR_2026
     pace: int = DAY
     leaps: int = 60
     leap: int = 60 * DAY
-    # One moment in so many is one at which something ends, or the second past it, and has a CRL at times.
+    # One moment in `bounds` is one at which something ends, or the second after it, and sometimes has a CRL.
     bounds: int = 24
-    # One step in so many takes certificates from their orders to their revocations, or to their registrations alone, which last so many seconds.
+    # One step in `lives` orders and registers certificates that last at most `lasts` seconds, and also revokes them if `are_revoked`.
     lives: int = 100
     lasts: int = 30 * DAY
     are_revoked: bool = True
-    # How often each comes: subscriber, order, register, request, decline, revoke, crl.
+    # The relative frequencies of subscriber, order, register, request, decline, revoke and crl.
     weights: tuple = (8, 20, 22, 14, 8, 14, 6)
-    # One line in so many can't be read; one in so many queries; one in so many asks by OCSP.
+    # One line in `bad` can't be read; one in `queries` is a query; one in `ocsp` is an OCSP request.
     bad: int = 40
     queries: int = 3
     ocsp: int = 8
-    # The longest validities in days by the moments from which they hold: at first, and then those that are set.
+    # The schedules of longest validities, in days by the moments from which they apply: the first one, and those that are set later.
     schedules: tuple = (((0, 398),), ((0, 47),))
     crl_life: int = 691_200
     ocsp_life: int = 345_600
@@ -42,7 +42,7 @@ class Plan:
 
 USUAL = Plan()
 CAP_OF_1 = replace(USUAL, parts=3, lines=300, exchanges=20, cap=1, crl_life=1, weights=(6, 10, 20, 14, 3, 3, 4))
-# From 2026 on in a schedule whose steps change it.
+# A schedule whose steps begin in the first 60 days of 1970.
 STEPS = ((0, 30), (20 * DAY, 398), (60 * DAY, 15))
 
 PLANS = {

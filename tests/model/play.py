@@ -1,4 +1,4 @@
-"""Plays a day's steps on the program, finds the first answer that is another, and makes a day with one smaller."""
+"""Plays a day's steps on the program, finds the first answer that differs from the model's, and then shortens the day."""
 
 import shutil
 import tempfile
@@ -25,7 +25,7 @@ class Player:
         return program.run(words, given, cwd=self.room, timeout=600)
 
     def answers(self, steps):
-        """What each step is answered; what is not there is missing."""
+        """The program's answer to each step; None if there is none."""
         if not self.plan.in_memory:
             self.make()
         told = []
@@ -69,7 +69,7 @@ class Player:
         return ran.out if (ran.status, ran.err) == (0, b"") else ending(ran)
 
     def open(self, steps):
-        """The register is open under a clock that is set before each exchange."""
+        """Runs the steps on an open desk, whose clock is set before each step."""
         told = []
         self.clock.write_text(str(steps[0][1]))
         (self.room / "counter").unlink(missing_ok=True)
@@ -100,7 +100,7 @@ class Player:
 
 
 def ending(ran):
-    """What stands for a step that ended otherwise than it must."""
+    """The answer of a step if the program did not end as it must."""
     return b"status %d, standard error %r, standard output %r" % (ran.status, ran.err[-300:], ran.out[-300:])
 
 
@@ -114,13 +114,13 @@ def played(plan, steps):
 
 
 def difference(wanted, got):
-    """The place of the first answer that is another; None where there is none."""
+    """The index of the first answer that differs; None if none does."""
     got = list(got) + [None] * (len(wanted) - len(got))
     return next((i for i, (a, b) in enumerate(zip(wanted, got)) if a != b), None)
 
 
 def fewest(plan, steps, seconds=None, tell=lambda text: None):
-    """The fewest of these steps that are found, of which some answer still is another."""
+    """The steps without as many as possible, so that some answer still differs."""
     return smaller(plan, steps, lambda some: difference(days.answers(plan, some), played(plan, some)) is not None, seconds, tell)
 
 
@@ -145,7 +145,7 @@ def shown(step):
 
 
 def text(line):
-    """A line as it is where it can be printed, else as Python writes its bytes."""
+    """A line as it is if it can be printed, else as Python writes its bytes."""
     plain = line.decode("latin-1")
     return plain if plain.isascii() and plain.isprintable() else repr(line)[1:]
 
@@ -157,7 +157,7 @@ def answer_shown(told):
 
 
 def report(plan, steps, again):
-    """The steps of a difference, what was wanted and what came."""
+    """A report of a difference: the steps, the expected answer and the actual one."""
     wanted, got = days.answers(plan, steps), played(plan, steps)
     place = difference(wanted, got)
     lines = [f"  {shown(it)}" for it in steps]
@@ -172,7 +172,7 @@ def report(plan, steps, again):
 
 
 def look(plan, name, seed, seconds=None, tell=lambda text: None):
-    """Plays the day of a plan and a seed; the day, and None or how it differs, made smaller for at most so many seconds."""
+    """Plays the day of a plan and a seed. Returns the day, and None or a report of its first difference, which it shortens for at most `seconds`."""
     day = days.Day(plan, seed)
     place = difference(day.wanted, played(plan, day.steps))
     if place is None:

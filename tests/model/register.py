@@ -6,7 +6,7 @@ from dataclasses import dataclass, field
 
 from .moments import CLOCK_END, DAY, text_of
 
-# The words for grounds: within how many seconds a request is to be decided, and the reasonCode.
+# For each ground the seconds within which a request must be decided, and the reasonCode.
 GROUNDS = {
     b"asked": (DAY, 0),
     b"unauthorized": (DAY, 9),
@@ -35,7 +35,7 @@ def refuse(case, line):
 
 @dataclass
 class Policy:
-    """Longest validities in days by the moments from which they hold, the lives of CRLs and of OCSP answers, and the most rows of a table."""
+    """The longest validities, in days by the moments from which they apply; the lives of CRLs and OCSP responses; and the row limit."""
 
     schedule: tuple = ((0, 398),)
     crl_life: int = 691_200
@@ -83,7 +83,7 @@ class Revocation:
 class Register:
     policy: Policy = field(default_factory=Policy)
     last: int = 0
-    # Names and serial numbers are looked up as keys, and nothing else is kept by them.
+    # Subscribers by name, and below certificates and revocations by serial number.
     subscribers: dict = field(default_factory=dict)
     orders: list = field(default_factory=list)
     certificates: dict = field(default_factory=dict)
@@ -99,18 +99,18 @@ class Register:
     accepted: int | None = None
 
     def closed(self):
-        """An open desk forgets both when it is closed."""
+        """Closes an open desk, which forgets `recent` and `accepted`."""
         self.recent, self.accepted = [], None
 
     def is_ahead(self, now):
-        """Whether the clock is more than 30 days past the last accepted moment and past the moment that the operator accepted: an open desk refuses commands."""
+        """Whether the clock is over 30 days after the last accepted moment and the one that the operator accepted. A desk then refuses commands."""
         return self.last != 0 and now - self.last > MOST_AHEAD and (self.accepted is None or now - self.accepted > MOST_AHEAD)
 
     def identify(self, octets):
         self.identifiers.append((len(self.crls) + 1, octets))
 
     def identifier(self, number):
-        """The issuer's own key identifier that a CRL has; None where it has none."""
+        """The issuer's own key identifier that a CRL has; None if it has none."""
         return next((octets for first, octets in reversed(self.identifiers) if first <= number), None)
 
     def clock(self, now):
@@ -120,7 +120,7 @@ class Register:
     def room(self, rows):
         refuse(len(rows) >= self.policy.cap, "E03 full")
 
-    # Commands: each is run after the clock was looked at, and gives its reply's line.
+    # Commands: `run` calls each after it has checked the clock, and each returns its reply.
 
     def subscriber(self, now, name):
         refuse(not NAME.fullmatch(name), "E04 bad-name")
@@ -202,7 +202,7 @@ class Register:
     # CRLs
 
     def is_on(self, row, number):
-        """Whether the CRL of this number lists a revocation: its first number is reached, and no CRL from it up to below came after the end."""
+        """Whether the CRL of this number lists a revocation: from its first CRL up to the first one that was issued after the certificate's end."""
         if row.first > number:
             return False
         return max(self.crls[row.first - 1 : number - 1], default=0) <= self.certificates[row.serial].not_after
@@ -211,11 +211,11 @@ class Register:
         return [row for row in self.revocations.values() if self.is_on(row, number)]
 
     def last_listing(self, row):
-        """The number of the first CRL from the first one on that was issued past the certificate's end."""
+        """The number of the last CRL that lists a revocation: the first one after the certificate's end. None if there is none yet."""
         end = self.certificates[row.serial].not_after
         return next((i + 1 for i in range(row.first - 1, len(self.crls)) if self.crls[i] > end), None)
 
-    # Queries: each is asked after the clock was looked at.
+    # Queries: `ask` calls each after it has checked the clock.
 
     def status_of(self, now, serial):
         if serial not in self.certificates:
@@ -257,7 +257,7 @@ class Register:
         dues += [it.at + DAY for it in self.revocations.values() if it.first > len(self.crls)]
         return f"next-crl {text_of(min(dues))}"
 
-    # All
+    # Commands and queries
 
     def run(self, now, command, *given):
         """A command's reply at a moment; an accepted one sets the last accepted moment."""

@@ -1,18 +1,18 @@
-"""A list of steps made smaller, as long as something still holds of it."""
+"""Shortens a list of steps, as long as a condition still holds for it."""
 
 import re
 import time
 
 from . import days
 
-# The words for what a reply numbers, and the commands whose first field is such a number.
+# The replies that give a number, and the commands whose first field is such a number.
 MADE = re.compile(rb"(subscriber|order|request|crl) (\d+)(?: .*)?")
 NAMED_BY = {b"order": b"subscriber", b"register": b"order", b"decline": b"request", b"revoke": b"request"}
 
 
 def smaller(plan, steps, still, seconds=None, tell=lambda text: None):
-    """The fewest steps that are found, by leaving out halves and then fewer, down to single ones, while `still(steps)`; or those that are left
-    after so many seconds."""
+    """Leaves out half of the steps, then fewer, down to single ones, while `still(steps)` holds. Returns the steps that are left, after so many
+    seconds at the latest."""
     end = time.monotonic() + (seconds or 1e9)
     size = max(len(steps) // 2, 1)
     while True:
@@ -29,7 +29,7 @@ def smaller(plan, steps, still, seconds=None, tell=lambda text: None):
 
 
 def without(plan, steps, at, size):
-    """The steps without some: with the numbers of what comes later moved up, and as they are."""
+    """The steps without some: first with the numbers in later steps adapted, then with the later steps as they are."""
     before, after = steps[:at], steps[at + size :]
     made = made_by(days.answers(plan, steps[: at + size])[at:], steps[at : at + size])
     if any(made.values()):
@@ -47,7 +47,7 @@ def made_by(told, steps):
 
 
 def renumbered(step, made):
-    """A step whose numbers are as many less as there were numbers below them that are no more."""
+    """A step with each number reduced by how many lower numbers the omitted steps made."""
     less = lambda kind, number: number - sum(1 for it in made[kind] if it < number)
 
     def line(text, place):
