@@ -352,7 +352,10 @@ def answers_that_wait_hold_64_mib_together(t):
     desk.loses()
     third = asks(CRL)
     desk.loses(first, why="crowded")
-    t.true(len(read_all(asks(CRL.replace(b"1 ", b"2 ", 1)))) > too_long, "the last did not get all of its answer")
+    last = asks(CRL.replace(b"1 ", b"2 ", 1))
+    # The desk has evicted both before it answers another request.
+    t.same([len(read_all(it)) < size for it in (second, third)], [True] * 2, "whether the evicted clients got a part of their answers")
+    t.true(len(read_all(last)) > too_long, "the last did not get all of its answer")
     desk.loses(first, second, third, why="crowded")
 
 

@@ -98,6 +98,8 @@ def a_path_at_the_control_socket_is_of_the_desks_own_folder(t):
         it.peer.sendall(b"copy elsewhere/copy.db\r\n")
         copied(t, it.file.readline().decode(), "elsewhere/copy.db")
     copied(t, t.done("at", "counter", given=f"copy {t.room / 'with a blank.db'}\n"), "with a blank.db")
+    # All that follows the first space is the path, with spaces at its ends.
+    copied(t, t.done("at", "counter", given="copy  ends in blanks.db \n"), " ends in blanks.db ")
 
 
 def a_file(path):

@@ -2,6 +2,7 @@
 
 import contextlib
 import os
+import sqlite3
 import subprocess
 
 from lib import authority, faults, program
@@ -55,9 +56,9 @@ def a_log_that_may_be_there_is_left_alone(t):
     t.same(list(t.room.iterdir()), [], "what is left")
 
 
-@test
-def a_register_that_another_program_has_open_is_not_removed(t):
-    """Another desk opens the register before `desk init` finds that nobody reads its reply."""
+def printing_nowhere(t):
+    """Starts `desk init` with a full pipe for its output. Returns the process, once the register is complete, and the pipe's other end. When that is
+    closed, the process finds that nobody reads its reply, and removes the register."""
     reads, writes = os.pipe()
     os.set_blocking(writes, False)
     with contextlib.suppress(BlockingIOError):
@@ -68,12 +69,30 @@ def a_register_that_another_program_has_open_is_not_removed(t):
     t.callback(it.kill)
     os.close(writes)
     authority.until(lambda: t.desk("audit", "ca.db").status == 0, "the register to be complete")
+    return it, reads
+
+
+@test
+def a_register_that_another_program_has_open_is_not_removed(t):
+    """Another desk opens the register before `desk init` finds that nobody reads its reply."""
+    it, reads = printing_nowhere(t)
     desk = t.open()
     os.close(reads)
     t.same((it.communicate(timeout=program.LONGEST)[1], it.returncode), (b"F5 write\n", 1), "the end of `desk init`")
     t.same(t.control().ask("subscriber acme"), "subscriber 1")
     desk.end()
     t.same(t.desk("list", "ca.db", "subscribers").lines[1:], ["1,acme"], "the register")
+
+
+@test
+def a_register_that_sqlite_reads_is_not_removed(t):
+    """SQLite holds a shared lock while it reads, and in WAL mode as long as it has the file open."""
+    it, reads = printing_nowhere(t)
+    with contextlib.closing(sqlite3.connect(t.room / "ca.db", isolation_level=None)) as other:
+        t.same(other.execute("SELECT count(*) FROM subscriber").fetchall(), [(0,)], "what SQLite reads")
+        os.close(reads)
+        t.same((it.communicate(timeout=program.LONGEST)[1], it.returncode), (b"F5 write\n", 1), "the end of `desk init`")
+        t.true((t.room / "ca.db").exists(), "the register was removed while SQLite had it open")
 
 
 @each({"one sync": "", "each from then on": "+"}, seconds=3)

@@ -2,6 +2,7 @@
 that other tests leave out: times in the log, in replies and on a terminal, and counts of lost connections."""
 
 import base64
+import collections
 import contextlib
 import fcntl
 import os
@@ -89,28 +90,26 @@ def clients_that_connect_before_the_mode_is_set_are_disconnected(t):
 
 
 @test(seconds=4)
-def a_thousand_clients_that_connect_before_the_mode_is_set_are_disconnected(t):
-    """If the socket's queue takes fewer clients, the test connects only those."""
-    _, hard = resource.getrlimit(resource.RLIMIT_NOFILE)
-    if hard < 2_000 and hard != resource.RLIM_INFINITY:
-        raise Skipped("the system has no descriptors for 1,000 connections: ulimit -n 2000")
-    resource.setrlimit(resource.RLIMIT_NOFILE, (2_000, hard))
+def all_clients_that_connect_before_the_mode_is_set_are_disconnected(t):
+    """They fill the socket's queue: one more than net.core.somaxconn. A client that has closed its connection still has its place there."""
     t.register()
     with ThreadPoolExecutor(1) as pool, contextlib.ExitStack() as clients:
-        opening, early = pool.submit(t.open, faults=faults.environment(slow_chmod=t.room / "connected")), []
+        opening, early = pool.submit(t.open, faults=faults.environment(slow_chmod=t.room / "connected")), collections.deque()
         authority.until(lambda: (t.room / "counter").is_socket(), "the socket")
         with contextlib.suppress(BlockingIOError):
-            while len(early) < 1_000:
+            while True:
                 client = clients.enter_context(socket.socket(socket.AF_UNIX))
                 client.setblocking(False)
                 client.connect(str(t.room / "counter"))
                 early.append(client)
+                if len(early) > 100:
+                    early.popleft().close()
         t.true(oct((t.room / "counter").stat().st_mode & 0o777) != "0o600", "the mode was set before the clients connected")
         (t.room / "connected").touch()
         opening.result()
         for it in reversed(early):
             it.settimeout(20)
-            t.same(it.recv(1), b"", f"what a client receives that connected before the mode was set, one of {len(early)}")
+            t.same(it.recv(1), b"", "what one of the last clients receives that connected before the mode was set")
 
 
 @test
@@ -267,6 +266,42 @@ def a_reply_of_more_than_8_kib_is_written_whole(t):
     reply = t.control().ask(line)
     t.true(len(reply) > 8_192, f"the reply has only {len(reply)} characters")
     t.same(t.done("at", "counter", given=f"{line}\ncounts\n"), f"{reply}\ngood 0 revoked 0 expired 0\n")
+
+
+@test(seconds=5)
+def at_writes_more_than_a_million_replies(t):
+    """In place of a desk, the test takes the lines of `desk at`, and sends all replies at once."""
+    lines, reply = 1_000_001, b"why nothing\n"
+    server = t.enter_context(socket.socket(socket.AF_UNIX))
+    server.bind(str(t.room / "counter"))
+    server.listen(1)
+
+    def takes(peer):
+        while peer.recv(1 << 20):
+            pass
+
+    def serves():
+        peer, _ = server.accept()
+        with peer, ThreadPoolExecutor(1) as taker:
+            taker.submit(takes, peer)
+            with contextlib.suppress(BrokenPipeError, ConnectionResetError):
+                peer.sendall(reply * lines)
+
+    with ThreadPoolExecutor(1) as pool:
+        pool.submit(serves)
+        ran = t.desk("at", "counter", given=b"why\n" * lines)
+    t.same((ran.status, ran.err, ran.out.count(reply)), (0, b"", lines), "the status, standard error, and how many replies are written")
+
+
+@test(seconds=2)
+def a_file_of_more_than_a_million_empty_lines(t):
+    """The rows of certificates to revoke come after the empty lines."""
+    t.register()
+    t.clock(DAY)
+    t.open()
+    (t.room / "rows.csv").write_text("\n" * 1_000_001 + revoked_rows(2))
+    ran = t.desk("at", "counter", "--revoke", "rows.csv")
+    t.same((ran.status, ran.lines, ran.err), (3, ["E14 unknown-serial"] * 2, b"refused\n"))
 
 
 @test(seconds=10)
@@ -457,6 +492,23 @@ def a_client_is_accepted_although_accept_failed_once(t, error, place):
     t.same((faults.counted(t.room / "count")["met"], desk.process.poll()), (1, None), "injected faults, and the exit status of the desk")
 
 
+@test(seconds=2)
+def a_control_connection_is_accepted_once_there_is_a_descriptor_again(t):
+    """The machine or the desk had no descriptor for it for a time. Nobody has a connection to the port."""
+    t.register()
+    desk = t.open("ca.db", faults=faults.environment(count=t.room / "count"))
+    pid, counted = desk.process.pid, lambda kind: faults.counted(t.room / "count")[kind]
+    # The desk polls for the second time after its calls of accept(2) at the start.
+    authority.until(lambda: counted("poll") >= 2, "the desk to wait for clients")
+    before, usual = counted("accept"), resource.prlimit(pid, resource.RLIMIT_NOFILE)
+    resource.prlimit(pid, resource.RLIMIT_NOFILE, (len(os.listdir(f"/proc/{pid}/fd")), usual[1]))
+    with Control(t.room / "counter", timeout=20) as control:
+        control.peer.sendall(b"counts\n")
+        authority.until(lambda: counted("accept") > before, "accept(2) to fail")
+        resource.prlimit(pid, resource.RLIMIT_NOFILE, usual)
+        t.same(control.file.readline(), b"good 0 revoked 0 expired 0\n", "the reply")
+
+
 # Time
 
 
@@ -542,6 +594,34 @@ def seldom_wakes_up(t, most):
     t.true(min(found) <= most, f"polls in each second: {found}; at most {most} are right")
 
 
+@test(seconds=2)
+def desk_serve_seldom_wakes_up_while_it_waits_for_a_client(t):
+    t.register()
+    t.open("ca.db", "--requests", 1, command="serve", faults=faults.environment(count=t.room / "count"))
+    seldom_wakes_up(t, 1)
+
+
+@test(seconds=2)
+def a_desk_polls_at_most_a_thousand_times_for_a_signature_before_it_waits(t):
+    """The signer hangs. Polls without waiting take processor time."""
+    polls = lambda: faults.counted(t.room / "count")["poll"]
+    ends = threading.Event()
+    t.callback(ends.set)
+    t.register(key=P256_KEY)
+    signers = t.enter_context(Signers(t.room / "ca.sign", lambda message: ends.wait(60) and ANY_SIGNATURE))
+    desk = t.open("ca.db", *SIGNING, faults=faults.environment(count=t.room / "count"))
+    with ThreadPoolExecutor(1) as pool:
+        before = polls()
+        answer = pool.submit(desk.ask, "POST", "/ocsp", asks(1))
+        t.true(signers.until(1), "no signature is requested")
+        # Time in which the desk could poll much more often.
+        time.sleep(0.5)
+        count = polls() - before
+        ends.set()
+        t.true(ANY_SIGNATURE in answer.result(), "the answer has no signature")
+    t.true(count <= 1_000, f"{count} polls")
+
+
 @test(seconds=3)
 def a_desk_seldom_wakes_up_once_a_signer_without_room_has_had_its_ten_seconds(t):
     t.register(key=P256_KEY)
@@ -617,6 +697,28 @@ def a_client_that_comes_after_a_pause_has_30_seconds(t):
     t.same(parted(read_all(client))[0], 200, "its answer")
 
 
+@test(seconds=2)
+def a_late_request_that_is_whole_when_the_desk_looks_is_not_lost(t):
+    """The client sends the rest of its request after 30 seconds, while the desk opens the folder of a copy. Then the desk reads the rest, and after
+    that looks for connections whose time is up."""
+    t.register()
+    (t.room / "copies").mkdir()
+    have_passed(t, 0)
+    desk = t.open("ca.db", "--log", faults=faults.environment(passed=t.room / "passed", slow_open=t.room / "goes-on", only="copies"))
+    with desk.connect() as client, ThreadPoolExecutor(1) as pool:
+        client.sendall(COUNTS[:9])
+        authority.until(lambda: program.is_read(client), "the desk to read the first bytes")
+        copy = pool.submit(t.control().ask, "copy copies/copy.db")
+        authority.until(lambda: (t.room / "goes-on.waits").exists(), "the desk to open the folder")
+        have_passed(t, 30_000)
+        client.sendall(COUNTS[9:])
+        (t.room / "goes-on").touch()
+        t.true(copy.result().startswith("copied "), "the open register is not copied")
+        t.same(parted(read_all(client))[0], 200, "its answer")
+    t.same(lost_by(desk), {"broken": 0, "late": 0, "crowded": 0, "memory": 0}, "the metrics")
+    t.same([it for it in desk.end().err_lines if " lost " in it], [], "lost connections in the log")
+
+
 @test
 def a_connection_ends_with_its_answer(t):
     """If nothing follows a request, the desk closes the connection right after the answer. The elapsed time does not change."""
@@ -667,6 +769,24 @@ def a_client_that_sends_more_during_a_long_answer_gets_all_of_it(t):
         time.sleep(0.3)
         got += len(read_all(client))
     t.true(got > 12_000_000, f"{got} bytes of more than 12,000,000")
+
+
+@test
+def desk_serve_accepts_nobody_after_its_last_request(t):
+    """While the client of the last request still reads its answer, a silent client connects. The desk does not wait for this client."""
+    t.register(lines=f"{DAY} crl\n{DAY} crl\n")
+    t.sql("ca.db", "UPDATE crl SET der = zeroblob(12000000) WHERE number = 1")
+    desk = t.open("ca.db", "--requests", 1, command="serve")
+    with desk.connect() as last, socket.socket() as silent:
+        last.sendall(b"GET /crl/1 HTTP/1.1\r\n\r\n")
+        t.same(last.recv(1), b"H", "its answer has begun")
+        silent.connect(("127.0.0.1", desk.port))
+        silent.sendall(COUNTS[:9])
+        # Time in which the desk could accept it.
+        time.sleep(0.3)
+        t.true(len(read_all(last)) > 12_000_000, "the last answer is cut off")
+        with t.at_once("the end of the desk"):
+            t.same(desk.wait().status, 0, "the status of `serve`")
 
 
 @test
@@ -861,7 +981,8 @@ def a_terminal_shows_the_rows_and_crls_of_an_audit(t):
     t.true(all(found), f"the terminal shows another line: {shown}")
     rows, crls = zip(*((int(it[1]), int(it[2])) for it in found))
     t.same((list(rows), list(crls)), (sorted(rows), sorted(crls)), "rows and CRLs, which never decrease")
-    t.true(rows[-1] >= 50, f"only {rows[-1]} rows, of 50 certificates and more")
+    tables = ("office", "subscriber", "orders", "cert", "request", "revocation", "crl", "standing", "kept", "listed")
+    t.same(rows[-1], sum(t.sql("ca.db", f"SELECT count(*) FROM {it}")[0][0] for it in tables), "rows of the last line, and of these tables")
     t.same(crls[-1], 4, "CRLs")
     t.same(t.desk("audit", "ca.db", faults=faults.environment(tick=1_000)).err, b"", "standard error that is no terminal")
     (t.room / "passed").write_bytes(bytes(8))
@@ -963,20 +1084,55 @@ def a_lost_control_connection_is_counted(t):
     authority.until(lambda: lost_by(desk) == wanted, "the lost connection in the metrics", seconds=20)
 
 
-@test(seconds=2)
-def a_connection_that_the_kernel_does_not_watch_is_lost_as_broken(t):
+@each({"an HTTP connection": False, "a control connection": True}, seconds=2)
+def a_connection_that_the_kernel_does_not_watch_is_lost_as_broken(t, is_control):
     t.register()
     usual = t.open("ca.db", faults=faults.environment(count=t.room / "usual"))
     before = faults.counted(t.room / "usual")["watch"]
     usual.end()
     os.remove(t.room / "counter")
     desk = t.open("ca.db", "--log", faults=faults.environment(count=t.room / "count", fail=f"watch:{before + 1}"))
-    with desk.connect() as client:
+    with t.control().peer if is_control else desk.connect() as client:
         t.same(read_all(client), b"", "what the client receives")
     lost = lambda: [it.rsplit(" lost ", 1)[1] for it in desk.log if " lost " in it]
     authority.until(lost, "a line of the log for the lost connection", seconds=20)
     t.same((lost(), lost_by(desk)), (["broken"], {"broken": 1, "late": 0, "crowded": 0, "memory": 0}), "why it was lost, in the log and in the metrics")
     t.same(faults.counted(t.room / "count")["met"], 1, "injected faults")
+
+
+# Where the client connects, what it sends, what it must get, and how many connections are lost.
+UNWATCHED = {
+    "a client at the control socket": ("counter", lambda: b"coun", lambda client: client.recv(100) == b"", 1),
+    "a client of a long answer": ("port", lambda: b"GET /crl/1 HTTP/1.1\r\n\r\n", lambda client: 0 < len(read_all(client)) < 12_000_000, 1),
+    "the signer of an answer": ("port", lambda: b"POST /ocsp HTTP/1.1\r\nContent-Length: %d\r\n\r\n" % len(asks(1)) + asks(1), lambda client: read_all(client).endswith(authority.INTERNAL), 0),
+    "the signer of a CRL": ("counter", lambda: b"crl\n", lambda client: client.recv(100) == b"F3 signer\n", 0),
+}
+
+
+@each(UNWATCHED, seconds=2)
+def a_connection_that_the_kernel_does_not_watch_holds_up_nobody(t, place, sent, is_given_up, lost):
+    """epoll_ctl(2) fails for the connection. The desk gives it up at once: in this test no time passes for it."""
+    t.register(key=P256_KEY, lines=f"{DAY} crl\n{DAY} crl\n")
+    t.sql("ca.db", "UPDATE crl SET der = zeroblob(12000000) WHERE number = 1")
+    t.clock(DAY)
+    t.enter_context(Signers(t.room / "ca.sign"))
+    usual = t.open("ca.db", *SIGNING, faults=faults.environment(count=t.room / "usual"))
+    before = faults.counted(t.room / "usual")["watch"]
+    usual.end()
+    os.remove(t.room / "counter")
+    have_passed(t, 0)
+    desk = t.open("ca.db", *SIGNING, faults=faults.environment(count=t.room / "count", passed=t.room / "passed", fail=f"watch:{before + 1}"))
+    # All that the client sends is there when the desk accepts its connection.
+    desk.process.send_signal(signal.SIGSTOP)
+    client = desk.connect() if place == "port" else t.control().peer
+    client.settimeout(20)
+    with client:
+        client.sendall(sent())
+        desk.process.send_signal(signal.SIGCONT)
+        with t.at_once("the end of its wait"):
+            t.true(is_given_up(client), "the client gets something else")
+    t.same(faults.counted(t.room / "count")["met"], 1, "injected faults")
+    t.same((lost_by(desk), t.control().ask("counts")), ({"broken": lost, "late": 0, "crowded": 0, "memory": 0}, "good 0 revoked 0 expired 0"), "lost connections, and another line")
 
 
 @test
@@ -1051,6 +1207,18 @@ def a_signer_that_reads_nothing_is_given_up_after_ten_seconds(t):
         t.true(seconds[0] >= TEN_SECONDS[0] and seconds[1] < TEN_SECONDS[1], f"it took {seconds[1]:.1f} s in place of ten")
 
 
+@test(seconds=2)
+def a_script_sends_a_long_message_in_pieces_of_32_kib(t):
+    """In a longer write, the kernel may apply the timeout to each part anew. Then a script could wait for hours for a signer that reads slowly."""
+    registers.make_revoked(t.room / "ca.db", 1_500, P256_KEY)
+    signer = t.signer()
+    ran, count = faults.run(t, ["script", "ca.db", *SIGNING], "2026-01-02T00:00:00Z crl\n", only="socket")
+    t.same((ran.status, ran.lines, len(signer.asked)), (0, ["crl 1 entries 1500"], 1), "status, reply, and messages to the signer")
+    (message,) = signer.asked
+    t.true(len(message) > 2 * 32_768, f"the message has only {len(message)} bytes")
+    t.true(count["write"] * 32_768 >= len(message), f"{len(message)} bytes in {count['write']} writes")
+
+
 @test(seconds=4)
 def a_script_waits_for_a_signer_whose_queue_is_full(t):
     t.register(key=P256_KEY)
@@ -1077,6 +1245,8 @@ def a_script_waits_for_a_signer_whose_queue_is_full(t):
         t.same((ran.status, ran.lines, ran.err), (0, ["crl 1 entries 0"], b""), "the CRL")
         attempts = faults.counted(t.room / "count")["connect"]
         t.true(attempts <= 100 * (time.monotonic() - begun) + 1, f"{attempts} attempts, some of them less than ten milliseconds apart")
+        # In the two seconds without room there are some two hundred, or fewer on a busy machine.
+        t.true(attempts > 5, f"only {attempts} attempts, so the script waits longer than it says")
 
 
 @contextlib.contextmanager
@@ -1216,6 +1386,27 @@ def a_signer_whose_queue_stays_full_has_ten_seconds(t, waits, fault):
             # After two answers, the event loop has made a whole iteration since the time was set.
             t.same([parted(desk.send(COUNTS))[0] for _ in range(2)], [200, 200])
         t.same(reply.result(20), fault)
+
+
+@test
+def a_signer_that_is_gone_after_nine_seconds_is_asked_for_the_next_line(t):
+    """The queue of the signer's socket is full, and after nine seconds nobody listens there. Only ten seconds begin a back-off."""
+    t.register(key=P256_KEY)
+    have_passed(t, 0)
+    line, connects = f"ocsp {asks(1).hex()}", lambda: faults.counted(t.room / "count")["connect"]
+    with ThreadPoolExecutor(1) as pool:
+        with full_queue(t):
+            desk = t.open("ca.db", *SIGNING, faults=faults.environment(passed=t.room / "passed", count=t.room / "count"))
+            control = t.control()
+            reply = pool.submit(control.ask, line)
+            authority.until(connects, "the desk to ask the signer")
+            have_passed(t, 9_000)
+            # After two answers, the event loop has made a whole iteration since the time was set.
+            t.same([parted(desk.send(COUNTS))[0] for _ in range(2)], [200, 200])
+        t.same(reply.result(), "ocsp 30030a0102", "internalError, since the signer is gone")
+    os.remove(t.room / "ca.sign")
+    t.enter_context(Signers(t.room / "ca.sign"))
+    t.true(ANY_SIGNATURE.hex() in control.ask(line), "the next line is not signed")
 
 
 @each(WAITS, seconds=2)

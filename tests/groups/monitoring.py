@@ -293,9 +293,9 @@ def an_answer_that_waits_for_its_signature(t):
     t.true(0.4 <= found["desk_exchange_seconds_sum"] <= 2 * (time.monotonic() - begun), f"seconds of both: {found['desk_exchange_seconds_sum']}")
 
 
-@test
-def a_disk_that_fails(t):
-    """/health reports the failing store until a command is entered. A query does not end this, since it writes nothing."""
+@each({"a command": ("subscriber acme", "subscriber 1"), "a schedule": ("schedule 1970-01-01T00:00:00Z=100", "schedule set")})
+def a_disk_that_fails(t, line, reply):
+    """/health reports the failing store until a command is entered or a schedule is set. A query does not end this, since it writes nothing."""
     base, files = t.register("base.db"), "ca.db-wal,ca.db"
     t.clock(DAY)
     faults.copy(base, t.room / "ca.db")
@@ -305,14 +305,14 @@ def a_disk_that_fails(t):
     # The first write after those of the opening fails.
     desk = t.open("ca.db", faults=faults.environment(only=files, fail=f"write:{faults.counted(t.room / 'count')['write'] + 1}"))
     with t.control() as control:
-        t.same(control.ask("subscriber acme"), "F2 store")
+        t.same(control.ask(line), "F2 store")
         t.same(health(t, desk), (503, {"crl": "at-once", "store": DAY}))
         t.clock(program.moment_of(FIRST + 5))
         t.same(control.ask("counts"), "good 0 revoked 0 expired 0")
         t.same(health(t, desk), (503, {"crl": "at-once", "store": DAY}), "after a query")
         t.same(metrics(t, desk)["desk_store_failing_since_timestamp_seconds"], FIRST)
-        t.same(control.ask("subscriber acme"), "subscriber 1")
-    t.same(health(t, desk), (503, {"crl": "at-once"}), "after a command was entered")
+        t.same(control.ask(line), reply)
+    t.same(health(t, desk), (503, {"crl": "at-once"}), f"after {line!r}")
 
 
 @test

@@ -6,6 +6,7 @@ import fcntl
 import os
 import pwd
 import random
+import re
 import select
 import shutil
 import signal
@@ -102,6 +103,13 @@ def openssl_verifies_what_it_signs(t, algorithm):
         if message or algorithm != "ed25519":
             verifies(t, it, message, signed)
     t.same((ended(process), (t.room / "ca.sign").exists()), ((0, []), False), "status, standard error, and whether its socket stays")
+
+
+@test
+def a_name_that_can_not_be_written_is_status_1(t):
+    it = Authority(t, "ecdsa-sha256")
+    ran = t.tried("sh", "-c", f"{native.signer()} {it.key} > /dev/full")
+    t.same((ran.returncode, ran.stdout), (1, b""), "status and output")
 
 
 NO_KEYS = {
@@ -546,6 +554,26 @@ def two_hundred_clients_at_once(t, count):
     t.same((len(native.children(process)), ended(process)), (count - 1, (0, [])), "its other processes, status, standard error")
 
 
+@test(seconds=2)
+def clients_connect_while_it_is_busy(t):
+    """A signer that is stopped accepts nobody for a while. Meanwhile the queue of its socket takes sixty clients, who all get their signatures afterwards."""
+    it = Authority(t)
+    process = started(t, it.key)
+    t.callback(process.send_signal, signal.SIGCONT)
+    process.send_signal(signal.SIGSTOP)
+    clients = []
+    for at in range(60):
+        client = t.enter_context(socket.socket(socket.AF_UNIX))
+        client.setblocking(False)
+        t.same(client.connect_ex(str(t.room / "ca.sign")), 0, f"the error of connect(2) for client {at}")
+        client.settimeout(program.LONGEST)
+        client.sendall(b"a message")
+        client.shutdown(socket.SHUT_WR)
+        clients.append(client)
+    process.send_signal(signal.SIGCONT)
+    t.same([at for at, client in enumerate(clients) if not program.read_all(client)], [], "clients without a signature")
+
+
 @test(seconds=3)
 def the_slowest_of_256_makes_room(t):
     """With 256 open connections, the signer closes one only if another client connects: the oldest one whose message is incomplete."""
@@ -893,6 +921,22 @@ def what_it_was_started_with(t):
     t.same(ended(process), (0, []), "ended by SIGTERM")
 
 
+@test(seconds=2)
+def it_notices_the_end_of_its_process_beside_that_of_another_child(t):
+    """A child from before exec(3) and a process of the signer end while the signer is stopped, so that it gets one SIGCHLD for both."""
+    it = Authority(t)
+    before = [sys.executable, "-c", "import os, subprocess, sys; subprocess.Popen(['sleep', '60']); os.execv(sys.argv[1], sys.argv[1:])"]
+    process = started(t, "--processes", 2, it.key, before=before)
+    others = native.children(process)
+    t.same(len(others), 2, "its children")
+    process.send_signal(signal.SIGSTOP)
+    for other in others:
+        os.kill(other, signal.SIGKILL)
+    authority.until(lambda: not any(map(native.is_there, others)), "the end of both")
+    process.send_signal(signal.SIGCONT)
+    t.same((process.wait(program.LONGEST), process.stderr.read()), (1, b"desk-signer: another process ended\n"), "status and standard error")
+
+
 @test(seconds=3)
 def a_socket_that_is_handed_over(t):
     """The test hands the socket over as systemd does: as descriptor 3, with LISTEN_FDS and LISTEN_PID in the environment."""
@@ -943,6 +987,16 @@ def its_memory_is_locked_and_never_dumped(t):
         t.same(core[4:6], ["0", "0"], "the limits of a core dump")
         if os.geteuid():
             t.same(Path(f"/proc/{number}/mem").stat().st_uid, 0, "the owner of /proc/NUMBER/mem, which is root if dumps are forbidden (proc(5))")
+
+
+@test(seconds=2)
+def it_is_built_for_an_attacker(t):
+    """The program that holds the key is loaded anywhere in memory, its tables of functions can't be written, its stack is no code and has canaries."""
+    need("readelf")
+    told = t.tool("readelf", "--wide", "--file-header", "--program-headers", "--dynamic", "--dyn-syms", native.signer()).decode()
+    for part in ("Type:                              DYN", "GNU_RELRO", "BIND_NOW", "PIE", "__stack_chk_fail"):
+        t.has(told, part, "readelf's output")
+    t.true(re.search(r"GNU_STACK .* RW  ", told), "the stack can be executed")
 
 
 @test(seconds=2)

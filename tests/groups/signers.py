@@ -769,6 +769,32 @@ def a_back_off_begins_though_the_line_began_a_little_later_than_its_ten_seconds(
     t.same(signer.asked, 1, "how often the signer was asked")
 
 
+@each({"an answer": ANY_SIGNATURE, "no answer": b""}, seconds=3)
+def what_comes_within_the_ten_seconds_begins_no_back_off(t, given):
+    """After 9.9 seconds the signer ends its connection, with a signature or without one. It is asked again for the next `ocsp` line."""
+    t.register(key=P256_KEY)
+    t.clock(MOMENT)
+    goes_on, asked = threading.Event(), []
+    t.callback(goes_on.set)
+
+    def answer(message):
+        asked.append(message)
+        if len(asked) > 1:
+            return ANY_SIGNATURE
+        goes_on.wait(60)
+        return given
+
+    t.enter_context(program.Signers(t.room / "ca.sign", answer))
+    desk, control = Passing(t, *P256), t.control()
+    with ThreadPoolExecutor(1) as pool:
+        late = pool.submit(is_signed, control)
+        authority.until(lambda: asked, "a request to the signer")
+        desk.advance(9_900)
+        goes_on.set()
+        t.same(late.result(), given != b"", "whether the line that waited is signed")
+    t.same(is_signed(control), True, "whether the next line is signed")
+
+
 @test(seconds=3)
 def a_crl_asks_a_signer_during_its_back_off(t):
     """While the signer hangs, a CRL waits for its own ten seconds. Once the signer answers, a CRL is issued at once, and `ocsp` lines are signed

@@ -14,7 +14,7 @@ from lib import authority, program, registers
 from lib.authority import INTERNAL, Authority, body_of
 from lib.passing import Passing
 from lib.program import ANY_SIGNATURE, P256_KEY, Signers
-from lib.trial import test
+from lib.trial import each, test
 
 SIGNING = ("--signer", "ca.sign", "--algorithm", "ecdsa-sha256")
 DAY = "2026-01-01T00:00:00Z"
@@ -93,6 +93,22 @@ def at_most_32_signatures_are_requested_at_once(t):
             t.true(names(part, 0x1100 + at), f"client {at} got the answer for another serial number")
             t.same(signature, own_signature(part), f"signature {at}")
     t.same(len(held.signers.asked), AT_ONCE + 8, "requested signatures")
+
+
+@test(seconds=2)
+def a_signature_is_requested_without_a_wait_for_another_event(t):
+    """The event loop waits up to a quarter of a second if nothing happens. The signature is requested before that, so the fastest of ten answers takes
+    less time."""
+    t.signer()
+    t.register(key=P256_KEY)
+    desk, took = t.open("ca.db", *SIGNING), []
+    for at in range(10):
+        # By the next request, the desk has made its polls for the last signature.
+        time.sleep(0.1)
+        begun = time.monotonic()
+        t.true(is_signed(ocsp_answer(desk, 0x1100 + at)), "the answer is not signed")
+        took.append(time.monotonic() - begun)
+    t.true(min(took) < 0.2, f"seconds of each answer: {took}")
 
 
 @test(seconds=3)
@@ -574,10 +590,12 @@ def ten_seconds_of_a_line_to_the_millisecond(t):
         t.same(crl.result(), "F3 signer")
 
 
-@test(seconds=3)
-def an_ocsp_line_delays_no_http_request(t):
+@each({"at the last command": DAY, "more than 30 days after it": "2026-02-01T00:00:01Z"}, seconds=3)
+def an_ocsp_line_delays_no_http_request(t, moment):
+    """If the clock is too far ahead, only commands are refused. An `ocsp` line is signed as before."""
     held = Held(t)
     desk = certified(t)
+    t.clock(moment)
     with ThreadPoolExecutor(1) as pool, t.control() as control:
         line = pool.submit(control.ask, f"ocsp {asked_for(0x1111).hex()}")
         t.true(held.signers.until(1), "the answer's signature is not requested")

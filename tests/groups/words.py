@@ -1,6 +1,7 @@
 """The command line: its commands and options, the help, and which words are refused or accepted, with their effects."""
 
 import re
+import shlex
 import subprocess
 
 from lib.documents import version
@@ -300,6 +301,36 @@ def help_is_printed_with_status_0(t, words, parts):
     told = t.done(*words.split())
     for it in (*parts, "Usage: "):
         t.has(told, it)
+
+
+# The options of `init` for which its help names a range and a default, and their columns.
+RANGED = {"--days": "days", "--crl-life": "crl_life", "--ocsp-life": "ocsp_life", "--cap": "cap"}
+
+
+@each({option: (option, column) for option, column in RANGED.items()})
+def the_range_and_the_default_that_help_names_hold(t, option, column):
+    """`desk init` accepts both ends of the range, and no number beyond them. Without the option, the register has the default."""
+    told = t.done("init", "--help")
+    least, most, default = map(int, re.search(rf" {option} <N> .*, (\d+) to (\d+) \[default: (\d+)", told).groups())
+    for number, status in ((least - 1, 1), (least, 0), (most, 0), (most + 1, 1)):
+        t.same(t.desk("init", f"{number}.db", *ISSUER, f"{option}={max(number, 0)}").status, status, f"status of init with {option} {number}")
+    t.done("init", "ca.db", *ISSUER)
+    t.same(t.sql("ca.db", f"SELECT {column} FROM office"), [(default,)], "the register without the option")
+
+
+@test
+def the_examples_in_help_can_be_typed(t):
+    """Each command's help has an example at least. Its command line is read, and the run ends only for lack of a register or an open desk."""
+    commands = re.findall(r"^  ([a-z][a-z-]*) ", t.done("--help").partition("\nCommands:\n")[2].partition("\n\n")[0], re.MULTILINE)
+    for command in commands:
+        examples = re.findall(r"^  (?:echo \S.* \| )?(desk [^<>|\n]*)", t.done(command, "--help").partition("\nExample")[2], re.MULTILINE)
+        t.true(examples, f"the help of {command} has no example")
+        for example in examples:
+            words = shlex.split(example)[1:]
+            ran = t.desk(*words)
+            t.same((words[0], ran.status), (command, 0 if command == "init" else 1), f"command and status of `{example}`, which printed {ran.err!r}")
+            (t.room / "ca.db").unlink(missing_ok=True)
+            (t.room / "ca.db-wal").unlink(missing_ok=True)
 
 
 @each({"help": "--help", "the version": "--version"})

@@ -6,7 +6,7 @@ use Rattle.std.specs.List.Sorted.{IsPermutation, IsNonDecreasingBy}
 use Rattle.std.proofs.lemmas.Bool.{cases_Bool, le-ltb, ltb-true, ltb-false}
 use Rattle.std.proofs.lemmas.List.Sorted.{IsPermutation-map, IsPermutation-trans, IsPermutation-sym, length_permutation}
 use Rattle.sqlite_trees.proofs.ListLemmas.{filter-map, map-map, IsPermutation-filter}
-use Rattle.reg_core.specs.Crls.{EntriesAscend, entries, entry_of, content, is_listed_on, ends_listing, CertList}
+use Rattle.reg_core.specs.Crls.{EntriesAscend, entries, entry_of, listed_revocations, is_listed_on, ends_listing, CertList}
 use Rattle.reg_core.specs.Records.{Records, Crl}
 use Rattle.reg_core.specs.Sound.{NumberedFrom, KeysDiffer}
 use Rattle.reg_core.specs.declared.rows.Entry.{Entry}
@@ -65,7 +65,7 @@ module _ (records : Records) (n : ℕ) (numbered : NumberedFrom (λ (crl : Crl).
   listed_on : (row : RevocationRow) → kept_lists n (listed_of records row) ≡ is_listed_on records.certificates records.crls n row
   listed_on row = ap (λ b. nat_le row.first n && b) (sym (first_any (ends_listing records.certificates row) n 1 records.crls numbered))
 
-  entries_listed : map kept_entry (filter (kept_lists n) (map (listed_of records) records.revocations)) ≡ map entry_of (content records n)
+  entries_listed : map kept_entry (filter (kept_lists n) (map (listed_of records) records.revocations)) ≡ map entry_of (listed_revocations records n)
   entries_listed =
       ap (map kept_entry) (filter-map (kept_lists n) (listed_of records) records.revocations)
       ∙ map-map kept_entry (listed_of records) (filter (λ row. kept_lists n (listed_of records row)) records.revocations)
@@ -83,11 +83,11 @@ module _ (records : Records) (n : ℕ) (numbered : NumberedFrom (λ (crl : Crl).
   entries_are listed found kept same up =
       let kept_filtered = IsPermutation-filter (kept_lists n) (map (listed_of records) records.revocations) (map listed_in listed) kept in
       let mapped = IsPermutation-map kept_entry (filter (kept_lists n) (map (listed_of records) records.revocations)) (filter (kept_lists n) (map listed_in listed)) kept_filtered in
-      let content_read : IsPermutation (map entry_of (content records n)) (map listed_entry (filter (lists_row n) listed)) = subst (λ l. IsPermutation l (map listed_entry (filter (lists_row n) listed))) entries_listed (subst (IsPermutation (map kept_entry (filter (kept_lists n) (map (listed_of records) records.revocations)))) (read_entries listed) mapped) in
-      let to_found : IsPermutation (map entry_of (content records n)) found = IsPermutation-trans (map entry_of (content records n)) (map listed_entry (filter (lists_row n) listed)) found content_read same in
+      let content_read : IsPermutation (map entry_of (listed_revocations records n)) (map listed_entry (filter (lists_row n) listed)) = subst (λ l. IsPermutation l (map listed_entry (filter (lists_row n) listed))) entries_listed (subst (IsPermutation (map kept_entry (filter (kept_lists n) (map (listed_of records) records.revocations)))) (read_entries listed) mapped) in
+      let to_found : IsPermutation (map entry_of (listed_revocations records n)) found = IsPermutation-trans (map entry_of (listed_revocations records n)) (map listed_entry (filter (lists_row n) listed)) found content_read same in
       sym (sorted_same serial_of found (entries records n) (as_rises found up)
-      (IsPermutation-trans found (map entry_of (content records n)) (entries records n) (IsPermutation-sym (map entry_of (content records n)) found to_found) (ascending_same (map entry_of (content records n))))
-      (ascending_sorted (map entry_of (content records n))))
+      (IsPermutation-trans found (map entry_of (listed_revocations records n)) (entries records n) (IsPermutation-sym (map entry_of (listed_revocations records n)) found to_found) (ascending_same (map entry_of (listed_revocations records n))))
+      (ascending_sorted (map entry_of (listed_revocations records n))))
 
 -- ---- entries in order
 

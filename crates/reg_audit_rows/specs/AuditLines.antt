@@ -22,7 +22,7 @@ table_name table.Listed = codes "listed"
 
 -- the text that says what is wrong with a row
 unfoldable pub why_text : Defect → List ℕ
-why_text why.PastClockEnd = codes "a moment past the end of the clock"
+why_text why.PastClockEnd = codes "a moment at or after 9999-12-22T00:00:00Z"
 why_text why.NeverAccepted = codes "a last accepted moment that no command set"
 why_text why.AboveCap = codes "more rows than the policy's cap"
 why_text why.OutOfOrder = codes "its number is not one more than that of the row before it, or not 1 in the first row"
@@ -44,14 +44,14 @@ why_text why.AfterLast = codes "its moment is after the last accepted one"
 why_text why.AfterEnd = codes "its moment is after the end of the certificate"
 why_text why.AfterRevocation = codes "its moment is after the revocation of its serial number"
 why_text why.Earlier = codes "its moment is before that of the row before it"
-why_text why.NoFirst = codes "its first CRL is neither issued nor the next"
+why_text why.NoFirst = codes "its first CRL is neither an issued one nor the next one"
 why_text why.WrongFirst = codes "its first CRL is not the first one after its moment"
 why_text why.EarlierFirst = codes "its first CRL is before that of the row before it"
 why_text why.ThisUpdateDecreases = codes "its thisUpdate is before that of the CRL before it"
 why_text why.DerivedMismatch = codes "differs from the records, or a row with a lower serial number is missing"
 why_text why.OtherBytes = codes "its bytes do not encode the CRL that the records give"
 why_text why.WrongCounts = codes "its counts are not those of the records"
-why_text why.NoValue = codes "a value that no register writes, or no such row"
+why_text why.NoValue = codes "a value that no register writes, or not exactly one row in the table"
 
 -- the line if all rows are sound: how many certificates, revocations and CRLs there are
 abbrev pub sound_text : Audited → List ℕ

@@ -8,15 +8,18 @@ pub enum RegisterTable {
     Request,
     Revocation,
     Crl,
+    /// Derived: the state of each certificate.
     Standing,
+    /// Derived: how many certificates are good, revoked and expired.
     Kept,
+    /// Derived: the CRL entry of each revocation, and which CRLs list it.
     Listed,
 }
 
 /// What is wrong with a row.
 #[derive(Clone, Copy, PartialEq, Eq)]
 pub enum Defect {
-    /// The last accepted moment is at or past `CLOCK_END`.
+    /// The last accepted moment is at or past `CLOCK_END`, 9999-12-22T00:00:00Z.
     PastClockEnd,
     /// No command can have set the last accepted moment: there is no subscriber, and it is neither 0 nor the thisUpdate of a CRL.
     NeverAccepted,
@@ -53,7 +56,7 @@ pub enum Defect {
     AfterRevocation,
     /// Its moment is before that of the previous row.
     Earlier,
-    /// Its first CRL is neither an issued one nor the next.
+    /// The number of the first CRL that can list it is neither that of an issued CRL nor that of the next one.
     NoFirst,
     /// A CRL before its first CRL has a thisUpdate after its moment, or its first CRL or a later one has a thisUpdate before it.
     WrongFirst,

@@ -136,8 +136,8 @@ fn can_be_last_listing(crl: &CrlRow, first: u64, not_after: Moment) -> bool
     first <= crl.number && not_after < crl.this_update
 }
 
-/// The number of the last CRL that lists a revocation: the first, from the number `first` on, whose thisUpdate is after `not_after`. `None`
-/// if there is none yet. If the numbers rise and the thisUpdates do not fall, a binary search finds it.
+/// The number of the last CRL that lists a revocation: the earliest, numbered `first` or more, with a thisUpdate after `not_after` (RFC 5280 3.3).
+/// `None` if it is not issued yet. Right only if the numbers rise and the thisUpdates do not fall, because it is a binary search.
 fn last_listing(crls: &[CrlRow], first: u64, not_after: Moment) -> Option<u64>
     ensures { NumberedFrom (λ crl. crl.number) 1 crls.now → NeverDecreases (λ crl. crl.this_update) crls.now
         → result ≡ last_in crls.now first not_after }

@@ -9,9 +9,8 @@ use crate::broken_row::{BrokenRow, Defect, RegisterTable};
 use reg_core::Decimal;
 use std::alloc::{AllocError, Global};
 
-/// The line for a schema that is not that of a register.
-pub const OTHER_SCHEMA: &str =
-    "broken: schema: other tables, columns or indexes than a register has\n";
+/// The line for a schema that is not that of a register, also if only a key, a CHECK, a view, a trigger or the order of creation differs.
+pub const OTHER_SCHEMA: &str = "broken: schema: not exactly a register's tables and indexes\n";
 
 #[tactic(auto, unfolding(crate::specs::AuditLines::table_name))]
 fn name_of(table: RegisterTable) -> &'static str
@@ -36,7 +35,7 @@ fn text_of(why: Defect) -> &'static str
     ensures { result.now ≡ why_text why }
 {
     match why {
-        Defect::PastClockEnd => "a moment past the end of the clock",
+        Defect::PastClockEnd => "a moment at or after 9999-12-22T00:00:00Z",
         Defect::NeverAccepted => "a last accepted moment that no command set",
         Defect::AboveCap => "more rows than the policy's cap",
         Defect::OutOfOrder =>
@@ -59,7 +58,7 @@ fn text_of(why: Defect) -> &'static str
         Defect::AfterEnd => "its moment is after the end of the certificate",
         Defect::AfterRevocation => "its moment is after the revocation of its serial number",
         Defect::Earlier => "its moment is before that of the row before it",
-        Defect::NoFirst => "its first CRL is neither issued nor the next",
+        Defect::NoFirst => "its first CRL is neither an issued one nor the next one",
         Defect::WrongFirst => "its first CRL is not the first one after its moment",
         Defect::EarlierFirst => "its first CRL is before that of the row before it",
         Defect::ThisUpdateDecreases => "its thisUpdate is before that of the CRL before it",
@@ -67,7 +66,7 @@ fn text_of(why: Defect) -> &'static str
             "differs from the records, or a row with a lower serial number is missing",
         Defect::OtherBytes => "its bytes do not encode the CRL that the records give",
         Defect::WrongCounts => "its counts are not those of the records",
-        Defect::NoValue => "a value that no register writes, or no such row",
+        Defect::NoValue => "a value that no register writes, or not exactly one row in the table",
     }
 }
 

@@ -91,8 +91,8 @@ fn check_certificates(
     certificates_by_serial(alloc, rows)
 }
 
-/// Checks that there are no more rows than the cap, ids are 1, 2, 3 and so on, and each certificate exists and had not ended. Checks that
-/// moments of receipt do not fall, and none is after the last accepted moment.
+/// Checks that there are no more rows than the cap, ids are 1, 2, 3 and so on, and each request's certificate exists and was not past notAfter when
+/// the request was received. Checks that moments of receipt do not fall, and none is after the last accepted moment.
 fn check_requests(
     certificates: &BTreeMap<Serial, CertRow>,
     rows: &[RequestRow],

@@ -2,7 +2,7 @@
 use Rattle.std.proofs.Common.{◌≡◌, true, List, [], ◌∷◌, ◌++◌, refl, ap, Option, Some, None, Result, Ok, IfSome}
 use Rattle.std.specs.Prelude.{⊤}
 use Rattle.reg_core.specs.Checks.{clock_checks, first_refusal, pending_request_checks}
-use Rattle.reg_core.specs.Decisions.{IsDecided, IsDecidedBy, DecidesDecline, DecidesRegister, DecidesRevoke, is_same, revocation_by}
+use Rattle.reg_core.specs.Decisions.{IsDecidedAfterClock, IsDecidedBy, DecidesDecline, DecidesRegister, DecidesRevoke, is_same, revocation_by}
 use Rattle.reg_core.specs.declared.refusal.Refusal.{Refusal}
 use Rattle.reg_core.specs.declared.rows.Head.{Head}
 use Rattle.reg_core.specs.declared.rows.CertRow.{CertRow}
@@ -43,7 +43,7 @@ IfSome-made f (Some known) x e = ap f e
 -- the request that can be settled
 abbrev pub Settles : Head → Option RequestRow → Option CertRow → Option RevocationRow → Result RequestRow Refusal → Type 0
 Settles head request certificate revocation result =
-    IsDecided
+    IsDecidedAfterClock
     head
     (pending_request_checks head.now request certificate revocation)
     (λ row. IfSome request (λ known. row ≡ known))

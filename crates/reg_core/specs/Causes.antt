@@ -1,4 +1,4 @@
--- The cause of a failed system call, of a signer that does not fit a register, or of a policy out of range: the line of each.
+-- Why a file, a port or the clock can't be used, why a signer does not fit a register, or which part of a policy is invalid: the line of each cause.
 use Rattle.std.specs.Prelude.{ℕ, Bool, ◌||◌, nat_lt, List, codes, if◌then◌else◌, Some, None}
 use Rattle.std.specs.declared.option.Option.{Option}
 use Rattle.reg_core.specs.declared.cause.Cause.{Cause}

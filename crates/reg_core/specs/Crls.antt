@@ -48,8 +48,8 @@ is_listed_on certificates crls n revocation =
     && not (list_any (λ crl. nat_lt crl.number n && ends_listing certificates revocation crl) crls)
 
 -- the revocations that CRL n lists
-abbrev pub content : Records → ℕ → List RevocationRow
-content records n = filter (is_listed_on records.certificates records.crls n) records.revocations
+abbrev pub listed_revocations : Records → ℕ → List RevocationRow
+listed_revocations records n = filter (is_listed_on records.certificates records.crls n) records.revocations
 
 -- the number of the last CRL that lists the revocation: the first one that ends its listing, if that is issued
 abbrev pub last_listing : Records → RevocationRow → Option ℕ
@@ -78,7 +78,7 @@ EntriesAscend (entry ∷ rest) = AllByRecursion (λ later. entry.serial < later.
 
 -- the entries of CRL n (revokedCertificates, RFC 5280 5.1.2.6), in ascending order of serial number
 abbrev pub entries : Records → ℕ → List Entry
-entries records n = ascending (map entry_of (content records n))
+entries records n = ascending (map entry_of (listed_revocations records n))
 
 -- the fields of a CRL that are signed (tbsCertList, RFC 5280 5.1.2), but for the version and the algorithm
 pub record CertList : Type 0 where

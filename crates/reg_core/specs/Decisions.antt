@@ -35,15 +35,15 @@ IsDecidedBy (Some refusal) IsAnswer result = result ≡ Err refusal
 IsDecidedBy None IsAnswer result = IsOkAnd result IsAnswer
 
 -- the first refusal that applies, those of the clock before the others, or else an answer that satisfies `IsAnswer`
-abbrev pub IsDecided : {Answer : Type 0} → Head → List (Option Refusal) → (Answer → Type 0)
+abbrev pub IsDecidedAfterClock : {Answer : Type 0} → Head → List (Option Refusal) → (Answer → Type 0)
     → Result Answer Refusal → Type 0
-IsDecided head checks IsAnswer result =
+IsDecidedAfterClock head checks IsAnswer result =
     IsDecidedBy (first_refusal (clock_checks head.now head.last ++ checks)) IsAnswer result
 
 -- the row of the new subscriber, with the next id
 abbrev pub DecidesSubscriber : Head → List ℕ → Option SubscriberRow → Result SubscriberRow Refusal → Type 0
 DecidesSubscriber head name by_name result =
-    IsDecided
+    IsDecidedAfterClock
     head
     (subscriber_checks name by_name (table_is_full head))
     (λ row. row ≡ record { id = head.held + 1; name = name })
@@ -52,7 +52,7 @@ DecidesSubscriber head name by_name result =
 -- the row of the new order, with the next id
 abbrev pub DecidesOrder : Head → Option SubscriberRow → ℕ → Result OrderRow Refusal → Type 0
 DecidesOrder head subscriber days result =
-    IsDecided
+    IsDecidedAfterClock
     head
     (order_checks head.policy subscriber days (table_is_full head))
     (λ row. IfSome subscriber
@@ -68,7 +68,7 @@ is_same wanted (Some registered) = same_certificate wanted registered
 abbrev pub DecidesRegister : Head → CertRow → Option OrderRow → Option CertRow → Option CertRow
     → Result (Option CertRow) Refusal → Type 0
 DecidesRegister head wanted order by_order by_serial result =
-    IsDecided
+    IsDecidedAfterClock
     head
     (cond (is_same wanted by_serial) []
     (register_checks head.policy head.now wanted order by_order by_serial (table_is_full head)))
@@ -87,7 +87,7 @@ pub record IsRequest (head : Head) (certificate : CertRow) (word : List ℕ) (ro
 abbrev pub DecidesRequest : Head → Option CertRow → List ℕ → Option RevocationRow
     → Result RequestRow Refusal → Type 0
 DecidesRequest head certificate word revocation result =
-    IsDecided
+    IsDecidedAfterClock
     head
     (request_checks head.now certificate word revocation (table_is_full head))
     (λ row. IfSome certificate (λ known. IsRequest head known word row))
@@ -97,7 +97,7 @@ DecidesRequest head certificate word revocation result =
 abbrev pub DecidesDecline : Head → Option RequestRow → Option CertRow → Option RevocationRow
     → Result RequestRow Refusal → Type 0
 DecidesDecline head request certificate revocation result =
-    IsDecided
+    IsDecidedAfterClock
     head
     (pending_request_checks head.now request certificate revocation)
     (λ row. IfSome request (λ known. row ≡ record known { declined = true }))
@@ -120,7 +120,7 @@ revocation_by head request latest = (
 abbrev pub DecidesRevoke : Head → Option RequestRow → Option CertRow → Option RevocationRow → Option CrlRow
     → Result (RevocationRow × Bool) Refusal → Type 0
 DecidesRevoke head request certificate revocation latest result =
-    IsDecided
+    IsDecidedAfterClock
     head
     (pending_request_checks head.now request certificate revocation)
     (λ answer. IfSome request (λ known. answer ≡ revocation_by head known latest))
@@ -129,5 +129,5 @@ DecidesRevoke head request certificate revocation latest result =
 -- the row of the new CRL, with the next number and this moment as its thisUpdate
 abbrev pub DecidesCrl : Head → Option CrlRow → Result CrlRow Refusal → Type 0
 DecidesCrl head latest result =
-    IsDecided head (crl_checks (table_is_full head))
+    IsDecidedAfterClock head (crl_checks (table_is_full head))
     (λ row. row ≡ record { number = number_after latest; this_update = head.now }) result

@@ -4,7 +4,7 @@ use Rattle.std.specs.List.{list_any}
 use Rattle.reg_core.specs.Records.{Records, subscriber_in, subscriber_named, order_in, certificate_in, certificate_of_order, request_in, revocation_in}
 use Rattle.reg_core.specs.Checks.{first_refusal, clock_checks, subscriber_checks, order_checks, register_checks, request_checks, pending_request_checks, crl_checks}
 use Rattle.reg_core.specs.Changes.{changed_by, with_crl, with_revocation}
-use Rattle.reg_core.specs.Crls.{CertList, cert_list, content, next_number}
+use Rattle.reg_core.specs.Crls.{CertList, cert_list, listed_revocations, next_number}
 use Rattle.reg_core.specs.Due.{deadline}
 use Rattle.reg_core.specs.Grounds.{reason_of, limit_of, ground_or as ground}
 use Rattle.reg_core.specs.declared.change.Change.TheVariants as change
@@ -133,7 +133,7 @@ reply records now (Request serial word) =
 reply records now (Decline id) = Declined
 reply records now (Revoke id) = RevokedNow (is_late records now id)
 reply records now IssueCrl =
-    CrlIssued (next_number records.crls) (length (content records (next_number records.crls)))
+    CrlIssued (next_number records.crls) (length (listed_revocations records (next_number records.crls)))
 
 -- the records after an accepted command; `bytes` is the DER of the CRL, if the command issues one. The case `revoked None` never applies: a
 -- command to revoke by a request that does not exist is refused.

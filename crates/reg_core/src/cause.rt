@@ -4,7 +4,7 @@ ghost use Rattle.reg_core.specs.Causes.{cause_line, policy_cause};
 use crate::Label;
 use std::io::ErrorKind;
 
-/// Why a system call failed, why a signer doesn't fit a register, or which option or schedule of a policy is invalid.
+/// Why a file, a port or the clock can't be used, why a signer doesn't fit a register, or which option or schedule of a policy is invalid.
 #[derive(Clone, Copy, PartialEq, Eq)]
 pub enum Cause {
     NoFile,
@@ -20,7 +20,7 @@ pub enum Cause {
     PortInUse,
     /// The machine's clock can't be read.
     Clock,
-    /// The latest CRL was signed with another algorithm than the signer's.
+    /// The latest CRL is signed with another algorithm than the signer's, or there is no signer now.
     OtherAlgorithm,
     /// The latest CRL has an algorithm that this program doesn't know, or that can't be read.
     UnknownAlgorithm,
@@ -36,7 +36,7 @@ pub enum Cause {
 }
 
 impl Cause {
-    /// The line for standard error, without LF: two spaces and the text.
+    /// The line for standard error, without LF: two spaces and the text, together at most 64 bytes.
     #[tactic(auto, unfolding(crate::specs::Causes::cause_line))]
     pub fn line(&self) -> Label
         ensures { result ≡ cause_line self.now }

@@ -4,7 +4,7 @@
 ghost use Rattle.std.specs.Prelude.{◌≡◌, ℕ, ◌+◌, ◌<◌, ◌^◌, false, IfSome, ⊤};
 ghost use Rattle.reg_core.specs.Checks.{clock_checks, first_refusal, live_checks, pending_request_checks, validity_checks, refused_if};
 ghost use Rattle.reg_core.specs.Crls.{number_after};
-ghost use Rattle.reg_core.specs.Decisions.{table_is_full, IsDecided, IsDecidedBy, DecidesSubscriber, DecidesOrder, DecidesRegister, DecidesRequest, DecidesDecline, DecidesRevoke, DecidesCrl};
+ghost use Rattle.reg_core.specs.Decisions.{table_is_full, IsDecidedAfterClock, IsDecidedBy, DecidesSubscriber, DecidesOrder, DecidesRegister, DecidesRequest, DecidesDecline, DecidesRevoke, DecidesCrl};
 
 use crate::grounds::Ground;
 use crate::label::Label;
@@ -260,14 +260,14 @@ fn check_live(
     }
 }
 
-/// The request, if it can be declined or lead to a revocation: it exists, is not declined, and its certificate is not revoked or expired.
+/// Checks the clock; then returns the request, if it exists, is not declined, and its certificate is not revoked or expired.
 fn pending_request(
     head: &Head,
     request: Option<RequestRow>,
     certificate: Option<CertRow>,
     revocation: Option<RevocationRow>,
 ) -> Result<RequestRow, Refusal>
-    ensures { IsDecided
+    ensures { IsDecidedAfterClock
         head.entry.now
         (pending_request_checks head.entry.now.now request certificate revocation)
         (λ row. IfSome request (λ known. row ≡ known))

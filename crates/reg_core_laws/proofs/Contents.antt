@@ -3,7 +3,7 @@ use Rattle.std.proofs.Common.{◌≡◌, ℕ, ◌+◌, ◌<◌, ◌≤◌, Bool,
 use Rattle.std.specs.List.{AllByRecursion}
 use Rattle.std.proofs.lemmas.Bool.Decides.{nat_tests}
 use Rattle.std.proofs.lemmas.List.Elements.{filter-append}
-use Rattle.reg_core.specs.Crls.{content, cert_list, entry_of, ascending, is_listed_on, ends_listing, next_number}
+use Rattle.reg_core.specs.Crls.{listed_revocations, cert_list, entry_of, ascending, is_listed_on, ends_listing, next_number}
 use Rattle.reg_core.specs.Records.{Records, Crl, certificate_in}
 use Rattle.reg_core.specs.Sound.{SoundRows, SoundRevocation, NumberedFrom}
 use Rattle.reg_core.specs.declared.rows.CertRow.{CertRow}
@@ -101,7 +101,7 @@ is_on_added rows more_rows crls more_crls n revocation certificate found above =
 
 -- what the CRL with a number up to the next lists of the recorded revocations stays as it was
 old_content_kept : (before after : Records) → SoundRows before → Grows before after → (n : ℕ) → n ≤ length before.crls + 1
-    → filter (is_listed_on after.certificates after.crls n) before.revocations ≡ content before n
+    → filter (is_listed_on after.certificates after.crls n) before.revocations ≡ listed_revocations before n
 old_content_kept before after sound grows n recorded = filter_same _ _ before.revocations (all_weaker _ _ same before.revocations sound.revocations.each)
   where
     above : AllByRecursion (λ crl. n ≤ crl.number) grows.more_crls
@@ -116,10 +116,10 @@ old_content_kept before after sound grows n recorded = filter_same _ _ before.re
         ∙ is_on_added before.certificates grows.more_certificates before.crls grows.more_crls n revocation found.0 found.1 above
 
 -- what a recorded CRL lists stays as it was
-pub content_kept : (before after : Records) → SoundRows before → Grows before after → (n : ℕ) → n ≤ length before.crls → content after n ≡ content before n
+pub content_kept : (before after : Records) → SoundRows before → Grows before after → (n : ℕ) → n ≤ length before.crls → listed_revocations after n ≡ listed_revocations before n
 content_kept before after sound grows n recorded =
     ap (filter test) grows.revocations ∙ filter-append test before.revocations grows.more_revocations
-    ∙ ap₂ ◌++◌ (old_content_kept before after sound grows n (omega arith)) (filter_none test grows.more_revocations fails) ∙ append-nil (content before n)
+    ∙ ap₂ ◌++◌ (old_content_kept before after sound grows n (omega arith)) (filter_none test grows.more_revocations fails) ∙ append-nil (listed_revocations before n)
   where
     test : RevocationRow → Bool
     test = is_listed_on after.certificates after.crls n
@@ -128,7 +128,7 @@ content_kept before after sound grows n recorded =
     fails = all_weaker _ _ (λ revocation new. grind (arith, nat_tests)) grows.more_revocations grows.new_firsts
 
 -- what is signed in a CRL is determined by what it lists
-cert_list_by : (before after : Records) (n this_update : ℕ) → after.issuer ≡ before.issuer → after.policy ≡ before.policy → content after n ≡ content before n
+cert_list_by : (before after : Records) (n this_update : ℕ) → after.issuer ≡ before.issuer → after.policy ≡ before.policy → listed_revocations after n ≡ listed_revocations before n
     → cert_list after n this_update ≡ cert_list before n this_update
 cert_list_by before after n this_update issuer policy listed =
     λ i. record {

@@ -4,7 +4,7 @@ use Rattle.std.specs.List.{list_any}
 use Rattle.std.proofs.Common.{◌≡◌, ℕ, ◌+◌, Bool, true, false, cond, List, [], ◌∷◌, Option, Some, None, find, refl, sym, ap, ◌∙◌, arith}
 use Rattle.std.proofs.lemmas.Bool.Decides.{nat_tests}
 use Rattle.reg_core.specs.Changes.{touched, with_subscriber, with_order, with_certificate, with_request, with_declined, with_revocation, with_crl}
-use Rattle.reg_core.specs.Crls.{CertList, cert_list, content, latest, next_number, row_of}
+use Rattle.reg_core.specs.Crls.{CertList, cert_list, listed_revocations, latest, next_number, row_of}
 use Rattle.reg_core.specs.Decisions.{head_of, IsDecidedBy, DecidesSubscriber, DecidesOrder, DecidesRegister, DecidesRequest, DecidesDecline, DecidesRevoke, DecidesCrl, IsRequest, is_same}
 use Rattle.reg_core.specs.Due.{deadline}
 use Rattle.reg_core.specs.Grounds.{ground_named, ground_or, ground_or_refusal}
@@ -281,7 +281,7 @@ pub record AcceptsCrl (signed : CertList → List ℕ → Type 0) (records : Rec
       (after : Records) (bytes : List ℕ)
       → signed (cert_list records row.number row.this_update) bytes
       → after ≡ with_crl records now (record { number = row.number; this_update = row.this_update; bytes = bytes })
-      → Step signed records now IssueCrl (Ok (CrlIssued row.number (length (content records row.number)))) after
+      → Step signed records now IssueCrl (Ok (CrlIssued row.number (length (listed_revocations records row.number)))) after
 
 abbrev pub CrlSays : (CertList → List ℕ → Type 0) → Records → ℕ → Result CrlRow Refusal → Type 0
 CrlSays signed records now result = Told signed records now IssueCrl (AcceptsCrl signed records now) result

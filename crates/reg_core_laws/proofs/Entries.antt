@@ -3,7 +3,7 @@ use Rattle.std.proofs.Common.{◌≡◌, ◌≢◌, ℕ, ◌+◌, ◌<◌, Bool,
 use Rattle.std.specs.List.{AllByRecursion, list_any}
 use Rattle.std.proofs.lemmas.Bool.Decides.{nat_tests}
 use Rattle.std.proofs.lemmas.List.{length-map}
-use Rattle.reg_core.specs.Crls.{content, entry_of, insert_entry, ascending, entries, EntriesAscend}
+use Rattle.reg_core.specs.Crls.{listed_revocations, entry_of, insert_entry, ascending, entries, EntriesAscend}
 use Rattle.reg_core.specs.Records.{Records}
 use Rattle.reg_core.specs.Sound.{KeysDiffer, SoundRows}
 use Rattle.reg_core.specs.declared.rows.Entry.{Entry}
@@ -57,15 +57,15 @@ ascending_ascends (entry ∷ rest) differ = ascend_insert entry (ascending rest)
 
 -- a test of entries passes at some just where it passes at the entry of a revocation that is listed
 pub any_entry : (test : Entry → Bool) (records : Records) (n : ℕ)
-    → list_any test (entries records n) ≡ list_any (λ revocation. test (entry_of revocation)) (content records n)
-any_entry test records n = any_ascending test (map entry_of (content records n)) ∙ any_map test entry_of (content records n)
+    → list_any test (entries records n) ≡ list_any (λ revocation. test (entry_of revocation)) (listed_revocations records n)
+any_entry test records n = any_ascending test (map entry_of (listed_revocations records n)) ∙ any_map test entry_of (listed_revocations records n)
 
 -- as many as the revocations that are listed
-pub entries_length : (records : Records) (n : ℕ) → length (entries records n) ≡ length (content records n)
-entries_length records n = length_ascending (map entry_of (content records n)) ∙ length-map (content records n) entry_of
+pub entries_length : (records : Records) (n : ℕ) → length (entries records n) ≡ length (listed_revocations records n)
+entries_length records n = length_ascending (map entry_of (listed_revocations records n)) ∙ length-map (listed_revocations records n) entry_of
 
 -- strictly ascending
 pub entries_ascending : (records : Records) (n : ℕ) → SoundRows records → EntriesAscend (entries records n)
 entries_ascending records n sound =
-    ascending_ascends (map entry_of (content records n)) (keys_map _ entry_of (content records n)
+    ascending_ascends (map entry_of (listed_revocations records n)) (keys_map _ entry_of (listed_revocations records n)
     (keys_kept _ _ records.revocations sound.revocations.serials_differ))

@@ -3,7 +3,7 @@
 use Rattle.std.proofs.Common.{◌≡◌, ◌↔◌, ℕ, ◌<◌, ◌≤◌, Bool, false, ◌&&◌, ◌==◌, nat_lt, List, find, Option, Some, None, option_map, IsTrue, IsFalse, IfSome, refl, sym, ap, ◌∙◌, arith}
 use Rattle.std.specs.List.{AllByRecursion, list_any}
 use Rattle.std.proofs.lemmas.Bool.Decides.{nat_tests}
-use Rattle.reg_core.specs.Crls.{is_past_end, ends_listing, is_listed_on, content, last_listing, entry_of, entries}
+use Rattle.reg_core.specs.Crls.{is_past_end, ends_listing, is_listed_on, listed_revocations, last_listing, entry_of, entries}
 use Rattle.reg_core.specs.Records.{Records, Crl, certificate_in, revocation_in}
 use Rattle.reg_core.specs.Sound.{NumberedFrom, SoundRevocation, SoundRows}
 use Rattle.reg_core.specs.Status.{status}
@@ -102,7 +102,7 @@ revoked_for_good records serial revocation sound is moment = rw ((certificate_of
 -- each entry of a CRL is that of a recorded revocation, which the CRL is to list
 pub due_entries : (records : Records) (n : ℕ) → SoundRows records → AllByRecursion (IsDueEntry records n) (entries records n)
 due_entries records n sound =
-    all_ascending _ _ (all_map (IsDueEntry records n) entry_of (content records n)
+    all_ascending _ _ (all_map (IsDueEntry records n) entry_of (listed_revocations records n)
     (all_that_pass _ _ records.revocations (all_weaker _ _ due records.revocations
     (each_found (λ revocation. revocation.serial) records.revocations sound.revocations.serials_differ))))
   where

@@ -2,7 +2,7 @@
 -- changes.
 use Rattle.std.specs.Prelude.{◌≡◌, ℕ, ◌↔◌, ◌≤◌, List, ◌++◌, Result, IsTrue, IfSome}
 use Rattle.std.specs.List.{AllByRecursion}
-use Rattle.reg_core.specs.Crls.{CertList, cert_list, content, last_listing}
+use Rattle.reg_core.specs.Crls.{CertList, cert_list, listed_revocations, last_listing}
 use Rattle.reg_core.specs.Records.{Records, Crl}
 use Rattle.reg_core.specs.Sound.{Sound}
 use Rattle.reg_core.specs.declared.command.Command.{Command}
@@ -25,7 +25,7 @@ ListedFromFirstToLast records =
 pub record CrlsStay (signed : CertList → List ℕ → Type 0) (records after : Records) : Type 0 where
   pub later : List Crl
   pub recorded : after.crls ≡ records.crls ++ later
-  pub contents : AllByRecursion (λ crl. content after crl.number ≡ content records crl.number) records.crls
+  pub contents : AllByRecursion (λ crl. listed_revocations after crl.number ≡ listed_revocations records crl.number) records.crls
   pub texts : AllByRecursion
       (λ crl. cert_list after crl.number crl.this_update ≡ cert_list records crl.number crl.this_update)
       records.crls

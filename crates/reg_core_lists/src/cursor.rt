@@ -27,8 +27,8 @@ pub enum Cursor {
 }
 
 impl Cursor {
-    /// The list with this name, from its first row on. `None` for any other name, for `ending` without a moment, and for another list
-    /// with one.
+    /// The list with this name, from its first row on. `None` if no list has this name, if it is `ending` and there is no moment `before`, or
+    /// if it is another list and there is one.
     pub fn named(name: &[u8], before: Option<Moment>) -> Option<Cursor>
         ensures { result ≡ cursor_named name.now before }
     {

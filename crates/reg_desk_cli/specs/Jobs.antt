@@ -63,8 +63,8 @@ signer_by_options socket algorithm rows = signer_of_options (first_of socket row
 abbrev pub signer_in : List Row → Option (Option SignerAddress)
 signer_in rows = signer_by_options (codes "signer") (codes "algorithm") rows
 
--- the responder to OCSP requests, from the path of a responder's certificate, its signer, and the path of a certificate to embed in responses
--- of the issuer: both of the first two are given and not the third, or neither, and then the third may be given
+-- the responder to OCSP requests: a delegate, if the path of its certificate and its signer are given, and no certificate to embed; or the issuer, if
+-- neither of the two is given, perhaps with the path of a certificate to embed
 abbrev pub responder_by : Option Text → Option SignerAddress → Option Text → Option ResponderChoice
 responder_by (Some certificate) (Some address) None = Some (Delegate certificate address)
 responder_by (Some certificate) (Some address) (Some embedded) = None

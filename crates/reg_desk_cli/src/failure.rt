@@ -13,7 +13,7 @@ pub enum Failure {
     Fault(Fault),
     /// The file of a new register has a table, an index or a view already.
     NotEmpty,
-    /// The file has no database yet, or its tables are not those of a register.
+    /// The file has no database yet, or its schema, its row of `office` or its schedule is not that of a register.
     NotARegister,
     /// A newer version of the program wrote the register.
     NewVersion,
@@ -21,22 +21,22 @@ pub enum Failure {
     OldVersion,
     /// The Name, the key or the key identifier is invalid.
     BadIssuer,
-    /// An option is out of its range (`--days`, `--crl-life`, `--ocsp-life` or `--cap`), or the steps are no schedule.
+    /// An option of `init` is out of its range (`--days`, `--crl-life`, `--ocsp-life` or `--cap`), or the steps given to `schedule` are invalid.
     BadPolicy,
     /// The clock is more than 30 days past the last accepted moment.
     BadClock,
-    /// No CRL with the signer's algorithm (or without a signer: the placeholder digest) may follow the latest one, the issuer's key does not fit the
-    /// signer's algorithm, or a signer is given for a register in memory.
+    /// The latest CRL is signed, and new ones would have another algorithm or a placeholder digest; or the issuer's key does not fit the signer's
+    /// algorithm; or a signer is given for a register in memory.
     BadSigner,
     /// A certificate for OCSP responses can't be read, or its key is not the issuer's (`--embed`) or not of the given algorithm (`--responder`).
     BadResponder,
-    /// A reply was not accepted, at a control socket or in a strict script or import; or a replay stopped at a line of the log.
+    /// A reply was a refusal or a fault, at a control socket or in a strict script or import; or a replay stopped at a line of the log.
     Refused,
     /// The last line of the input has no line end, and did not run.
     NoLineEnd,
-    /// Both at a control socket: a reply was not accepted, and the last line has no line end.
+    /// Both at a control socket: a reply was a refusal or a fault, and the last line has no line end.
     RefusedNoLineEnd,
-    /// An audit found a broken row, or tables that are not those of a register.
+    /// An audit found a broken row, or a schema that is not that of a register.
     Broken,
     /// The file of a published CRL has no CRL with a number (RFC 5280 5.2.3), or the CRL has an invalid entry.
     NotACrl,

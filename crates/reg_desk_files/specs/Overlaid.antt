@@ -1,4 +1,4 @@
--- A database's view of a file, through which nothing is written to disk: bytes in memory, or a file that is only read.
+-- The files that a database gets if nothing may be written to disk: a file that is only read, or bytes in memory.
 use Rattle.std.specs.Prelude.{ℕ, Bool, true, List, Option, Some, None}
 use Rattle.sqlite_wal.specs.Recovery.{Image}
 use Rattle.reg_desk_files.specs.declared.overlay.Overlay.{Overlay}

@@ -58,6 +58,7 @@ impl From<sqlite_wal::Error> for FileFault {
         match error {
             sqlite_wal::Error::OutOfMemory => fault_with_cause(Fault::Memory, None),
             sqlite_wal::Error::Io(error) => FileFault::from(error),
+            // `Corrupt`, or `Full`: more pages than 32 bits can number. The other variants do not occur here.
             _ => damaged_fault(),
         }
     }
@@ -111,6 +112,7 @@ fn open_cause_of(error: &OpenError) -> Option<Cause>
     match error {
         OpenError::Io(error) => io_cause_of(error.kind()),
         OpenError::Busy => Some(Cause::InUse),
+        // `HotJournal`: SQLite left a rollback journal, which only SQLite can play back. `Cause` has no variant for it.
         OpenError::OutOfMemory | OpenError::HotJournal => None,
     }
 }

@@ -1,4 +1,4 @@
-//! A database's view of a file, through which nothing is written to disk.
+//! The files that a database gets if nothing may be written to disk: a file that is only read, or bytes in memory.
 
 ghost use Rattle.std.specs.Prelude.{◌≡◌, ◌+◌, ◌≤◌, ◌<◌, Some, None, true, false, refl, length, is_ok, IfOk, IsErr, IsTrue, OnOk};
 ghost use Rattle.sqlite_disk.specs.Disk.{CountsFault, Cut, Holds, Torn};
@@ -12,7 +12,8 @@ use std::alloc::{AllocError, Global};
 use std::io;
 use std::io::ErrorKind;
 
-/// The file that a database gets: bytes in memory, which it may write; or a file that is only read, to which each write is refused.
+/// One of the files that a database gets: either bytes in memory, which it may write; or a file that is only read, to which each write is refused.
+/// It is no layer over another file.
 #[derive(Drop)]
 pub struct Overlay<F: Source> {
     /// The file that is read, if there is one.
@@ -76,7 +77,7 @@ impl<F: Source> Overlay<F> {
     }
 }
 
-/// The files that a database gets: a log that was copied into memory, and a database file that is only read.
+/// The two files that a database gets: a log (`-wal`) that was copied into memory, and a database file that is only read.
 pub fn overlaid<F: Source>(alloc: Global, log: Vec<u8>, db: F, key: u64) -> Files<Overlay<F>>
     ensures image { seen_image ⟦<Overlay<F> as Disk>⟧ result.log result.db
         ≡ image log.items (F.Source.bytes db) }
@@ -110,6 +111,7 @@ impl<F: Source> Disk for Overlay<F> {
 
     ghost fair_if_clean = { λ _ _ clean. clean };
 
+    // Contracts model no crash of this disk (`may_leave`), so no write is torn.
     fn mixes(&self) -> bool {
         false
     }
@@ -121,6 +123,7 @@ impl<F: Source> Disk for Overlay<F> {
     fn tally(&self) -> Tally {
         Tally {
             caught: self.caught,
+            // How many calls found the disk full: none, because nothing is written to disk.
             refused: 0,
         }
     }

@@ -118,8 +118,8 @@ module _ {S : Type 0} (is_clean : S → Type 0) (stands : OfficeSigners → S �
     refused_answers status route (Err memory) (Unsigned left) holds is tells uncounted same = absurd tells
 
     -- what was begun and counted meets what is wanted of its text
-    pub answers_meet : (clock : ℕ → Type 0) (begun : ReadyOrUnsigned Exchange UnsignedResponse) (outcome : Outcome UnsignedOf) (before_it behind : Tally)
-        → clock now → CountsBegun now line_outcome begun outcome before_it behind → Leads is_clean stands (Answer begun) s t
+    pub answers_meet : (clock : ℕ → Type 0) (begun : ReadyOrUnsigned Exchange UnsignedResponse) (outcome : Outcome UnsignedOf) (before_it after_answer : Tally)
+        → clock now → CountsBegun now line_outcome begun outcome before_it after_answer → Leads is_clean stands (Answer begun) s t
         → Leads is_clean stands
         (λ signers before after. Meets (FinishesUnsigned signer_answered) (λ text. AnswersBy is_open signs clock admission admission' signers before line_outcome text after) outcome) s t
     answers_meet clock (Ready exchange) (said text) first last at is moved =

@@ -93,27 +93,27 @@ module _ {S : Type 0} (is_clean : S → Type 0) (stands : OfficeSigners → S �
   pub request_looked : (id before : ℕ) (shown : RowKey) (result : Result (Option Row) Fault) (s t : S) → shown ≡ Request id → before ≡ id - 1
       → Sees (λ records. find (has_key shown) (page records now 1 (cursor.Requests before)).rows) result s t
       → Sees (λ records. row_with_key records now shown) result s t
-  request_looked id before shown result s t is behind seen =
+  request_looked id before shown result s t is after_answer seen =
       seen_as
       (λ records. find (has_key shown) (page records now 1 (cursor.Requests before)).rows)
       (λ records. row_with_key records now shown)
       result
       s
       t
-      (λ r sound. (λ i. find (has_key (is i)) (page r now 1 (cursor.Requests (behind i))).rows) ∙ request_seen r now sound id ∙ sym (ap (row_with_key r now) is))
+      (λ r sound. (λ i. find (has_key (is i)) (page r now 1 (cursor.Requests (after_answer i))).rows) ∙ request_seen r now sound id ∙ sym (ap (row_with_key r now) is))
       seen
 
   pub certificate_looked : (serial : ℕ) (after : Option ℕ) (shown : RowKey) (result : Result (Option Row) Fault) (s t : S) → shown ≡ Certificate serial
       → 1 ≤ serial → key_of after ≡ serial - 1 → Sees (λ records. find (has_key shown) (page records now 1 (cursor.Certificates after)).rows) result s t
       → Sees (λ records. row_with_key records now shown) result s t
-  certificate_looked serial after shown result s t is above behind seen =
+  certificate_looked serial after shown result s t is above after_answer seen =
       seen_as
       (λ records. find (has_key shown) (page records now 1 (cursor.Certificates after)).rows)
       (λ records. row_with_key records now shown)
       result
       s
       t
-      (λ r sound. ap (λ it. find (has_key it) (page r now 1 (cursor.Certificates after)).rows) is ∙ certificate_seen r now sound serial after above behind
+      (λ r sound. ap (λ it. find (has_key it) (page r now 1 (cursor.Certificates after)).rows) is ∙ certificate_seen r now sound serial after above after_answer
       ∙ sym (ap (row_with_key r now) is))
       seen
 

@@ -21,7 +21,7 @@ use Rattle.reg_lines.specs.declared.answered.Answered.TheVariants as answered
 use Rattle.reg_lines.specs.declared.answered.LineKind.TheVariants.{Command, Ocsp}
 use Rattle.reg_desk_jobs.specs.declared.control_reply.ControlReply.{ControlReply}
 use Rattle.reg_desk_jobs.specs.declared.control_reply.LineOutcome.{LineOutcome}
-use Rattle.reg_desk_jobs.specs.declared.control_reply.LineOutcome.TheVariants.{Completed, Response, Done, Failed, Silent, CopyFault}
+use Rattle.reg_desk_jobs.specs.declared.control_reply.LineOutcome.TheVariants.{Completed, Response, Done, ScheduleSet, Failed, Silent, CopyFault}
 
 -- the reply is these bytes, or empty if there was no memory for them
 abbrev pub IsReplyText : List ℕ → List ℕ → Type 0
@@ -43,6 +43,7 @@ ReportsLineOutcome (Response refuses) text =
     (response : List ℕ) × (text ≡ with_lf (codes "ocsp " ++ encode_lower response))
     × (refuses ≡ (length response == 5))
 ReportsLineOutcome Done text = IsAccepted text × (0 < length text)
+ReportsLineOutcome ScheduleSet text = text ≡ codes "schedule set\n"
 ReportsLineOutcome (Failed why) text = text ≡ failure_line why ++ 10 ∷ []
 ReportsLineOutcome (CopyFault why) text = text ≡ fault_line why ++ 10 ∷ []
 ReportsLineOutcome Silent text = text ≡ []
@@ -74,6 +75,7 @@ kind_of (CopyFault why) = kind_of_fault why
 kind_of Silent = kind.Fault
 kind_of (Response refuses) = kind.Accepted
 kind_of Done = kind.Accepted
+kind_of ScheduleSet = kind.Accepted
 
 -- the outcome without a signature: it failed, or was not requested
 abbrev pub failed_if : Bool → SignatureOutcome
@@ -93,9 +95,11 @@ ocsp_outcome signature_failed (Response false) =
     cond signature_failed signature_outcome.Failed signature_outcome.Made
 ocsp_outcome signature_failed other = signature_outcome.NotRequested
 
--- the effect of a line on the store: `Written` after an accepted command, `Failed` after the fault `Store` (not of a copy), else `Unwritten`
+-- the effect of a line on the store: `Written` after an accepted command or a schedule that was set, `Failed` after the fault `Store` (not of a copy),
+-- else `Unwritten`
 abbrev pub store_effect : LineOutcome → StoreEffect
 store_effect (Completed (Command command) (Ok reply)) = effect.Written
+store_effect ScheduleSet = effect.Written
 store_effect (Completed what (Err fault.Store)) = effect.Failed
 store_effect (Failed (failure.Fault fault.Store)) = effect.Failed
 store_effect other = effect.Unwritten

@@ -162,7 +162,7 @@ module _ {M O D S R W : Type 0} (machines : Machine M O D S R) (offices : Office
       ⊎ ((found : AuditResult) × Audits machines machine path found
       × ReportsAuditResult contents writer writer' found result))
 
-  -- a copy of the register at a path, to another path: none was created; or one was, where nothing lay before, and its length in bytes and the
+  -- a copy of the register at a path, to another path: none was created; or one was, where nothing was before, and its length in bytes and the
   -- milliseconds that it took are written
   abbrev pub CopyAt : List ℕ → List ℕ → Result (Unit {0}) Failure → Type 0
   CopyAt path to result =

@@ -1,4 +1,4 @@
--- The lines of the log: for an exchange, whatever bytes it has, and for a connection that ended by a fault.
+-- The lines of the log: for an exchange, whatever bytes it has, and for a fault of a connection.
 use Rattle.std.specs.Prelude.{ℕ, Bool, cond, not, ◌||◌, ◌&&◌, List, [], ◌∷◌, ◌++◌, ◌+◌, ◌/◌, ◌%◌, ◌==◌, nat_le, nat_lt, take, length, codes, decimal, Option, Some, None}
 use Rattle.std.specs.List.{flat_map, position}
 use Rattle.std.specs.Option.{option_map_or}
@@ -50,6 +50,6 @@ exchange_line now client asked answered micros named signature_failed =
     ++ (32 ∷ decimal (length answered)) ++ (32 ∷ decimal micros)
     ++ named_end named ++ unsigned_end signature_failed
 
--- the line of a connection that ended by a fault, without its LF
+-- the line of a fault of a connection, without its LF
 abbrev pub lost_line : ℕ → List ℕ → List ℕ → List ℕ
 lost_line now client why = moment_text now ++ (32 ∷ client) ++ codes " lost " ++ why

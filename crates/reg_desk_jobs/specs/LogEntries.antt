@@ -30,14 +30,14 @@ pub record LoggedExchange : Type 0 where
   pub client : List ℕ
   pub asked : List ℕ
   pub answered : List ℕ
-  pub behind : List ℕ
+  pub after_answer : List ℕ
 
 abbrev pub exchange_of : ExchangeText → LoggedExchange
 exchange_of logged_exchange = record {
   client = logged_exchange.client.now;
   asked = logged_exchange.asked.now;
   answered = logged_exchange.answered.now;
-  behind = logged_exchange.behind.now;
+  after_answer = logged_exchange.after_answer.now;
 }
 
 -- the exchange of a line of the log: four of its parts, which its first four quotation marks separate; none if there are fewer
@@ -47,7 +47,7 @@ exchange_in line = do
   asked ← split_at_quote client.1
   between ← split_at_quote asked.1
   answered ← split_at_quote between.1
-  Some (record { client = client.0; asked = asked.0; answered = answered.0; behind = answered.1 })
+  Some (record { client = client.0; asked = asked.0; answered = answered.0; after_answer = answered.1 })
 
 -- the first word of a text, of those that spaces separate; empty if there is none
 abbrev pub first_word : List ℕ → List ℕ
@@ -132,8 +132,8 @@ unnamed logged_exchange =
 -- the meaning of a logged exchange: `Unknown` if a quotation mark follows the answer (two lines ran together); else by `named_in` or `unnamed`
 unfoldable pub log_meaning_of : LoggedExchange → LogMeaning
 log_meaning_of logged_exchange =
-    if has_quote logged_exchange.behind then Unknown
-    else unwrap_or (named_in (fields_of logged_exchange.behind)) (unnamed logged_exchange)
+    if has_quote logged_exchange.after_answer then Unknown
+    else unwrap_or (named_in (fields_of logged_exchange.after_answer)) (unnamed logged_exchange)
 
 -- a line of the log has no quotation mark, or it has an exchange that means `Nothing`
 abbrev pub LogsNothing : List ℕ → Type 0

@@ -1,5 +1,5 @@
-//! The limits for requests for revocation that an open desk takes over HTTP. Of these, only the clock's applies to commands at the control socket, so
-//! the operator can revoke while clients flood the port.
+//! When an open desk refuses a request for revocation over HTTP. Only the refusal because the clock is too far ahead also applies to commands at the
+//! control socket, so the operator can revoke while clients flood the port.
 
 ghost use Rattle.std.specs.Prelude.{◌≡◌, IfOk, None, replicate};
 ghost use Rattle.reg_office_api.specs.Calls.{LeadsIn, LooksIn};
@@ -137,7 +137,8 @@ fn refused(alloc: Global, status: u16) -> Result<Option<Answered>, Memory>
     Ok(Some(refuse(alloc, status)?))
 }
 
-/// The status of the refusal: 503 if the clock is too far ahead, or if less than a tenth of `cap` is left; else 429 for [`MOST_OPEN`] open requests.
+/// The status of the refusal: 503 if the clock is too far ahead, or if less than a tenth of `cap`, rounded down, is left; else 429 for [`MOST_OPEN`]
+/// open requests.
 fn limit_of(request_load: RequestLoad, is_ahead: bool) -> Option<u16>
     ensures { result ≡ limit_by request_load is_ahead }
 {

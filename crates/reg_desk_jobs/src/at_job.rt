@@ -120,6 +120,7 @@ pub fn exchange_lines<R: BufRead, W: Write, C: BufRead, S: Write>(
             Step::End => return ended(is_accepted),
         }
     }
+    // No input has this many lines.
     Err(Failure::Fault(Fault::Read))
 }
 

@@ -1,9 +1,9 @@
 //! Lines at the control socket, as an open desk answers them.
 
-ghost use Rattle.std.specs.Prelude.{◌≡◌, ◌⊎◌, ◌↔◌, ◌<◌, ◌≤◌, [], IfSome, IsTrue, Some, codes, vec_capacity};
+ghost use Rattle.std.specs.Prelude.{◌≡◌, ◌⊎◌, ◌↔◌, ◌<◌, ◌≤◌, [], IfSome, IsTrue, OnOk, Some, codes, vec_capacity};
 ghost use Rattle.reg_lines.specs.Answer.{reply_of};
 ghost use Rattle.reg_office_api.specs.Calls.{KeepsIn, LeadsIn, LooksIn};
-ghost use Rattle.reg_desk_jobs.specs.ControlReplies.{IsReplyText, ReportsLineOutcome, line_outcome_of};
+ghost use Rattle.reg_desk_jobs.specs.ControlReplies.{IsLineReply, IsReplyText, ReportsLineOutcome, line_outcome_of};
 ghost use Rattle.reg_desk_jobs.specs.Counted.{CountsLine, SignatureFailed};
 ghost use Rattle.reg_desk_jobs.specs.ControlWords.{AtClock, CommandAt, HasCommand, IsAcceptedAfter, LineAt, ChecksClock, AnswersLineAt};
 ghost use Rattle.reg_desk_jobs.specs.Schedules.{SetAt, SetsSteps, RepliesSetting};
@@ -297,9 +297,10 @@ fn set_steps<M: Machine>(
 fn set_reply(alloc: Global, set: Result<(), Failure>) -> ControlReply
     ensures text { RepliesSetting set result.text.items }
     ensures line_outcome { ReportsLineOutcome result.line_outcome result.text.items }
+    ensures written { OnOk set (IsLineReply (codes "schedule set") LineOutcome.ScheduleSet result) }
 {
     match set {
-        Ok(()) => ControlReply::line(alloc, b"schedule set", LineOutcome::Done),
+        Ok(()) => ControlReply::line(alloc, b"schedule set", LineOutcome::ScheduleSet),
         Err(why) => ControlReply::line(alloc, why.line().as_bytes(), LineOutcome::Failed(why)),
     }
 }

@@ -18,8 +18,10 @@ pub(crate) enum LineOutcome {
     Completed(LineKind, Outcome),
     /// An OCSP request that got a response; `true` if the response has only a status (RFC 6960 4.2.1).
     Response(bool),
-    /// A word that only the control socket has, which succeeded.
+    /// A word that only the control socket has, which succeeded and wrote nothing to the store.
     Done,
+    /// A schedule was set, and so written to the store.
+    ScheduleSet,
     /// Any other failure: of such a word, or before a command ran, such as `bad-clock`.
     Failed(Failure),
     /// No copy was created, because of this fault, which is not counted as a failure of the store.
@@ -59,6 +61,7 @@ impl LineOutcome {
             LineOutcome::Completed(_, Err(fault)) => kind_of_fault(fault),
             LineOutcome::Response(_) => LineReply::Accepted,
             LineOutcome::Done => LineReply::Accepted,
+            LineOutcome::ScheduleSet => LineReply::Accepted,
             LineOutcome::Failed(Failure::Fault(fault)) => kind_of_fault(fault),
             LineOutcome::Failed(_) => LineReply::Refused,
             LineOutcome::CopyFault(fault) => kind_of_fault(fault),
@@ -96,6 +99,7 @@ impl LineOutcome {
     {
         match self {
             LineOutcome::Completed(LineKind::Command(_), Ok(_)) => StoreEffect::Written,
+            LineOutcome::ScheduleSet => StoreEffect::Written,
             LineOutcome::Completed(_, Err(Fault::Store)) => StoreEffect::Failed,
             LineOutcome::Failed(Failure::Fault(Fault::Store)) => StoreEffect::Failed,
             _ => StoreEffect::Unwritten,

@@ -13,9 +13,6 @@ use std::io::ErrorKind;
 
 const OWNER_ONLY: u32 = 0o600;
 
-/// The most waiting connections that are closed once the mode is set (Linux's default `net.core.somaxconn`).
-const MOST_WAITING: usize = 4_096;
-
 /// Creates a Unix socket at a path to which only its owner may connect, and listens on it without blocking. A stale socket, on which no program
 /// listens, is replaced, by exactly one of the desks that try at once. Errors: `AddrInUse` if a socket is there that does not refuse connections, or
 /// if a program keeps the folder locked for ten seconds; `AlreadyExists` if something else than a socket is there; others are the system's.
@@ -73,7 +70,9 @@ fn remove_stale<M: Machine>(machine: &M, lock: &File, path: &str) -> io::Result<
 
 /// Closes the connections that clients opened before the mode was set.
 fn drop_waiting(listener: &UnixListener) {
-    for _ in 0..MOST_WAITING {
+    // Not a fixed number: the queue holds `net.core.somaxconn` + 1 of them, and that may be raised. By now only the owner and root can connect, so
+    // this ends.
+    for _ in 0..u64::MAX {
         if listener.accept().is_err() {
             return;
         }

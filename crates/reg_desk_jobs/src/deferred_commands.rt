@@ -33,7 +33,7 @@ pub enum SignatureKind {
 #[derive(Clone, Copy)]
 pub struct LineTicket {
     pub(crate) wanted: SignatureKind,
-    /// The moment for which the message was made.
+    /// The moment for which the message was made; 1970-01-01T00:00:00Z if it is empty, in a back-off.
     pub(crate) moment: Moment,
     /// When the desk began the line, in microseconds of the monotonic clock.
     pub(crate) began: u64,

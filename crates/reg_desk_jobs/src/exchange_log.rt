@@ -1,4 +1,4 @@
-//! Writes exchanges and lost connections to the log, if there is one.
+//! Writes exchanges and faults of connections to the log, if there is one.
 
 use crate::log_lines::{exchange_line, lost_line};
 use crate::machine::Machine;
@@ -12,7 +12,7 @@ use std::net::SocketAddr;
 /// The name in the log of a client at the control socket, which has no address.
 pub(crate) const CONTROL_SOCKET: &str = "control";
 
-/// Logs an HTTP exchange, and how many microseconds it took.
+/// Logs an HTTP exchange whose answer was begun at `now`, and how many microseconds it took.
 pub(crate) fn log_exchange<M: Machine>(
     alloc: Global,
     machine: &M,
@@ -75,7 +75,7 @@ pub(crate) fn log_line<M: Machine>(
     );
 }
 
-/// Logs that a connection ended by a fault. `client` is `None` for a connection to the control socket.
+/// Logs a fault of a connection, which may still be answered. `client` is `None` for a connection to the control socket.
 pub(crate) fn log_lost<M: Machine>(
     alloc: Global,
     machine: &M,

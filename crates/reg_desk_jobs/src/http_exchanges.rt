@@ -53,7 +53,7 @@ pub(crate) enum Dispatch {
     ToMetrics,
 }
 
-/// Which part answers a request at a route: the register, if the desk is not open.
+/// Which part answers a request at a route: always the register alone if the desk runs as `desk serve`, not as `desk open`.
 fn dispatch_of(is_open: bool, route: Route) -> Dispatch
     ensures { result ≡ dispatch is_open route }
 {
@@ -175,6 +175,7 @@ fn exchange_at<M: Machine>(
             let route = Route::named_in(request.as_slice());
             begun_exchange(route, room, ready(refuse(alloc, status)), now)
         }
+        // No whole request came, so there is no response.
         Err(Fault::Read) => ReadyOrUnsigned::Ready(empty(alloc, request)),
         Err(_) => {
             let route = Route::named_in(request.as_slice());
@@ -183,6 +184,7 @@ fn exchange_at<M: Machine>(
     }
 }
 
+/// An exchange without a response, at the route that the first line names.
 fn empty(alloc: Global, request: &Collected) -> Exchange
     ensures empty { IsEmpty result }
     ensures nothing { HasNoEffects result }

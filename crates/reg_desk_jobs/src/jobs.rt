@@ -311,7 +311,7 @@ fn print_set_result<W: Write>(
 }
 
 /// Audits the register at a path, and writes the result. The audit only reads, so no file changes. Errors: `Broken` if a row is broken, or if
-/// tables, columns or indexes are not those of a register; `OldVersion`; those of [`Machine::read`] and [`Machine::audit_in`]; `Write`.
+/// the schema is not that of a register; `OldVersion`; those of [`Machine::read`] and [`Machine::audit_in`]; `Write`.
 pub fn audit<M: Machine, W: Write>(
     alloc: Global,
     machine: &M,

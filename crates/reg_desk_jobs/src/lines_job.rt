@@ -1,4 +1,4 @@
-//! The job `script` with `--clock` or `--strict`: runs the lines of standard input over a register, one by one.
+//! Runs of scripts over a register, and the job `script` with `--clock` or `--strict`.
 
 ghost use Rattle.std.specs.Prelude.{◌↔◌, IsTrue, None};
 ghost use Rattle.reg_office_api.specs.Calls.{LeadsIn, LooksIn};
@@ -54,7 +54,7 @@ impl<'a, M: Machine> Host for ScriptHost<'a, M> {
     }
 }
 
-/// Runs the script of standard input over the register at a path, line by line. A strict script ends at the first refusal or fault (`Refused`), and
+/// Runs the script of standard input over the register at a path, with these options. A strict script ends at the first refusal or fault (`Refused`), and
 /// runs no last line without its line end (`NoLineEnd`). If it ends at a registration with E08, E09 or E12, the reason is kept in `reason`. If the
 /// register's CRL 1 gets a placeholder digest, the job warns on standard error. With `--clock`, no line runs if the clock is more than 30 days past
 /// the last accepted moment (`BadClock`), unless the operator accepts that. Other errors: those of [`script`](crate::script).
@@ -91,7 +91,8 @@ pub fn script_by_lines<M: Machine, R: Source, W: Sink>(
     run_ended(ran)
 }
 
-/// Whether the lines run at the machine's clock, which is too far ahead, and the operator does not accept that. `false` if the clock can't be read.
+/// Whether all of these hold: the lines run at the machine's clock, it is too far ahead, and the operator does not accept that. `false` if the
+/// clock can't be read.
 fn refuses_clock<M: Machine>(machine: &M, office: &mut M::Office, options: ScriptOptions) -> bool
     ensures { LooksIn M.Office.Office
         (λ records. IsTrue result → IsClockRefused options M.clock_reached records)
@@ -113,6 +114,7 @@ pub(crate) fn is_ahead_of<M: Machine>(office: &mut M::Office, now: Moment) -> bo
         office.old office.new }
 {
     match office.summary() {
+        // `None`: only an open desk has a moment that `accept-clock` accepted.
         Ok(summary) => is_ahead(now, summary.last, None),
         Err(_) => false,
     }

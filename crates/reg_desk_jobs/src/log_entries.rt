@@ -18,7 +18,7 @@ pub(crate) struct ExchangeText<'a> {
     pub(crate) asked: &'a [u8],
     pub(crate) answered: &'a [u8],
     /// After a space, which makes the first field empty: the answer's bytes, the microseconds, and perhaps `request ..` or `signer`.
-    pub(crate) behind: &'a [u8],
+    pub(crate) after_answer: &'a [u8],
 }
 
 /// A command that `replay` sends again.
@@ -57,12 +57,12 @@ pub(crate) fn exchange_in(line: &[u8]) -> Option<ExchangeText<'_>>
     let (client, rest) = split_at_quote(line)?;
     let (asked, rest) = split_at_quote(rest)?;
     let (_, rest) = split_at_quote(rest)?;
-    let (answered, behind) = split_at_quote(rest)?;
+    let (answered, after_answer) = split_at_quote(rest)?;
     Some(ExchangeText {
         client,
         asked,
         answered,
-        behind,
+        after_answer,
     })
 }
 
@@ -93,10 +93,10 @@ pub(crate) fn has_quote(text: &[u8]) -> bool
 pub(crate) fn log_meaning_of(logged_exchange: &ExchangeText<'_>) -> LogMeaning
     ensures { result ≡ log_meaning_of (exchange_of logged_exchange.now) }
 {
-    if has_quote(logged_exchange.behind) {
+    if has_quote(logged_exchange.after_answer) {
         return LogMeaning::Unknown;
     }
-    match named_in(logged_exchange.behind) {
+    match named_in(logged_exchange.after_answer) {
         Some(logged) => logged,
         None => unnamed(logged_exchange),
     }
@@ -104,10 +104,10 @@ pub(crate) fn log_meaning_of(logged_exchange: &ExchangeText<'_>) -> LogMeaning
 
 /// The meaning of an exchange that names a request, in the fields after the answer's bytes and time; `None` if they name none.
 #[tactic(auto, unfolding(crate::specs::LogEntries::named_in))]
-fn named_in(behind: &[u8]) -> Option<LogMeaning>
-    ensures { result ≡ named_in (fields_of behind.now) }
+fn named_in(after_answer: &[u8]) -> Option<LogMeaning>
+    ensures { result ≡ named_in (fields_of after_answer.now) }
 {
-    let mut fields = Fields::of(behind);
+    let mut fields = Fields::of(after_answer);
     fields.next()?;
     fields.next()?;
     fields.next()?;

@@ -1,4 +1,4 @@
-//! The lines of the log: one for each exchange, and one for each connection that ended by a fault.
+//! The lines of the log: one for each exchange, and one for each reported fault of a connection.
 
 ghost use Rattle.std.specs.Prelude.{◌≡◌, ◌++◌, ◌∷◌, ◌<◌, ◌≤◌, [], IfOk, IfSome, OnOk, decimal, length, take};
 ghost use Rattle.std.specs.List.{flat_map, position};
@@ -38,7 +38,7 @@ pub(crate) fn exchange_line(
     Ok(line)
 }
 
-/// The line of a connection that ended by a fault, without its LF.
+/// The line of a fault of a connection, without its LF.
 pub(crate) fn lost_line(
     alloc: Global,
     now: Moment,

@@ -52,7 +52,7 @@ pub trait Machine {
     /// A file that is open as a database.
     type Database: Drop;
 
-    /// A register's files that are open for reading alone.
+    /// A register's files, opened read-only.
     type Sources: Drop;
 
     /// The responder to OCSP requests, with the certificate that its answers contain, if any.
@@ -60,11 +60,11 @@ pub trait Machine {
 
     // ---- files; a relation over two machines relates the one before the action to the one after it
 
-    /// Something lies at the path, a WAL lies beside it, or no file can be created there.
+    /// There is a file or a link at the path, a WAL beside it, or no file can be created there.
     ghost taken: { Self → List ℕ → Type 0 };
     /// Nothing is found at the path.
     ghost absent: { Self → List ℕ → Type 0 };
-    /// Nothing lay at the path, and an empty file was created there.
+    /// There was nothing at the path, and an empty file was created there.
     ghost claimed: { Self → List ℕ → Self → Type 0 };
     /// The program tried to remove the file at the path, and its WAL.
     ghost removed: { Self → List ℕ → Self → Type 0 };
@@ -84,9 +84,9 @@ pub trait Machine {
     ghost opened: { Self.Database → SignsCrls → Self.Responder → Self.Office → Type 0 };
     /// A register was created in the database, and this is the office over it.
     ghost made: { Self.Database → Self.Office → Type 0 };
-    /// The office whose file lies at the path was closed.
+    /// The office whose file is at the path was closed.
     ghost closed: { Self → List ℕ → Self.Office → Self → Type 0 };
-    /// The files at the path were opened for reading alone.
+    /// The files at the path were opened read-only.
     ghost read: { Self → List ℕ → Self.Sources → Type 0 };
     /// An audit of the register in the files had this result.
     ghost audited: { Self.Sources → AuditResults → Type 0 };
@@ -197,11 +197,11 @@ pub trait Machine {
             (signers : OfficeSigners) × Self.Office.stands signers office (no_records issuer policy)) }
         ensures faults { IfErr result IsCreateFailure };
 
-    /// Closes the office whose file lies at a path.
+    /// Closes the office whose file is at a path.
     fn close(&mut self, path: &str, office: Self::Office)
         ensures { closed self.old path.now office self.new };
 
-    /// Opens the files at a path for reading alone: each byte of them stays, and nothing is created beside them.
+    /// Opens the files at a path read-only: each byte of them stays, and nothing is created beside them.
     fn read(&self, path: &str) -> Result<Self::Sources, Failure>
         ensures read { IfOk result (read self.now path.now) }
         ensures read_failed { IfErr result (read_failed self.now path.now) }
@@ -213,15 +213,15 @@ pub trait Machine {
         ensures audited { IfOk result (audited sources) }
         ensures faults { IfErr result IsOpenFailure };
 
-    /// Copies the register at a path, which is only read, to a path at which nothing lies, and returns how many bytes the copy has. The copy is for
+    /// Copies the register at a path, which is only read, to a path without a file, and returns how many bytes the copy has. The copy is for
     /// its owner alone, and is synced with its folder. It gets its name once it is whole. `NotARegister` if there is no database yet; `Store` also if
-    /// a program has locked the register for writing, or if something lies at the second path, or there with `-wal`, `-journal` or `.part`.
+    /// a program has locked the register for writing, or if there is a file at the second path, or there with `-wal`, `-journal` or `.part`.
     fn copy(&mut self, path: &str, to: &str) -> Result<u64, Failure>
         ensures ok { IfOk result (λ bytes. copied self.old path.now to.now bytes self.new) }
         ensures err { IfErr result (λ why. copy_failed self.old path.now to.now why self.new) }
         ensures faults { IfErr result IsReadFailure };
 
-    /// In the same way, copies the register that this program has open, between two transactions. `Store` also if another file lies at the path.
+    /// In the same way, copies the register that this program has open, between two transactions. `Store` also if another file is at the path now.
     fn copy_open(&self, path: &str, to: &str) -> Result<u64, CopyFault>
         ensures ok { IfOk result (copied_open path.now) }
         ensures err { IfErr result (λ why. IsOfStore why.fault) };
@@ -262,7 +262,7 @@ pub trait Machine {
     fn lock_folder(&self, path: &str) -> io::Result<File>
         ensures { IfOk result (λ lock. locked lock path.now) };
 
-    /// Creates a socket at a path, and listens there without blocking; `AddrInUse` if something lies there.
+    /// Creates a socket at a path, and listens there without blocking; `AddrInUse` if the path exists.
     fn create_socket(&self, lock: &File, path: &str) -> io::Result<UnixListener>
         requires { locked lock.now path.now }
         ensures { OnOk result (socket_created path.now) };
@@ -317,7 +317,7 @@ pub trait Machine {
             AnsweredAtSomePath signer_answered known.message.items answer.items)) }
         ensures { KeepsIn Self.Office.Office office.old office.new };
 
-    /// Whether there is a log, for exchanges and lost connections.
+    /// Whether there is a log, for exchanges and faults of connections.
     fn has_log(&self) -> bool;
 
     /// Appends a line with its LF to the log. If writing fails, the log has none or only a part of the line.

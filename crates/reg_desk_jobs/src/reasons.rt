@@ -16,7 +16,7 @@ use std::cell::Cell;
 
 const DAY: u64 = 86_400;
 
-/// Why a line or a row was refused, in more detail than its reply; only `Unsigned` is why the next CRL is due at once.
+/// Why a line or a row was refused, in more detail than its reply. `Unsigned` alone is no refusal: it says why the next CRL is due at once.
 #[derive(Clone, Copy, PartialEq, Eq)]
 pub enum Reason {
     /// There is no order with this number.

@@ -74,7 +74,7 @@ pub(crate) fn create_register<M: Machine>(
     ensures faults { IfErr result IsCreateFailure }
 {
     // The job has called `Machine::claim`. If there still is no file, the call returned `false`: the path is a dangling symbolic link, a WAL without
-    // a register lies beside it, or no file can be created there. The machine kept the cause, if it is known.
+    // a register is beside it, or no file can be created there. The machine kept the cause, if it is known.
     if !machine.is_there(path) {
         return Err(Failure::Fault(Fault::Store));
     }

@@ -101,6 +101,7 @@ fn replay_log<R: BufRead, W: Write, C: BufRead, S: Write>(
             Next::End => return Ok(()),
         }
     }
+    // No log has this many lines.
     Err(Failure::Fault(Fault::Read))
 }
 
@@ -136,6 +137,7 @@ fn replay_line<W: Write, C: BufRead, S: Write>(
                 )
             }
         },
+        // Only a part of an exchange; or, without a quotation mark, no exchange, but for example the fault of a connection.
         None if has_quote(text) => stop(writer, line),
         None => Ok(()),
     }

@@ -96,6 +96,7 @@ fn send_each<R: BufRead, W: Write, C: BufRead, S: Write>(
             Next::End => return ended(is_done),
         }
     }
+    // No input has this many lines.
     Err(Failure::Fault(Fault::Read))
 }
 

@@ -13,7 +13,7 @@ use Rattle.reg_http_head.specs.declared.collected.Collected.{Collected}
 use Rattle.reg_desk_server.specs.Connections.{FinishesInSomeState, IsServedOnce, HasAnsweredLines, IsAnsweredAtMostOnce, IsAnsweredBy, KeepsServed, ServesOn, SinceAccepted, AnswersNoMoreLines, AnswersOneMoreLine, WasAnswered, WasLeftUnsigned, more_received, more_sent, nothing_yet}
 use Rattle.reg_desk_server.specs.ControlLines.{DefersFirstLine, Gathers, IsFresh, SameLines, SameLinkAndEnd, AnswersFirstLine, AnswersDeferred}
 use Rattle.reg_desk_server.specs.Exchange.{Outcome, said, pending, later}
-use Rattle.reg_desk_server.specs.Stages.{Answering, Finishing, HasReceived, HasUnsentText, HasUnsentRest, IsDraining, IsDropped, KeepsOutcome, AwaitsSignature, KeepsSigning}
+use Rattle.reg_desk_server.specs.Stages.{Answering, Finishing, HasReceived, HasUnsentText, HasUnsentRest, IsDraining, IsDropped, KeepsOutcome, AwaitsSignature, KeepsReceived, KeepsSigning}
 use Rattle.reg_desk_server.specs.Buffers.{unsent_of}
 use Rattle.reg_desk_server.specs.declared.control_connection.ControlConnection.{ControlConnection}
 use Rattle.reg_desk_server.specs.declared.handler.Handler.{Ghosts}
@@ -243,6 +243,15 @@ module _ {H T : Type 0} (answers : H → List ℕ → Outcome T → H → Type 0
       → KeepsSigning before after → (ended ≡ true → ended' ≡ true) → IsAnsweredAtMostOnce answers finishes arrived gone after ended'
   resting_on (stage.Signing ticket link exact) after arrived gone ended ended' was waits ends = waiting_on after arrived gone ticket ended' was.0 was.1 waits
   resting_on other after arrived gone ended ended' was same ends = same_on other after arrived gone ended ended' same ends was
+
+  -- a request kept its bytes, or nothing changed
+  pub keeping_on : (before after : Stage T) (arrived gone : List ℕ) (ended ended' : Bool) → IsAnsweredAtMostOnce answers finishes arrived gone before ended
+      → KeepsReceived before after → (ended ≡ true → ended' ≡ true) → IsAnsweredAtMostOnce answers finishes arrived gone after ended'
+  keeping_on (stage.Receiving collected) (stage.Receiving same) arrived gone ended ended' was kept ends =
+      same_on (stage.Receiving same) (stage.Receiving same) arrived gone ended ended' refl ends
+      (was.0, was.1, was.2 ∙ ap (λ (l : List ℕ). l ++ was.1) kept, was.3)
+  keeping_on (stage.Receiving collected) _ arrived gone ended ended' was kept ends = absurd kept
+  keeping_on other after arrived gone ended ended' was same ends = same_on other after arrived gone ended ended' same ends was
 
 module _ {S H T L : Type 0} (contents remaining : S → Option (List ℕ)) (g : Ghosts H T L) where
   -- a connection that was just accepted

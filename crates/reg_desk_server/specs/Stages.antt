@@ -3,6 +3,7 @@
 use Rattle.std.specs.Prelude.{◌≡◌, ℕ, true, List, [], ◌++◌, Option, is_some}
 use Rattle.std.specs.Io.KnownBytes.{Appends, Consumes}
 use Rattle.reg_http_head.specs.Bytes.{collected_bytes}
+use Rattle.reg_http_head.specs.Frame.{IsUnfinished}
 use Rattle.reg_desk_server.specs.Exchange.{Outcome, said, pending, later}
 use Rattle.reg_desk_server.specs.ControlLines.{Gathers}
 use Rattle.reg_desk_server.specs.Buffers.{unsent_of}
@@ -14,6 +15,16 @@ use Rattle.reg_desk_server.specs.declared.http_connection.Stage.TheVariants as s
 abbrev pub HasReceived : {T : Type 0} → Stage T → List ℕ → Type 0
 HasReceived (stage.Receiving collected) bytes = bytes ≡ collected_bytes collected
 HasReceived other bytes = ⊥
+
+-- the request is still being received, and the bytes that are kept are no whole request
+abbrev pub IsIncomplete : {T : Type 0} → Stage T → Type 0
+IsIncomplete (stage.Receiving collected) = ∥ IsUnfinished (collected_bytes collected) ∥₁
+IsIncomplete other = ⊥
+
+-- a request that is being received still is, with the same bytes; in any other stage nothing changes
+abbrev pub KeepsReceived : {T : Type 0} → Stage T → Stage T → Type 0
+KeepsReceived (stage.Receiving collected) after = HasReceived after (collected_bytes collected)
+KeepsReceived other after = after ≡ other
 
 -- an answer is being sent, and this is its unsent part
 abbrev pub HasUnsentText : {T : Type 0} → Stage T → List ℕ → Type 0

@@ -104,6 +104,7 @@ impl Acceptor {
     {
         self.accept_next(limit, connections, shared, handler)?;
         if self.next.is_some() && !connections.slots.has_free() {
+            // A later call gives the freed slot to `next`.
             connections.evict(shared);
             return Ok(false);
         }

@@ -141,18 +141,28 @@ impl<H: Handler> ControlConnections<H> {
                 {
                     self.slots.put(slot, connection);
                 } else {
-                    self.close(slot, connection);
+                    // Reported even if no reply is unsent: the client may be about to send a line.
+                    self.close_broken(slot, connection, shared);
                 }
             }
             Next::Park => self.slots.put(slot, connection),
-            Next::Close => {
-                if connection.unsent.len() > 0 {
-                    let why = ConnectionFault::Broken;
-                    shared.lost.add_lost(LostConnection { client: None, why });
-                }
-                self.close(slot, connection);
+            Next::Close if connection.unsent.len() > 0 => {
+                self.close_broken(slot, connection, shared);
             }
+            Next::Close => self.close(slot, connection),
         }
+    }
+
+    /// Closes a connection that failed, and reports the loss.
+    fn close_broken(
+        &mut self,
+        slot: usize,
+        connection: ControlConnection<UnixStream>,
+        shared: &mut Shared,
+    ) {
+        let why = ConnectionFault::Broken;
+        shared.lost.add_lost(LostConnection { client: None, why });
+        self.close(slot, connection);
     }
 
     fn close(&mut self, slot: usize, connection: ControlConnection<UnixStream>)

@@ -97,6 +97,7 @@ impl<H: Handler> EventLoop<H> {
     /// Closes the HTTP connections that still receive, without an answer. Sends the other answers, of which some still wait for a signature, until no
     /// HTTP connection is left. Answers no more control lines. Reports lost connections to the handler. [`EventLoopFault`] if the system failed.
     pub fn finish(&mut self, handler: &H) -> Result<(), EventLoopFault> {
+        // No more connections are accepted.
         let limit = self.acceptor.accepted;
         self.http.close_all_receiving(&mut self.shared);
         for _ in 0..u64::MAX {
@@ -293,10 +294,11 @@ impl<H: Handler> EventLoop<H> {
         }
     }
 
-    /// Requests a queued signature at a free index. If its client closed its sending side while the signature was queued, closes the connection
-    /// instead.
+    /// Requests the signature of an answer that waited in the queue, at a free index. If its client closed its sending side meanwhile, closes the
+    /// connection instead.
     fn request(&mut self, pending: WantedSignature, index: usize, handler: &H, now: u64) {
         let requester = pending.requester;
+        // Whether it was queued at an earlier moment.
         let has_waited = pending.deadline < now.saturating_add(TIMEOUT_MILLIS);
         if has_waited && self.http.close_if_ended(requester, &mut self.shared, now) {
             return;

@@ -13,12 +13,12 @@ use std::time::Duration;
 #[derive(Clone, Copy, Debug, PartialEq, Eq)]
 pub struct EventLoopFault;
 
-/// Why a connection was lost.
+/// A fault of a connection, by which it was lost or no more of its request was received.
 #[derive(Clone, Copy, Debug, PartialEq, Eq)]
 pub enum ConnectionFault {
-    /// A read, write or poller registration failed before the whole answer was sent, or the client closed its side while its signature was queued.
+    /// A read, write or poller registration failed before the whole answer was sent, or the client half-closed before its signature was requested.
     Broken,
-    /// The time of the connection was up before its request was answered or its whole answer was sent.
+    /// The time of the connection was up before its request was whole or its whole answer was sent.
     TimedOut,
     /// The connection was evicted, for another one or for the limit of unsent bytes, before its whole answer was sent.
     Evicted,
@@ -42,7 +42,8 @@ pub struct Deferred<T> {
 }
 
 /// Answers requests and lines, one after the other. While a signature is awaited, other requests are answered. While a line awaits one, no other line
-/// is answered. Only `Desk` in `reg_desk_jobs` implements this trait, which exists because the event loop's contracts quantify over its relations.
+/// is answered. Only `Desk` in `reg_desk_jobs` implements this trait, which exists so that the contracts of the event loop hold for any `answers`,
+/// `answers_line`, `defers` and `finishes`.
 pub trait Handler {
     ghost use Rattle.std.specs.Prelude.{◌≡◌, ◌+◌, ℕ, List, IsTrue, IfErr, IfOk, OnErr, OnOk, MatchOption};
     ghost use Rattle.reg_http_head.specs.Bytes.{collected_bytes};
@@ -59,13 +60,13 @@ pub trait Handler {
     // The outcome of this request, with the handler before and after it.
     ghost answers: { Self → List ℕ → Outcome Self.Ticket → Self → Type 0 };
 
-    // This text is the reply to this line, with the handler before and after it.
+    // The reply to a line (the first list) is a text (the second), with the handler before and after it.
     ghost answers_line: { Self → List ℕ → List ℕ → Self → Type 0 };
 
-    // The handler has not answered this line, and may have made its message; the handler before, and after.
+    // The handler does not answer this line; at most it makes the message to be signed for the line. The handler before and after it.
     ghost defers: { Self → List ℕ → Self → Type 0 };
 
-    // This text finishes the answer that was left to be signed.
+    // This is the whole text of the answer that was left to be signed.
     ghost finishes: { Self → Self.Ticket → List ℕ → Type 0 };
 
     // This handler has a control socket.
@@ -103,7 +104,7 @@ pub trait Handler {
     fn accept(&self, listener: &TcpListener) -> io::Result<(TcpStream, SocketAddr)>
         ensures { IfErr result (AcceptFails failed) };
 
-    /// Answers the bytes that came from a client, or leaves an answer to be signed. Bytes that are no whole request may get an empty text.
+    /// Answers the bytes that came from a client, or leaves an answer to be signed. An incomplete request gets an empty text.
     /// [`EventLoopFault`] if the clock can't be read.
     fn answer(
         &mut self,
@@ -120,7 +121,7 @@ pub trait Handler {
     /// comes.
     fn request_signature(&self, ticket: &Self::Ticket) -> io::Result<SignatureRequest>;
 
-    /// The text that finishes an answer that is to be signed. `link` is the connection on which its signature was requested, once that connection is
+    /// The whole text of an answer that was left to be signed. `link` is the connection on which its signature was requested, once that connection is
     /// at its end; `None` if there is no signature.
     fn finish(&self, ticket: Self::Ticket, link: Option<SignatureRequest>) -> Vec<u8>
         ensures { finishes self.now ticket result.items };
@@ -137,7 +138,8 @@ pub trait Handler {
         ensures err { OnErr result ((self.new ≡ self.old) × (last_reason.new ≡ last_reason.old)) }
         ensures fails { OnErr result failed };
 
-    /// The message to be signed before a line is answered; empty for an OCSP line in its signer's back-off. `None` if there is none, or no signer.
+    /// The message to be signed before a line is answered. `None` if nothing is to be signed, if there is no signer, or if the message can't be made.
+    /// An empty message for an OCSP line in its signer's back-off: then `connect_to_signer` fails, and the line is answered without a signature.
     fn defer(&mut self, line: &[u8]) -> Option<Deferred<Self::ControlTicket>>
         ensures { defers self.old line.now self.new };
 
@@ -159,7 +161,7 @@ pub trait Handler {
         ensures err { OnErr result ((self.new ≡ self.old) × (last_reason.new ≡ last_reason.old)) }
         ensures fails { OnErr result failed };
 
-    /// Reports that the connection from an address was lost; a control connection has no address.
+    /// Reports a fault of a connection: it was lost, or what came of its request is answered. A control connection has no address.
     fn report_lost(&self, client: Option<SocketAddr>, why: ConnectionFault);
 
     /// Receives how many connections there are, in each iteration of `serve_all` before anything is answered.

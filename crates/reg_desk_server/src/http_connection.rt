@@ -2,7 +2,7 @@
 
 ghost use Rattle.std.specs.Prelude.{◌≡◌, ◌≤◌, ◌+◌, ◌⊎◌, [], OnOk, OnErr, is_some, IsSome, IfNone, false};
 ghost use Rattle.reg_desk_server.specs.Handling.{Handled};
-ghost use Rattle.reg_desk_server.specs.Stages.{Answering, Drops, Finishing, HasReceived, HasUnsentText, IsDropped, KeepsSigning, ReceivesMore, SameLinkAndFault, Sends};
+ghost use Rattle.reg_desk_server.specs.Stages.{Answering, Drops, Finishing, HasReceived, HasUnsentText, IsDropped, IsIncomplete, KeepsReceived, KeepsSigning, ReceivesMore, SameLinkAndFault, Sends};
 
 use crate::handler::{ConnectionFault, EventLoopFault, Handler};
 use crate::link::Link;
@@ -133,20 +133,26 @@ impl<S: Link, H: Handler> HttpConnection<S, H> {
         self.deadline <= now
     }
 
-    /// Keeps and returns the fault because of which a connection is answered before its request is whole: its time is up, a read failed, there was no
+    /// Keeps and returns the fault of a connection that is to be answered: its time is up before its request is whole, a read failed, there was no
     /// memory, or it is evicted. `None` if there is none (the client may have closed its side), or if the connection no longer receives.
     pub fn record_fault(&mut self, now: u64) -> Option<ConnectionFault>
         ensures same_link { self.new.link ≡ self.old.link }
-        ensures same_stage { self.new.stage ≡ self.old.stage }
+        ensures kept { KeepsReceived self.old.stage self.new.stage }
         ensures fault { IsSome self.old.fault → IsSome self.new.fault }
+        ensures late { (self.new.fault ≡ self.old.fault) ⊎ IsIncomplete self.old.stage }
     {
-        if !self.is_receiving() {
-            return None;
+        let is_expired = self.is_expired(now);
+        match &mut self.stage {
+            Stage::Receiving(collected) => {
+                if self.fault.is_none() && is_expired && !collected.is_whole() {
+                    self.fault = Some(ConnectionFault::TimedOut);
+                }
+                self.fault
+            }
+            Stage::Signing(..) => None,
+            Stage::Sending(..) => None,
+            Stage::Draining => None,
         }
-        if self.fault.is_none() && self.is_expired(now) {
-            self.fault = Some(ConnectionFault::TimedOut);
-        }
-        self.fault
     }
 
     /// How many bytes of a finished answer are not sent yet.

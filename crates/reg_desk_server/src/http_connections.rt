@@ -14,7 +14,7 @@ use std::alloc::{AllocError, Global};
 use std::io;
 use std::io::ErrorKind;
 
-/// How many HTTP connections can be open at once. Without signature requests, all descriptors of the program stay within the usual limit of 1,024.
+/// How many HTTP connections can be open at once. All descriptors of the program but those to the signer stay within the usual limit of 1,024.
 pub const MOST_HTTP_CONNECTIONS: usize = 1_000;
 
 /// The most unsent bytes of all HTTP connections together: 64 MiB.
@@ -36,7 +36,8 @@ impl Selection {
         match self {
             Selection::Unanswered => !connection.has_answer(),
             Selection::Answered => connection.has_answer(),
-            Selection::UnsentExcept(newest) => connection.unsent() > 0 && slot != newest,
+            Selection::UnsentExcept(answered_slot) => connection.unsent() > 0
+                && slot != answered_slot,
         }
     }
 }
@@ -103,7 +104,7 @@ impl<H: Handler> HttpConnections<H> {
                 {
                     self.slots.put(slot, connection);
                 } else if connection.is_receiving() {
-                    // The connection is answered, not closed: `serve_all` ends once it has answered as many connections as it accepts.
+                    // Answered, not closed: `serve_all` answers each connection that it accepts once, and would wait for this one without end.
                     connection.fault = Some(ConnectionFault::Broken);
                     self.put_due(slot, connection);
                 } else {
@@ -134,8 +135,8 @@ impl<H: Handler> HttpConnections<H> {
     )
         ensures { self.new.due ≡ self.old.due }
     {
-        let is_unanswered = connection.unsent() > 0 || connection.is_signing();
-        if is_unanswered && connection.fault.is_none() {
+        let is_lost = connection.unsent() > 0 || connection.is_signing();
+        if is_lost && connection.fault.is_none() {
             let client = Some(connection.client);
             shared.lost.add_lost(LostConnection { client, why });
         }
@@ -144,9 +145,9 @@ impl<H: Handler> HttpConnections<H> {
         self.slots.release(slot);
     }
 
-    /// Evicts one connection: the oldest that has an answer, or else the oldest of all. If its request is incomplete, the bytes that came are
-    /// answered first; if its answer is to be signed, it is closed without one. If that connection is due, it is answered in this iteration, and none
-    /// is evicted.
+    /// Evicts one connection: the oldest that has an answer, or else the oldest of all. If it still receives, the handler gets the bytes that came,
+    /// in this iteration, and the connection is closed after the answer, which is empty for an incomplete request. If its answer is to be signed, it
+    /// is closed without one. If that connection is due, it is answered in this iteration, and none is evicted.
     pub(crate) fn evict(&mut self, shared: &mut Shared) {
         let answered = self.oldest(Selection::Answered);
         let Some(slot) = answered.or(self.oldest(Selection::Unanswered)) else {
@@ -184,7 +185,7 @@ impl<H: Handler> HttpConnections<H> {
         }
     }
 
-    /// Looks for connections whose time is up: one that still receives is answered, and any other is closed.
+    /// Looks for connections whose time is up: one that still receives becomes due (an incomplete request gets no response), any other is closed.
     pub(crate) fn sweep(&mut self, shared: &mut Shared, now: u64) {
         if now.saturating_sub(self.swept) < SWEEP_MILLIS {
             return;
@@ -201,7 +202,7 @@ impl<H: Handler> HttpConnections<H> {
         }
     }
 
-    /// Ends a connection that was taken out of its slot: it is answered first if it still receives, and closed otherwise.
+    /// Ends a connection that was taken out of its slot: it becomes due if it still receives, and is closed otherwise.
     fn expire(
         &mut self,
         slot: usize,
@@ -217,13 +218,13 @@ impl<H: Handler> HttpConnections<H> {
     }
 
     /// While the connections have more than `MOST_UNSENT` unsent bytes, closes the oldest one whose answer is not wholly sent. The connection in the
-    /// slot `newest` is not closed.
-    pub(crate) fn limit_unsent(&mut self, newest: usize, shared: &mut Shared) {
+    /// slot `answered_slot`, whose answer was just begun or finished, is not closed.
+    pub(crate) fn limit_unsent(&mut self, answered_slot: usize, shared: &mut Shared) {
         for _ in 0..MOST_HTTP_CONNECTIONS {
             if self.unsent <= MOST_UNSENT {
                 return;
             }
-            let Some(slot) = self.oldest(Selection::UnsentExcept(newest)) else {
+            let Some(slot) = self.oldest(Selection::UnsentExcept(answered_slot)) else {
                 return;
             };
             if let Some(connection) = self.slots.take(slot) {
@@ -252,6 +253,7 @@ impl<H: Handler> HttpConnections<H> {
     fn close_if_receiving(&mut self, slot: usize, shared: &mut Shared) {
         if let Some(connection) = self.slots.take(slot) {
             if connection.is_receiving() {
+                // The fault is not reported: a connection that still receives is not lost.
                 self.close(slot, connection, shared, ConnectionFault::TimedOut);
             } else {
                 self.slots.put(slot, connection);

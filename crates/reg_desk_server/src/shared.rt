@@ -35,14 +35,14 @@ impl Shared {
     }
 }
 
-/// A lost connection; a control connection has no address.
+/// A connection with a fault, lost or not; a control connection has no address.
 #[derive(Clone, Copy)]
 pub(crate) struct LostConnection {
     pub(crate) client: Option<SocketAddr>,
     pub(crate) why: ConnectionFault,
 }
 
-/// The lost connections that were not reported yet, in the order in which they were lost.
+/// The faults of connections that were not reported yet, in their order.
 #[derive(Drop)]
 pub(crate) struct LostConnections {
     pub(crate) unreported: Vec<LostConnection>,

@@ -7,7 +7,7 @@ use Rattle.matchit.specs.Rows.{RowsOf}
 use Rattle.matchit.specs.Router.{RouteOf, rename, map_key}
 use Rattle.matchit.specs.Seek.{seek, first, has_slash}
 use Rattle.matchit.proofs.RenameLemmas.{first-rename}
-use Rattle.reg_http.specs.Routes.{RouteLine, Ending, here, one, rest, IsRoute, path_after, ended, left, mark, or_next, passed, route_in, route, rows_for, table}
+use Rattle.reg_http.specs.Routes.{RouteLine, Ending, here, one, rest, IsRoute, path_after, ended, left, mark, or_next, prefix_length, route_in, route, rows_for, table}
 use Rattle.reg_http.specs.declared.route.Route.{Route}
 use Rattle.reg_http.specs.declared.route.Route.TheVariants.{Ocsp, Other}
 use Rattle.reg_http.proofs.SeekOne.{apart_all, all_bytes, is_byte, seek_one, seek_nothing}
@@ -39,7 +39,7 @@ size _ prefix path = length prefix
 
 abbrev AllSized : List ℕ → List RouteLine → Type 0
 AllSized path [] = Unit {0}
-AllSized path (l ∷ ls) = (size l.ending l.prefix path ≡ passed l.to path) × AllSized path ls
+AllSized path (l ∷ ls) = (size l.ending l.prefix path ≡ prefix_length l.to path) × AllSized path ls
 
 -- what is left open of a path stands behind as many bytes
 abbrev Behind : List ℕ → ℕ → List ℕ → Type 0
@@ -79,12 +79,12 @@ left_is e w path over found = by e (path_after w path) refl found
     by one (Some text) same got = after_is w path over (same ∙ ap (λ (t : List ℕ). Some t) (ended_is one text over got))
     by rest (Some text) same got = after_is w path over (same ∙ ap (λ (t : List ℕ). Some t) (ended_is rest text over got))
 
-route_behind : (ls : List RouteLine) (path : List ℕ) → AllSized path ls → Behind path (passed (route_in ls path).0 path) (route_in ls path).1
+route_behind : (ls : List RouteLine) (path : List ℕ) → AllSized path ls → Behind path (prefix_length (route_in ls path).0 path) (route_in ls path).1
 route_behind [] path sized = (sym (drop-length path), omega arith)
 route_behind (l ∷ ls) path sized = by (left l.prefix l.ending path) refl (route_behind ls path sized.1)
   where
-    by : (v : Option (List ℕ)) → left l.prefix l.ending path ≡ v → Behind path (passed (route_in ls path).0 path) (route_in ls path).1
-        → Behind path (passed (or_next l.to v (route_in ls path)).0 path) (or_next l.to v (route_in ls path)).1
+    by : (v : Option (List ℕ)) → left l.prefix l.ending path ≡ v → Behind path (prefix_length (route_in ls path).0 path) (route_in ls path).1
+        → Behind path (prefix_length (or_next l.to v (route_in ls path)).0 path) (or_next l.to v (route_in ls path)).1
     by (Some over) e next =
         let P : ℕ → Type 0 = λ bytes. Behind path bytes over in
         subst P sized.0 (left_is l.ending l.prefix path over e)

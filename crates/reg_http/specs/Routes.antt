@@ -83,14 +83,14 @@ abbrev pub rows_for : List RouteLine → RowsOf Route
 rows_for [] = []
 rows_for (l ∷ ls) = (l.prefix ++ mark l.ending, l.to) ∷ rows_for ls
 
--- how many bytes of the path come before the variable part
-abbrev pub passed : Route → List ℕ → ℕ
-passed OcspRest path = 6
-passed CrlNumber path = 5
-passed Status path = 8
-passed _ path = length path
+-- how many bytes of the path come before the variable part; all of them if the route has none
+abbrev pub prefix_length : Route → List ℕ → ℕ
+prefix_length OcspRest path = 6
+prefix_length CrlNumber path = 5
+prefix_length Status path = 8
+prefix_length _ path = length path
 
 -- this is the route of the path, which is at least as long as the route's prefix
 pub record IsRoute (path : List ℕ) (which : Route) : Type 0 where
-  pub route_is : (which, drop (passed which path) path) ≡ route path
-  pub long : passed which path ≤ length path
+  pub route_is : (which, drop (prefix_length which path) path) ≡ route path
+  pub long : prefix_length which path ≤ length path

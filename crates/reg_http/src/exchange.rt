@@ -60,7 +60,7 @@ impl Exchange {
         }
     }
 
-    /// The exchange if there was no memory for the answer: the constant text of status code 500, written into `buffer`.
+    /// The exchange if there was no memory for the answer: the constant text of status code 500, in `buffer`. The contract allows an empty text too.
     pub fn out_of_memory(route: Route, mut buffer: Vec<u8>) -> Exchange
         requires empty { buffer.items ≡ [] }
         requires buffer { 512 ≤ vec_capacity buffer }
@@ -103,8 +103,8 @@ impl Exchange {
         }
     }
 
-    /// An exchange with the OCSP response begun at `now`, or with status code 500 if `response` is `Memory`. If out of memory, the text is the
-    /// constant one of status code 500, or empty.
+    /// An exchange with the OCSP response begun at `now`. If `response` is `Memory`, the body has that fault's line, with status code 500. If there
+    /// is no memory for the exchange itself, the text is the constant one of status code 500, or empty.
     pub fn finished(
         alloc: Global,
         route: Route,

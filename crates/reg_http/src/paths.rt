@@ -3,7 +3,7 @@
 ghost use Rattle.std.specs.Prelude.{◌≡◌, ◌≤◌, ◌<◌, [], All, length, codes, IfOk, IsTrue, OnOk, unwrap_or};
 ghost use Rattle.matchit.specs.Router.{map_key, rename};
 ghost use Rattle.matchit.specs.Seek.{first};
-ghost use Rattle.reg_http.specs.Routes.{IsRoute, passed, route, route_seen, rows_for, table};
+ghost use Rattle.reg_http.specs.Routes.{IsRoute, prefix_length, route, route_seen, rows_for, table};
 ghost use Rattle.reg_http.specs.declared.route.Route.TheVariants.{Other};
 
 use crate::route::Route;
@@ -42,7 +42,7 @@ fn router(alloc: Global) -> Result<Router<Route>, Memory>
     }
 }
 
-fn which_at(router: &Router<Route>, path: &str) -> Route
+fn matched_route(router: &Router<Route>, path: &str) -> Route
     ensures { result ≡ unwrap_or (map_key (λ route. route.value) (first router.now path.now)) Other }
 {
     match router.at(path) {
@@ -57,7 +57,7 @@ fn is_ocsp(path: &str) -> bool
     path.as_bytes() == b"/ocsp".as_slice()
 }
 
-fn find_which(alloc: Global, path: &str) -> Result<Route, Memory>
+fn route_for_path(alloc: Global, path: &str) -> Result<Route, Memory>
     requires { All (λ byte. byte < 256) path.now }
     ensures { IfOk result (IsRoute path.now) }
 {
@@ -66,14 +66,14 @@ fn find_which(alloc: Global, path: &str) -> Result<Route, Memory>
         return Ok(Route::Ocsp);
     }
     match router(alloc) {
-        Ok(router) => Ok(which_at(&router, path)),
+        Ok(router) => Ok(matched_route(&router, path)),
         Err(fault) => Err(fault),
     }
 }
 
-/// How many bytes of the path come before its variable part.
-fn passed(route: Route, path: &[u8]) -> usize
-    ensures { result ≡ passed route path.now }
+/// How many bytes of the path come before its variable part; all of them if the route has none.
+fn prefix_length(route: Route, path: &[u8]) -> usize
+    ensures { result ≡ prefix_length route path.now }
 {
     match route {
         Route::OcspRest => b"/ocsp/".len(),
@@ -87,10 +87,10 @@ fn passed(route: Route, path: &[u8]) -> usize
 pub(crate) fn find_route(alloc: Global, path: &str) -> Result<Found<'_>, Memory>
     ensures { IfOk result (λ found. route_seen found ≡ route path.entry.now) }
 {
-    let route = find_which(alloc, path)?;
+    let route = route_for_path(alloc, path)?;
     let bytes = path.as_bytes();
     Ok(Found {
         route,
-        rest: &bytes[passed(route, bytes)..],
+        rest: &bytes[prefix_length(route, bytes)..],
     })
 }

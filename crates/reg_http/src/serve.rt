@@ -1,4 +1,5 @@
-//! Serves one request over any reader and writer. The program calls `begin` instead, which can leave a response to be signed.
+//! Serves one request over any reader and writer, for other users of this crate. The program calls [`begin`](crate::begin) instead, which can leave a
+//! response to be signed.
 
 ghost use Rattle.std.specs.Prelude.{◌≡◌, ◌≢◌, ◌≤◌, ◌⊎◌, [], ℕ, List, IfErr, OnOk, vec_capacity};
 ghost use Rattle.std.specs.Io.KnownBytes.{Appends};
@@ -14,7 +15,9 @@ ghost use Rattle.reg_http.specs.Served.{ReplyEnds, ReplyEndsIn, ServingEnds, Ser
 use crate::bodies::{json_buffer, refusal};
 use crate::routes::answer;
 use reg_core::{Fault, Moment};
-use reg_http_head::{Answer, HEAD_ROOM, Request, memory_fault, read_request, write_answer};
+use reg_http_head::{
+    Answer, RESPONSE_HEAD_ROOM, Request, memory_fault, read_request, write_answer,
+};
 use reg_io::write_whole;
 use reg_office_api::Office;
 use std::alloc::Global;
@@ -114,12 +117,13 @@ fn reply<W: Write, O: Office>(
 
 /// Serves one request: reads it, answers it, and writes the response. Reads and writes may be in pieces of any size. If
 /// there is no memory to answer a valid request, the office does not change, and the constant response of status code 500 is written.
+/// The clause `ends` is about the records that the office keeps, and `calls` about the calls of the office.
 ///
 /// # Errors
 ///
-/// [`Fault::Read`] if the reader fails or ends within the request, and [`Fault::Memory`] if out of memory to read the request
-/// or to refuse it: then nothing was written, and the office did not change. [`Fault::Write`] if the writer fails or accepts no
-/// more bytes: then only a prefix of the response was written, and the office is as it was after the answer.
+/// [`Fault::Read`] if the reader fails or ends within the request, and [`Fault::Memory`] if out of memory for the response's
+/// head (reserved first), to read the request or to refuse it: then nothing was written, and the office did not change. [`Fault::Write`] if the
+/// writer fails or accepts no more bytes: then only a prefix of the response was written, and the office is as it was after the answer.
 pub fn serve_one<R: Read, W: Write, O: Office>(
     alloc: Global,
     reader: &mut R,
@@ -140,7 +144,7 @@ pub fn serve_one<R: Read, W: Write, O: Office>(
         (R.remaining reader.old) (R.remaining reader.new)
         (W.contents writer.old) (W.contents writer.new) result }
 {
-    let Ok(buffer) = Vec::with_capacity(alloc, HEAD_ROOM) else {
+    let Ok(buffer) = Vec::with_capacity(alloc, RESPONSE_HEAD_ROOM) else {
         return Err(Fault::Memory);
     };
     match read_request(alloc, reader) {

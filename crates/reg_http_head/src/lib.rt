@@ -14,4 +14,4 @@ pub mod status;
 pub use answer::Answer;
 pub use collected::Collected;
 pub use request::{Request, RequestRef, read_request};
-pub use response::{HEAD_ROOM, memory_fault, put, put_answer, write_answer};
+pub use response::{RESPONSE_HEAD_ROOM, memory_fault, put, put_answer, write_answer};

@@ -15,7 +15,7 @@ use std::alloc::AllocError;
 use std::io::Write;
 
 /// The bytes of capacity that [`put_answer`] and [`write_answer`] need for the head of a response.
-pub const HEAD_ROOM: usize = 512;
+pub const RESPONSE_HEAD_ROOM: usize = 512;
 
 /// Appends bytes without an allocation: the caller has reserved the capacity.
 pub fn put(out: &mut Vec<u8>, bytes: &[u8])
@@ -127,7 +127,7 @@ fn date_of(now: Moment) -> [u8; 29]
 /// Writes the response at a moment into an empty `text`. [`AllocError`] if out of memory for the body: then `text` has only the head.
 pub fn put_answer(text: &mut Vec<u8>, answer: &Answer, now: Moment) -> Result<(), AllocError>
     requires empty { text.old.items ≡ [] }
-    requires room { HEAD_ROOM ≤ vec_capacity text.old }
+    requires room { RESPONSE_HEAD_ROOM ≤ vec_capacity text.old }
     ensures ok { OnOk result (IsText (shown answer.now) now text.new.items) }
     ensures room { vec_capacity text.old ≤ vec_capacity text.new }
 {
@@ -142,7 +142,7 @@ pub fn put_answer(text: &mut Vec<u8>, answer: &Answer, now: Moment) -> Result<()
 #[tactic(auto, unfolding(crate::specs::Response::memory_text, crate::specs::Response::field_line))]
 pub fn memory_fault() -> &'static [u8]
     ensures text { result.now ≡ memory_text }
-    ensures short { length result.now ≤ HEAD_ROOM }
+    ensures short { length result.now ≤ RESPONSE_HEAD_ROOM }
 {
     b"HTTP/1.1 500 Internal Server Error\r\nConnection: close\r\nContent-Length: 0\r\n\r\n"
 }
@@ -155,7 +155,7 @@ pub fn write_answer<W: Write>(
     now: Moment,
 ) -> Result<(), WriteFault>
     requires empty { room.items ≡ [] }
-    requires room { HEAD_ROOM ≤ vec_capacity room }
+    requires room { RESPONSE_HEAD_ROOM ≤ vec_capacity room }
     ensures ok { OnOk result ((text : List ℕ) × IsText (shown answer.now) now text
         × Appends (W.contents writer.old) (W.contents writer.new) text) }
     ensures err { OnErr result ((text : List ℕ) × IsText (shown answer.now) now text

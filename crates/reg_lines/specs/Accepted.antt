@@ -49,6 +49,6 @@ WritesReply is_strict out out' reply (Ok passed) =
     Appends out out' reply × RunContinues is_strict reply passed
 WritesReply is_strict out out' reply (Err fault) = AppendsPrefix out out' reply
 
--- the result of a run, without where it ended
+-- the result of a run, without its value, which says how it ended: only its fault, if any
 abbrev pub done_of : {A : Type 0} → Result A Fault → Result (Unit {0}) Fault
 done_of ran = result_map_both (λ ended. tt) (λ fault. fault) ran

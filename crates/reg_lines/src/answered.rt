@@ -117,7 +117,8 @@ impl Answered {
         }
     }
 
-    /// Writes the reply, and returns whether the run goes on.
+    /// Writes the reply, and returns whether the run goes on. Each `Answered` of this crate meets the precondition; a `Response` with a line other
+    /// than `ocsp HEX` need not.
     pub(crate) fn write_reply<W: Sink>(
         &self,
         writer: &mut W,
@@ -136,7 +137,7 @@ impl Answered {
     }
 }
 
-/// The result of a run, without where it ended: only its fault, if any.
+/// The result of a run, without its value, which says how it ended: only its fault, if any.
 pub(crate) fn done<T: Copy>(ran: Result<T, Fault>) -> Result<(), Fault>
     ensures { result ≡ done_of ran }
 {

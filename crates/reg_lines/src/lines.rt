@@ -101,6 +101,7 @@ fn run_all<R: Source, W: Sink, O: Office, H: Host>(
             Err(fault) => return Err(fault),
         }
     }
+    // There is a line after the 1,000,000th.
     if buffered > 0 {
         return Err(Fault::Read);
     }

@@ -4,7 +4,7 @@ use Rattle.std.proofs.Common.{◌≡◌, ◌≢◌, ◌≤◌, ◌<◌, inl, inr
 use Rattle.std.proofs.lemmas.Option.{same_Some}
 use Rattle.reg_core.specs.Changes.{with_crl}
 use Rattle.reg_core.specs.Checks.{clock_end}
-use Rattle.reg_core.specs.Crls.{CertList, cert_list, content, entries, latest, row_of}
+use Rattle.reg_core.specs.Crls.{CertList, cert_list, listed_revocations, entries, latest, row_of}
 use Rattle.reg_core.specs.Issuer.{Issuer}
 use Rattle.reg_core.specs.Records.{Records, Crl, crl_in}
 use Rattle.reg_core.specs.Sound.{NumberedFrom}
@@ -39,7 +39,7 @@ pub may_issue :
     (signed : CertList → List ℕ → Type 0) (records : Records) (now : ℕ) (next : CrlRow × ℕ) (bytes : List ℕ) (count : ℕ) (der : Bor (List ℕ))
     → der.now ≡ bytes
     → IsNextOf records now next
-    × (next.1 ≡ next.0.this_update + records.policy.crl_life → signed (cert_list records next.0.number next.0.this_update) bytes × (count ≡ length (content records next.0.number)))
+    × (next.1 ≡ next.0.this_update + records.policy.crl_life → signed (cert_list records next.0.number next.0.this_update) bytes × (count ≡ length (listed_revocations records next.0.number)))
     → MayChange signed records now IssueCrl (CrlIssued next.0.number count) (change.Crl next.0 der)
 may_issue signed records now next bytes count der same it =
     let row = next.0 in
@@ -51,7 +51,7 @@ may_issue signed records now next bytes count der same it =
       happens =
           step_accepted signed records now IssueCrl (CrlIssued row.number count) der.now (with der.now) is.accepted
           (subst S is.row_is (subst (signed (cert_list records row.number row.this_update)) (sym same) made.0))
-          (sym (ap (λ (r : CrlRow). CrlIssued r.number (length (content records r.number))) is.row_is) ∙ ap (CrlIssued row.number) (sym made.1))
+          (sym (ap (λ (r : CrlRow). CrlIssued r.number (length (listed_revocations records r.number))) is.row_is) ∙ ap (CrlIssued row.number) (sym made.1))
           (sym (ap (λ (r : CrlRow). with_crl records now (record { number = r.number; this_update = r.this_update; bytes = der.now })) is.row_is))
           (with der.now) refl;
       not_back = (accepted_clock records now IssueCrl is.accepted).not_back;

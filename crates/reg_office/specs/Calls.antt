@@ -55,8 +55,8 @@ abbrev pub OfficeTells
 OfficeTells g signer Tells old new =
     OfficeLeads g signer (λ signers before after. Tells before × (after ≡ before)) old new
 
--- A call `it` has this result. `first` is the interrupted call before `it`, and `last` the one after `it`. If `first` is a call, `it` fails, and
--- `last` is `first`. If `first` is none, `last` is none after a success or a refusal, and none or `it` after a fault.
+-- A call `it` has this result. `first` and `last` are the interrupted call, if any, as it was before and after `it`. After an interrupted call, `it`
+-- fails, and `last` stays `first`. Otherwise `last` is none after a success or a refusal, and none or `it` after a fault.
 abbrev pub MayInterrupt
     : {T : Type 0} → Option ChangingCall → ChangingCall → Result T Fault → Option ChangingCall → Type 0
 MayInterrupt (Some first) it result last = IsErr result × (last ≡ Some first)

@@ -2,7 +2,7 @@
 -- command's reply, and the records don't change. Otherwise the decision gives the reply, and the one change of the records.
 use Rattle.std.specs.Prelude.{ℕ, Bool, List, length, Option, Some, None, Result, Ok, Err, option_map}
 use Rattle.reg_core.specs.Changes.{changed_by, with_crl}
-use Rattle.reg_core.specs.Crls.{CertList, cert_list, content, latest, row_of}
+use Rattle.reg_core.specs.Crls.{CertList, cert_list, listed_revocations, latest, row_of}
 use Rattle.reg_core.specs.Decisions.{head_of, DecidesSubscriber, DecidesOrder, DecidesRegister, DecidesRequest, DecidesDecline, DecidesRevoke, DecidesCrl}
 use Rattle.reg_core.specs.Due.{deadline}
 use Rattle.reg_core.specs.Records.{Records, subscriber_in, subscriber_named, order_in, certificate_in, certificate_of_order, request_in, revocation_in}
@@ -112,7 +112,7 @@ IsIssue signed records now (Err refused) = Step signed records now IssueCrl (Err
 IsIssue signed records now (Ok row) =
     (bytes : List ℕ)
     → signed (cert_list records row.number row.this_update) bytes
-    → Step signed records now IssueCrl (Ok (CrlIssued row.number (length (content records row.number))))
+    → Step signed records now IssueCrl (Ok (CrlIssued row.number (length (listed_revocations records row.number))))
     (with_crl records now (record { number = row.number; this_update = row.this_update; bytes = bytes }))
 
 -- the decision on `crl` is the step of that command

@@ -12,7 +12,7 @@ ghost use Rattle.reg_office.specs.Issuing.{IsNextOf};
 ghost use Rattle.reg_core.specs.Step.{refusal};
 ghost use Rattle.reg_office.specs.Looking.{LooksAndDecides};
 ghost use Rattle.reg_store_tables.specs.LookUps.{Learns, LooksUp};
-ghost use Rattle.reg_core.specs.Crls.{EntriesAscend, cert_list, content, entries};
+ghost use Rattle.reg_core.specs.Crls.{EntriesAscend, cert_list, listed_revocations, entries};
 ghost use Rattle.reg_core.specs.declared.refusal.Fault.TheVariants.{Signer as SignerFailed};
 ghost use Rattle.reg_crl.specs.Signing.{signed_by};
 ghost use Rattle.reg_office_api.specs.Answered.{IsGiven};
@@ -61,7 +61,7 @@ fn signed_crl<S: Signer>(
     Ok(crl_whole(alloc, &tbs, signer.algorithm(), &signature)?)
 }
 
-// Requests the signature even during the signer's back-off, because the command `crl` waits for it.
+// Requests the signature even during the signer's back-off, because the signer may just have been repaired.
 fn signature_of<S: Signer>(
     alloc: Global,
     signer: &mut S,
@@ -116,7 +116,7 @@ fn made_crl<C: Alter, S: Signer>(
         next_update ≡ row.now.this_update + records.policy.crl_life → IfOk result (λ crl.
         signed_by S.signs (S.identity signer.old)
         (cert_list records row.now.number row.now.this_update) crl.0.items
-        × (crl.1 ≡ length (content records row.now.number)))) }
+        × (crl.1 ≡ length (listed_revocations records row.now.number)))) }
     ensures same_identity { S.identity signer.new ≡ S.identity signer.old }
     ensures device { IsErrOf result SignerFailed → SignerHasFailed S.Signer signer.old signer.new }
     ensures faults { IfErr result IsMakingFault }

@@ -1,4 +1,5 @@
-//! The response to an OCSP request: its ResponseData is made from the register's tables, and signed here, or later at the caller's request.
+//! The response to an OCSP request: its ResponseData is made from the register's tables. It is signed here, or left as a draft, whose signature the
+//! caller requests from the signer's device itself.
 
 ghost use Rattle.std.specs.Prelude.{◌≡◌, ◌^◌, ◌≤◌, ◌↔◌, None, length, IfOk, IfSome, option_copied, unwrap_or};
 ghost use Rattle.reg_ocsp.specs.Request.{CanBeAnswered};
@@ -26,8 +27,8 @@ use reg_store::Tables;
 use sqlite::Alter;
 use std::alloc::Global;
 
-/// The response (RFC 6960 4.2.1) to the bytes of a request at a moment; or, if it needs a signature and its signer has a public key, a draft
-/// without the signature. No table changes. [`Memory`] if out of memory.
+/// The response (RFC 6960 4.2.1) to the bytes of a request at a moment; or, if it needs a signature that the caller can request from the signer's
+/// device itself (`Signer::public_key` is `Some`), a draft without the signature. No table changes. [`Memory`] if out of memory.
 pub(crate) fn begin_ocsp<C: Alter, S: Signer>(
     alloc: Global,
     tables: &mut Tables<C>,
@@ -55,7 +56,7 @@ pub(crate) fn begin_ocsp<C: Alter, S: Signer>(
     }
 }
 
-/// Signs a draft with the signer of OCSP responses, and returns the bytes of the response: internalError if the signer fails.
+/// Signs a draft at once with the signer of OCSP responses, and returns the bytes of the response: internalError if the signer fails.
 pub(crate) fn sign_draft<S: Signer>(
     alloc: Global,
     signer: &mut S,
@@ -165,7 +166,7 @@ fn issuer_and_next_update<C: Alter>(
     Ok((issuer, now.plus(life)))
 }
 
-/// The response with a ResponseData: a draft if the signer has a public key; else signed, or internalError if the signer fails.
+/// The response with a ResponseData: a draft if the signer's `public_key` is `Some`; else signed, or internalError if the signer fails.
 fn respond<S: Signer>(
     alloc: Global,
     signer: &mut S,

@@ -38,7 +38,7 @@ last_in crls first not_after =
     option_map (λ crl. crl.number)
     (find (λ crl. nat_le first crl.number && nat_lt not_after crl.this_update) crls)
 
--- the row of `listed` of a revocation whose certificate has this notAfter, given these CRLs
+-- a revocation's row of `listed`, given these CRLs and its certificate's notAfter
 abbrev pub listed_by : List CrlRow → RevocationRow → ℕ → Listed
 listed_by crls revocation not_after = record {
   serial = revocation.serial;

@@ -17,15 +17,15 @@ use reg_store_tables::write_statements::{sql_moment, sql_number, sql_reason, wri
 use sqlite::types::ValueRef;
 use sqlite::{Alter, Transaction};
 
-/// Whether the CRL's number is at least `first` and its thisUpdate is after `not_after`.
+/// Whether the CRL's number is at least `first` and its thisUpdate is after `not_after`: no later CRL lists the revocation.
 fn can_be_last_listing(crl: &CrlRow, first: u64, not_after: Moment) -> bool
     ensures { result ≡ (nat_le first crl.now.number && nat_lt not_after crl.now.this_update) }
 {
     first <= crl.number && not_after < crl.this_update
 }
 
-/// The number of the last CRL that lists a revocation: the first, from the number `first` on, whose thisUpdate is after `not_after`.
-/// `None` if there is none yet. If the numbers rise and the thisUpdates do not fall, a binary search finds it.
+/// The number of the last CRL that lists a revocation: the earliest, numbered `first` or more, with a thisUpdate after `not_after` (RFC 5280 3.3).
+/// `None` if it is not issued yet. Right only if the numbers rise and the thisUpdates do not fall, because it is a binary search.
 fn last_listing(crls: &[CrlRow], first: u64, not_after: Moment) -> Option<u64>
     ensures { AreIssued crls.now → result ≡ last_in crls.now first not_after }
 {
@@ -45,7 +45,7 @@ fn sql_number_or_null(number: Option<u64>) -> Result<ValueRef<'static>, Database
     }
 }
 
-/// Inserts the row of `listed` of a revocation whose certificate has this notAfter.
+/// Inserts a revocation's row into `listed`, given its certificate's notAfter.
 fn put_listing<S: Alter>(
     tx: &mut Transaction<'_, S>,
     row: RevocationRow,
@@ -95,7 +95,7 @@ fn rebuild_listed_rows<S: Alter>(
     Ok(())
 }
 
-/// Inserts the row of `listed` of each revocation.
+/// Inserts each revocation's row into `listed`.
 pub(crate) fn rebuild_listed<S: Alter>(tx: &mut Transaction<'_, S>) -> Result<(), DatabaseFault>
     ensures made { ContinuesRows S.Store tx.old tx.new result Relists }
     ensures stepped { Stepped S.Store tx.old tx.new }

@@ -52,8 +52,8 @@ pub(crate) fn crls<S: Alter>(tx: &mut Transaction<'_, S>) -> Result<Vec<CrlRow>,
     Ok(rows_in::<CrlRow>(*found.allocator(), &found)?)
 }
 
-/// The notAfter of the certificate in the only row. `Store` for any other rows.
-fn end_in(rows: &[Row]) -> Result<Moment, DatabaseFault>
+/// The notAfter of the certificate in the only row. `Store` for no row, several rows or an invalid one.
+fn not_after_in(rows: &[Row]) -> Result<Moment, DatabaseFault>
     ensures read { IfOk result (λ end. (row : Values) × (rows.now ≡ row ∷ [])
         × ((certificate : CertRow) → IsSerial certificate.serial → row ≡ shown_certificate certificate
         → end ≡ certificate.not_after)) }
@@ -78,5 +78,5 @@ pub(crate) fn not_after_by_serial<S: Alter>(
     ensures stepped { Stepped S.Store tx.old tx.new }
 {
     let found = ask(tx, CERT_BY_SERIAL, params![serial.bytes20().as_slice()])?;
-    end_in(&found)
+    not_after_in(&found)
 }

@@ -98,7 +98,8 @@ impl Same for Stamps {
     }
 }
 
-/// Whether two tables have the same name, B-tree, columns, rowid column and AUTOINCREMENT.
+/// Whether two tables have the same name, number of their B-tree (by the order in which tables and indexes were made), columns, rowid column and
+/// AUTOINCREMENT.
 fn have_same_columns(left: &Table, right: &Table) -> bool
     ensures { IsTrue result ↔ ((left.now.name ≡ right.now.name) × (left.now.tree ≡ right.now.tree)
         × (left.now.columns ≡ right.now.columns)
@@ -121,7 +122,7 @@ fn have_same_keys(left: &Table, right: &Table) -> bool
         && left.orders.is_same(&right.orders)
 }
 
-/// Whether two tables have the same CHECKs, references, computed defaults, and defaults that read the time.
+/// Whether two tables have the same CHECKs and references, the same columns whose default is no literal, and the same defaults that read the time.
 fn have_same_rules(left: &Table, right: &Table) -> bool
     ensures { IsTrue result
         ↔ ((left.now.checks ≡ right.now.checks) × (left.now.references ≡ right.now.references)
@@ -152,6 +153,7 @@ impl Same for Index {
     }
 }
 
+// A view, a trigger, or a table or an index that the crate `sqlite` keeps as it is (`foreign`, `binds`, `is_bound`).
 impl Same for View {
     fn is_same(&self, other: &View) -> bool {
         self.name.is_same(&other.name)

@@ -25,7 +25,7 @@ use Rattle.sqlite.specs.Effect.{Database, Reads}
 use Rattle.sqlite.specs.Listing.{understood}
 use Rattle.sqlite_resolve.specs.Compile.{first}
 use Rattle.sqlite_tied.specs.Compute.{everything}
-use Rattle.reg_core.specs.Crls.{EntriesAscend, is_listed_on, ends_listing, content, entry_of, entries}
+use Rattle.reg_core.specs.Crls.{EntriesAscend, is_listed_on, ends_listing, listed_revocations, entry_of, entries}
 use Rattle.reg_core.specs.Records.{Records, Crl}
 use Rattle.reg_core.specs.Serial.{IsSerial, serial_bytes}
 use Rattle.reg_core.specs.Sound.{NumberedFrom, SoundRows}
@@ -138,7 +138,7 @@ same_filter p q same [] = refl
 same_filter p q same (x ∷ xs) = rw (same x, same_filter p q same xs) refl
 
 -- the entries of what is listed are those of the revocations that the CRL lists
-entries_listed : (records : Records) (n : ℕ) → NumberedFrom (λ crl. crl.number) 1 records.crls → map entry_in (filter (lists n) (map (listed_of records) records.revocations)) ≡ map entry_of (content records n)
+entries_listed : (records : Records) (n : ℕ) → NumberedFrom (λ crl. crl.number) 1 records.crls → map entry_in (filter (lists n) (map (listed_of records) records.revocations)) ≡ map entry_of (listed_revocations records n)
 entries_listed records n numbered =
     ap (map entry_in) (filter-map (lists n) (listed_of records) records.revocations)
     ∙ map-map entry_in (listed_of records) (filter (λ row. lists n (listed_of records row)) records.revocations)
@@ -162,7 +162,7 @@ tests_are row n =
 pub record Lists (records : Records) (n : ℕ) (rows : List Row) (found : List Entry) : Type 0 where
   pub shown : rows ≡ map shown_entry found
   pub serials : AllByRecursion (λ (entry : Entry). IsSerial entry.serial) found
-  pub same : IsPermutation (map entry_of (content records n)) found
+  pub same : IsPermutation (map entry_of (listed_revocations records n)) found
 
 -- ---- in the order of serial numbers
 
@@ -218,8 +218,8 @@ module _ (db : Database) (records : Records) (kept : DerivedRows) (both : AreRec
 pub entries_are : (records : Records) (n : ℕ) (rows : List Row) (found : List Entry) → Lists records n rows found → EntriesAscend found → found ≡ entries records n
 entries_are records n rows found lists up =
     sym (sorted_same serial_of found (entries records n) up
-    (IsPermutation-trans found (map entry_of (content records n)) (entries records n) (IsPermutation-sym (map entry_of (content records n)) found lists.same) (ascending_same (map entry_of (content records n))))
-    (ascending_sorted (map entry_of (content records n))))
+    (IsPermutation-trans found (map entry_of (listed_revocations records n)) (entries records n) (IsPermutation-sym (map entry_of (listed_revocations records n)) found lists.same) (ascending_same (map entry_of (listed_revocations records n))))
+    (ascending_sorted (map entry_of (listed_revocations records n))))
 
 -- ---- the entries of records that a register writes
 
@@ -228,22 +228,22 @@ module _ (records : Records) (n : ℕ) (rows : List Row) (found : List Entry) (i
   pub entries_have : AllByRecursion (λ row. AreMomentAndReason row.at row.reason) records.revocations → AllByRecursion (λ entry. AreMomentAndReason entry.at entry.reason) found
   entries_have all =
       let P : Entry → Type 0 = λ entry. AreMomentAndReason entry.at entry.reason in
-      let listed = map entry_of (content records n) in
-      let each = all_map P entry_of (content records n) (kept_have (λ (row : RevocationRow). AreMomentAndReason row.at row.reason) (is_listed_on records.certificates records.crls n) records.revocations all) in
+      let listed = map entry_of (listed_revocations records n) in
+      let each = all_map P entry_of (listed_revocations records n) (kept_have (λ (row : RevocationRow). AreMomentAndReason row.at row.reason) (is_listed_on records.certificates records.crls n) records.revocations all) in
       recursion_from_All P found (All-permutation P listed found it.same (All-from_recursion P listed each))
 
   -- no more than there are revocations
   pub entries_within : length found ≤ length records.revocations
   entries_within =
-      let same = length_permutation (map entry_of (content records n)) found it.same in
-      let mapped : length (map entry_of (content records n)) ≡ length (content records n) = rw length-map refl in
+      let same = length_permutation (map entry_of (listed_revocations records n)) found it.same in
+      let mapped : length (map entry_of (listed_revocations records n)) ≡ length (listed_revocations records n) = rw length-map refl in
       let on = fewer (is_listed_on records.certificates records.crls n) records.revocations in
       omega arith
 
   -- and they ascend strictly
   pub entries_rise : SoundRows records → IsNonDecreasingBy serial_of found → EntriesAscend found
   entries_rise sound sorted =
-      let listed = map entry_of (content records n) in
+      let listed = map entry_of (listed_revocations records n) in
       let rises = entries_ascending records n sound in
       let same = IsPermutation-trans (entries records n) listed found (IsPermutation-sym listed (entries records n) (ascending_same listed)) it.same in
       subst EntriesAscend (sym (sorted_same serial_of (entries records n) found rises same sorted)) rises

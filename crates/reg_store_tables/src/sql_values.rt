@@ -15,7 +15,7 @@ use reg_core::{Ground, Label, Moment, Serial};
 use sqlite::Row;
 use sqlite::types::{Value, ValueRef};
 
-/// The number as an SQL INTEGER; `None` above 2^63 - 1, the greatest one.
+/// The number as an SQL INTEGER, the key of a look-up. `None` above 2^63 - 1, the greatest INTEGER: no row has such a key.
 pub(crate) fn sql_key(n: u64) -> Option<Value>
     ensures value { MatchOption result (2 ^ 63 ≤ n) (λ value. (n < 2 ^ 63) × (value ≡ number n)) }
 {
@@ -31,7 +31,7 @@ const LONGEST_LIFE: u64 = 863_999;
 /// As [`sql_key`], with `Store` for `None`.
 pub(crate) fn sql_number(n: u64) -> Result<Value, DatabaseFault>
     ensures value { IfOk result (λ value. value ≡ number n) }
-    ensures had { OnOk result (n < 2 ^ 63) }
+    ensures fits { OnOk result (n < 2 ^ 63) }
     ensures refused { IfErr result (λ fault. (fault ≡ DatabaseFault.Store) × (2 ^ 63 ≤ n)) }
 {
     sql_key(n).ok_or(DatabaseFault::Store)
@@ -53,7 +53,7 @@ pub fn number_at(row: &Row, at: usize) -> Option<u64>
     }
 }
 
-/// The number in a column that may be NULL.
+/// The number in a column that may be NULL. `None` for a column beyond the row's end, which `column` in contracts has as NULL.
 pub fn number_or_null_at(row: &Row, at: usize) -> Option<Option<u64>>
     ensures read { (n : Option ℕ) → at < length row.now → column row.now at ≡ number_or_null n
         → result ≡ Some n }

@@ -19,7 +19,7 @@ use sqlite::{Alter, Transaction};
 /// The number as an SQL INTEGER. `Store` above 2^63 - 1, the greatest one.
 pub fn sql_number(n: u64) -> Result<ValueRef<'static>, DatabaseFault>
     ensures value { IfOk result (λ value. value ≡ ValueRef.Int (pos n)) }
-    ensures had { OnOk result (n < 2 ^ 63) }
+    ensures fits { OnOk result (n < 2 ^ 63) }
     ensures refused { IfErr result (λ fault. (fault ≡ DatabaseFault.Store) × (2 ^ 63 ≤ n)) }
 {
     match i64::try_from(n) {

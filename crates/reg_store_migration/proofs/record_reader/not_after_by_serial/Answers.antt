@@ -14,7 +14,7 @@ pub returns-clause-asked : goal.returns-clause-asked
 returns-clause-asked g c clean =
     let db = (state g.S.Store c.args.tx.now.conn.now).now in
     let asked = c.in_ok-found.ensures.asked clean in
-    ok_then c.end_in.result c.end_in.ensures.read (λ end read. (
+    ok_then c.not_after_in.result c.not_after_in.ensures.read (λ end read. (
       asked.0,
       λ records shown.
           let reads = rw (c.params-to_sql.ensures, c.as_slice.ensures, c.bytes20.ensures.bytes) at (asked.1 shown.schema) in
