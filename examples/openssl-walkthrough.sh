@@ -18,7 +18,11 @@ signing="--signer ca.sign --algorithm ecdsa-sha256"
 # shellcheck disable=SC2086 # the words are meant to be split
 say() { echo "> $1"; echo "$1" | "$desk" script ca.db $signing; }
 signer_process=
-trap '[ -z "$signer_process" ] || kill "$signer_process" 2>/dev/null || true' EXIT
+server=
+stop() {
+    for process in $signer_process $server; do kill "$process" 2>/dev/null || true; done
+}
+trap stop EXIT
 moment() { date -u -d "$1" +%Y-%m-%dT%H:%M:%SZ; }
 
 step "A CA, and a certificate of serial number 05 for acme"
@@ -70,5 +74,6 @@ grep -q 'Response verify OK' verified
 curl -s "http://127.0.0.1:$port/status/05"; echo
 curl -s "http://127.0.0.1:$port/counts"; echo
 wait "$server"
+server=
 
 step "Done; everything is in $work"

@@ -570,7 +570,7 @@ int main(int argc, char **argv) {
     bool serves = path || options[INHERITED], reads_each = is_token(key_name) && processes > 1;
     prepare(serves, reads_each);
     if (!serves)
-        return puts(signer.algorithm) < 0;
+        return puts(signer.algorithm) < 0 || fflush(stdout) != 0;
     block_signals(&signals);
     shared = mmap(NULL, sizeof *shared, PROT_READ | PROT_WRITE, MAP_SHARED | MAP_ANONYMOUS, -1, 0);
     if (shared == MAP_FAILED || atexit(remove_socket) != 0)

@@ -6,6 +6,7 @@
 #
 # Usage, from the repository's root: tools/package.sh [FOLDER]
 set -euo pipefail
+umask 022
 out=${1:-out/package}
 program=crates/reg_desk/out/reg_desk
 kit=${KIT:-/opt/rattle}

@@ -147,6 +147,14 @@ def nothing_is_shown_while_the_clock_is_back(t):
     t.same(replies_to(t, "show 01", "revoke 1 01"), [f"E01 clock-back {DAY}"] * 2)
 
 
+@each({it: it for it in ("status 01", "show 01", "revoke 1 01", "order 1 30")})
+def why_names_a_clock_that_is_back(t, line):
+    opened(t)
+    replies_to(t, "crl")
+    t.clock("2025-12-31T00:00:00Z")
+    t.same(replies_to(t, "status x", line, "why"), ["E22 syntax", f"E01 clock-back {DAY}", f"why E01 clock-back {DAY}"])
+
+
 @test
 def help_lists_each_word_in_one_line(t):
     opened(t)
@@ -169,7 +177,7 @@ def the_log_names_each_request_that_is_entered_or_decided(t):
     desk = opened(t, "--log")
     desk.ask("POST", "/requests", b'{"serial":"03","ground":"key-compromise"}')
     desk.ask("POST", "/requests", b'{"serial":"09","ground":"superseded"}')
-    replies_to(t, "request 01 superseded", "revoke 1", "revoke 2 03", "decline 2 01", "revoke 2", "revoke 7", "crl", "show 01")
+    replies_to(t, "request 01 superseded", "revoke 1", "revoke 2 03", "decline 2 01", "revoke 2", "revoke 7", "crl", "show 01", "request 04 asked", "decline 3")
     t.same(
         tails(t, desk),
         [
@@ -183,6 +191,8 @@ def the_log_names_each_request_that_is_entered_or_decided(t):
             ("revoke 7", ""),
             ("crl", ""),
             ("show 01", ""),
+            ("request 04 asked", f" request 3 {serial(4)} asked"),
+            ("decline 3", f" request 3 {serial(4)}"),
         ],
     )
 
