@@ -174,8 +174,8 @@ def guarded(sign, words, key):
 
 
 def soon(call, at, patience, meanwhile):
-    """The result of a non-blocking call. While the call would block, `meanwhile` runs as long as it has work. Then the call is polled some times
-    more, and then the process sleeps."""
+    """The result of a non-blocking call on the descriptors `at`. While the call would block, `meanwhile` runs as long as it has work. Then the call
+    is polled some times more, and then the process sleeps until a descriptor is readable."""
     polls = 0
     while True:
         try:
@@ -184,14 +184,14 @@ def soon(call, at, patience, meanwhile):
             if meanwhile():
                 continue
         polls += 1
-        if polls > POLLS and not select.select([at], [], [], patience)[0]:
+        if polls > POLLS and not select.select(at, [], [], patience)[0]:
             raise TimeoutError("nothing came in time")
 
 
 def message_of(connection):
     """The message that the client writes, up to its end; None if it is too long."""
     parts, length = [], 0
-    while part := soon(lambda: os.read(connection, 65536), connection, PATIENCE, nothing):
+    while part := soon(lambda: os.read(connection, 65536), [connection], PATIENCE, nothing):
         parts.append(part)
         length += len(part)
         if length > LONGEST:
@@ -252,11 +252,21 @@ def handed_over():
     return listener
 
 
-def serve(listener, sign, draw):
+def end_on_signals():
+    """Makes SIGTERM and SIGINT end the process. Returns a descriptor that is readable once one of them has come: without it, select(2) would go on
+    waiting for a client if the signal came just before."""
+    readable, writable = os.pipe()
+    os.set_blocking(writable, False)
+    signal.set_wakeup_fd(writable)
     for ending in (signal.SIGTERM, signal.SIGINT):
         signal.signal(ending, lambda *_: sys.exit(0))
+    return readable
+
+
+def serve(listener, sign, draw):
+    signalled = end_on_signals()
     while True:
-        connection, _ = soon(listener._accept, listener, None, draw)
+        connection, _ = soon(listener._accept, [listener, signalled], None, draw)
         answer(connection, sign)
 
 

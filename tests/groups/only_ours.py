@@ -8,7 +8,7 @@ import subprocess
 import sys
 import time
 
-from lib import authority, program
+from lib import authority, native, program
 from lib.authority import EXAMPLES, INTERNAL, KEYS, Authority, body_of, inside, moment_of, values_of
 from lib.registers import tlv
 from lib.trial import each, need, test
@@ -497,6 +497,17 @@ def a_socket_that_is_handed_over(t):
     t.same((ran.returncode, b"no socket was handed over" in ran.stderr), (1, True), "status, and whether the cause is reported, without a socket")
     ran = t.tried(*words, "ca.sign")
     t.same(ran.returncode, 2, "status with a path as well")
+
+
+@test(seconds=2)
+def a_signal_just_before_it_sleeps(t):
+    """The signer ends on a SIGTERM that comes when it is about to wait for the next client, and removes its socket."""
+    need("cc")
+    authority.need_cryptography(t)
+    it = Authority(t)
+    early = native.made("early_signal.so", "cc", "-shared", "-fPIC", "-O2", program.TESTS / "early_signal.c", "-ldl", "-o")
+    ran = t.tried("env", f"LD_PRELOAD={early}", "python3", EXAMPLES / "signer.py", it.key, "ca.sign")
+    t.same((ran.returncode, ran.stderr, (t.room / "ca.sign").exists()), (0, b"", False), "status, standard error, whether its socket is still there")
 
 
 def handed(words, listener):
