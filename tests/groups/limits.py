@@ -112,6 +112,18 @@ def all_clients_that_connect_before_the_mode_is_set_are_disconnected(t):
             t.same(it.recv(1), b"", "what one of the last clients receives that connected before the mode was set")
 
 
+@each({error: error for error in ("EMFILE", "ENFILE")}, seconds=1)
+def early_clients_that_cannot_be_disconnected_keep_the_desk_from_opening(t, error):
+    """Without a descriptor, accept(2) doesn't take a client from the queue, who could send commands later. The next desk takes the socket over."""
+    t.register()
+    words = ["open", "ca.db", "--port", free_port(), "--control", "counter", "--unsigned"]
+    ran, counts = faults.run(t, words, fail=f"accept:1={error}")
+    t.same((ran.status, ran.out, ran.err, counts["met"]), (1, b"", b"F4 read\n", 1), "status, output, standard error, injected faults")
+    t.open()
+    with t.control() as control:
+        t.same(control.ask("subscriber owner"), "subscriber 1", "a line to the next desk")
+
+
 @test
 def a_link_to_a_socket_is_not_taken_over(t):
     t.register()

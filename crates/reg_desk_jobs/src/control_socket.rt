@@ -34,7 +34,7 @@ fn create_for_owner<M: Machine>(machine: &M, path: &str) -> io::Result<UnixListe
     let lock = machine.lock_folder(path)?;
     let listener = replace_stale_socket(machine, &lock, path)?;
     machine.set_mode(path, OWNER_ONLY)?;
-    drop_waiting(&listener);
+    drop_waiting(&listener)?;
     Ok(listener)
 }
 
@@ -68,13 +68,17 @@ fn remove_stale<M: Machine>(machine: &M, lock: &File, path: &str) -> io::Result<
     machine.unlink(lock, path)
 }
 
-/// Closes the connections that clients opened before the mode was set.
-fn drop_waiting(listener: &UnixListener) {
+/// Closes the connections that clients opened before the mode was set. Errors: those of accept(2), such as too many open descriptors, since a client
+/// would stay connected.
+fn drop_waiting(listener: &UnixListener) -> io::Result<()> {
     // Not a fixed number: the queue holds `net.core.somaxconn` + 1 of them, and that may be raised. By now only the owner and root can connect, so
     // this ends.
     for _ in 0..u64::MAX {
-        if listener.accept().is_err() {
-            return;
+        match listener.accept() {
+            Ok(_) => {}
+            Err(error) if error.kind() == ErrorKind::WouldBlock => return Ok(()),
+            Err(error) => return Err(error),
         }
     }
+    Ok(())
 }

@@ -94,7 +94,7 @@ pub(crate) const CRL_FAILING: &str =
 pub(crate) const OCSP_FAILING: &str = "desk_signer_failing_since_timestamp_seconds{of=\"ocsp\"} ";
 
 pub(crate) const STORE_FAILING: &str =
-    "# HELP desk_store_failing_since_timestamp_seconds Since when the store fails, 0 if it does not. The next accepted command ends the failure.\n# TYPE desk_store_failing_since_timestamp_seconds gauge\ndesk_store_failing_since_timestamp_seconds ";
+    "# HELP desk_store_failing_since_timestamp_seconds Since when the store fails, 0 if it does not. The next accepted command or schedule ends the failure.\n# TYPE desk_store_failing_since_timestamp_seconds gauge\ndesk_store_failing_since_timestamp_seconds ";
 
 pub(crate) const OPEN_HTTP: &str =
     "# HELP desk_connections Connections that are open.\n# TYPE desk_connections gauge\ndesk_connections{at=\"port\"} ";
