@@ -143,10 +143,10 @@ fn refusal_by_clock<M: Machine>(
         office.old office.new }
     ensures line_outcome { IfSome result (λ reply. ReportsLineOutcome reply.line_outcome reply.text.items) }
 {
-    match office.summary() {
-        Ok(summary) if is_ahead(now, summary.last, accepted) => {
+    match office.last() {
+        Ok(last) if is_ahead(now, last, accepted) => {
             let reply = clock_refused(alloc);
-            let reason = Some(Reason::ClockAhead(summary.last));
+            let reason = Some(Reason::ClockAhead(last));
             keep_reason_text(reason_line(alloc, b"", reason), &reply.text, last_reason);
             Some(reply)
         }

@@ -205,8 +205,8 @@ fn signature_if_current<M: Machine>(
 fn is_past<O: Office>(office: &mut O, moment: Moment) -> bool
     ensures { KeepsIn O.Office office.old office.new }
 {
-    match office.summary() {
-        Ok(summary) => moment < summary.last,
+    match office.last() {
+        Ok(last) => moment < last,
         Err(_) => false,
     }
 }
@@ -260,8 +260,8 @@ impl<'a, 'w, M: Machine> Desk<'a, 'w, M> {
         ensures moves { KeepsIn M.Office.Office
             self.old.office self.new.office }
     {
-        match self.office.summary() {
-            Ok(summary) => is_ahead(moment, summary.last, self.admission.accepted),
+        match self.office.last() {
+            Ok(last) => is_ahead(moment, last, self.admission.accepted),
             Err(_) => false,
         }
     }

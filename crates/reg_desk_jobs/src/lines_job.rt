@@ -113,9 +113,9 @@ pub(crate) fn is_ahead_of<M: Machine>(office: &mut M::Office, now: Moment) -> bo
     ensures { LooksIn M.Office.Office (λ records. IsTrue result → IsTrue (ahead now records.last None))
         office.old office.new }
 {
-    match office.summary() {
+    match office.last() {
         // `None`: only an open desk has a moment that `accept-clock` accepted.
-        Ok(summary) => is_ahead(now, summary.last, None),
+        Ok(last) => is_ahead(now, last, None),
         Err(_) => false,
     }
 }

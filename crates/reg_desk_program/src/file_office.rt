@@ -75,6 +75,10 @@ impl reg_office_api::Office for FileOffice {
         self.office.summary()
     }
 
+    fn last(&mut self) -> Result<Moment, Fault> {
+        self.office.last()
+    }
+
     fn open_count(&mut self, now: Moment) -> Result<u64, Fault> {
         self.office.open_count(now)
     }

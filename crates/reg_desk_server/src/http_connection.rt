@@ -1,6 +1,6 @@
 //! One HTTP connection, on which one request is answered.
 
-ghost use Rattle.std.specs.Prelude.{◌≡◌, ◌≤◌, ◌+◌, ◌⊎◌, [], OnOk, OnErr, is_some, IsSome, IfNone, false};
+ghost use Rattle.std.specs.Prelude.{◌≡◌, ◌≤◌, ◌+◌, ◌⊎◌, [], OnOk, OnErr, is_some, IsSome, IfNone, IsTrue, Some, false, ◌↔◌};
 ghost use Rattle.reg_desk_server.specs.Handling.{Handled};
 ghost use Rattle.reg_desk_server.specs.Stages.{Answering, Drops, Finishing, HasReceived, HasUnsentText, IsDropped, IsIncomplete, KeepsReceived, KeepsSigning, ReceivesMore, SameLinkAndFault, Sends};
 
@@ -129,7 +129,9 @@ impl<S: Link, H: Handler> HttpConnection<S, H> {
     }
 
     /// Whether the time of the connection is up at `now`, in milliseconds of the handler's clock.
-    pub fn is_expired(&self, now: u64) -> bool {
+    pub fn is_expired(&self, now: u64) -> bool
+        ensures { IsTrue result ↔ (self.now.deadline ≤ now) }
+    {
         self.deadline <= now
     }
 
@@ -139,7 +141,8 @@ impl<S: Link, H: Handler> HttpConnection<S, H> {
         ensures same_link { self.new.link ≡ self.old.link }
         ensures kept { KeepsReceived self.old.stage self.new.stage }
         ensures fault { IsSome self.old.fault → IsSome self.new.fault }
-        ensures late { (self.new.fault ≡ self.old.fault) ⊎ IsIncomplete self.old.stage }
+        ensures late { (self.new.fault ≡ self.old.fault)
+            ⊎ ((self.new.fault ≡ Some ConnectionFault.TimedOut) × (self.old.deadline ≤ now) × IsIncomplete self.old.stage) }
     {
         let is_expired = self.is_expired(now);
         match &mut self.stage {

@@ -9,7 +9,7 @@ use crate::identifiers::set_key_identifier;
 use crate::ocsp_answer::{begin_ocsp, sign_draft};
 use crate::pages::page;
 use crate::queries::answer;
-use crate::register_state::{longest_in, open_count_in, request_load_in, summary_in};
+use crate::register_state::{last_in, longest_in, open_count_in, request_load_in, summary_in};
 use crate::responder::{Responder, failures_in};
 use reg_core::{Command, Fault, Label, Memory, Moment, Outcome, Query, Refusal, Schedule, Serial};
 use reg_core_lists::{Cursor, Page};
@@ -88,7 +88,7 @@ impl<C: Alter, S: Signer> reg_office_api::Office for Office<C, S> {
     ghost use Rattle.reg_office_api.specs.CallSteps.{CommandStep, QueryStep, OcspStep, CrlStep};
     ghost use Rattle.reg_office_api.specs.Drafts.{BeginStep, IsSignerFailure};
     ghost use Rattle.reg_office_api.specs.Items.{items_of};
-    ghost use Rattle.reg_office_api.specs.LookUps.{HasLongest, HasOpen, HasRequestLoad, HasSummary, IsOfStore, PageStep};
+    ghost use Rattle.reg_office_api.specs.LookUps.{HasLastMoment, HasLongest, HasOpen, HasRequestLoad, HasSummary, IsOfStore, PageStep};
     ghost use Rattle.reg_office_api.specs.Ocsp.{IsNoOcspRequest, IsOcspReply};
     ghost use Rattle.reg_office_api.specs.Settings.{SetsKeyIdentifier, ReplacesSchedule};
     ghost use Rattle.reg_store_changes.specs.AfterStoppedChange.{IsScheduled};
@@ -248,6 +248,14 @@ impl<C: Alter, S: Signer> reg_office_api::Office for Office<C, S> {
         ensures faults { IfErr result IsOfStore }
     {
         summary_in(&mut self.store)
+    }
+
+    fn last(&mut self) -> Result<Moment, Fault>
+        ensures looks { OfficeTells C.Store S.Signer (λ records. HasLastMoment records result) self.old self.new }
+        ensures looked { OfficeLooks C.Store S.Signer (λ records. HasLastMoment records result) self.old self.new }
+        ensures faults { IfErr result IsOfStore }
+    {
+        last_in(&mut self.store)
     }
 
     fn open_count(&mut self, now: Moment) -> Result<u64, Fault>

@@ -1,13 +1,22 @@
 //! Look-ups for the front ends: the summary of a register, its open requests, and the longest validity for an order.
 
 ghost use Rattle.std.specs.Prelude.{◌≡◌, ◌<◌, ◌^◌, IfErr};
-ghost use Rattle.reg_office_api.specs.LookUps.{HasRequestLoad, HasLongest, HasOpen, HasSummary, IsOfStore, rows_in};
+ghost use Rattle.reg_office_api.specs.LookUps.{HasLastMoment, HasRequestLoad, HasLongest, HasOpen, HasSummary, IsOfStore, rows_in};
 ghost use Rattle.reg_store_tables.specs.LookUps.{Learns, LooksUp};
 
 use reg_core::{Fault, Moment, Serial};
 use reg_office_api::{RegisterSummary, RequestLoad, Rows};
 use reg_store::{DatabaseFault, Table, Tables};
 use sqlite::Alter;
+
+#[tactic(auto, using(crate::proofs::Composing::answer_of_fault))]
+pub(crate) fn last_in<C: Alter>(tables: &mut Tables<C>) -> Result<Moment, Fault>
+    ensures looks { LooksUp C.Store tables.old tables.new (λ records. HasLastMoment records result) }
+    ensures faults { IfErr result IsOfStore }
+{
+    let last = tables.last()?;
+    Ok(last)
+}
 
 /// The summary of the register that the tables show.
 #[tactic(auto, using(crate::proofs::Composing::answer_of_fault))]

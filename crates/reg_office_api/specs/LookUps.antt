@@ -41,6 +41,10 @@ IsRegisterSummary records summary =
 abbrev pub HasSummary : Records → Result RegisterSummary Fault → Type 0
 HasSummary records result = IfOk result (IsRegisterSummary records)
 
+-- the last accepted moment, if the call succeeds
+abbrev pub HasLastMoment : Records → Result ℕ Fault → Type 0
+HasLastMoment records result = IfOk result (λ last. last ≡ records.last)
+
 -- how many requests for revocation are open at a moment, if the call succeeds
 abbrev pub HasOpen : Records → ℕ → Result ℕ Fault → Type 0
 HasOpen records now result =

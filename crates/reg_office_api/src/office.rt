@@ -16,7 +16,7 @@ pub trait Office {
     ghost use Rattle.reg_office_api.specs.Drafts.{BeginStep, IsSignerFailure};
     ghost use Rattle.reg_office_api.specs.Items.{items_of};
     ghost use Rattle.reg_office_api.specs.Leads.{Leads, Looks};
-    ghost use Rattle.reg_office_api.specs.LookUps.{HasRequestLoad, HasLongest, HasOpen, HasSummary, IsOfStore, PageStep};
+    ghost use Rattle.reg_office_api.specs.LookUps.{HasRequestLoad, HasLastMoment, HasLongest, HasOpen, HasSummary, IsOfStore, PageStep};
     ghost use Rattle.reg_office_api.specs.Settings.{SetsKeyIdentifier, ReplacesSchedule};
     ghost use Rattle.reg_office_api.specs.Signers.{OfficeSigners};
     ghost use Rattle.reg_core.specs.Records.{Records};
@@ -84,6 +84,11 @@ pub trait Office {
     /// The register's summary. Errors: `Memory`, `Store`.
     fn summary(&mut self) -> Result<RegisterSummary, Fault>
         ensures looks { Looks is_clean stands (λ records. HasSummary records result) self.old self.new }
+        ensures faults { IfErr result IsOfStore };
+
+    /// The last accepted moment. Errors: `Memory`, `Store`.
+    fn last(&mut self) -> Result<Moment, Fault>
+        ensures looks { Looks is_clean stands (λ records. HasLastMoment records result) self.old self.new }
         ensures faults { IfErr result IsOfStore };
 
     /// How many requests for revocation are open at a moment. The call goes through all requests. Errors: `Memory`, `Store`.
