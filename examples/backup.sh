@@ -34,7 +34,7 @@ copy_at_control() {
     [ -n "$control" ] || fail "$register is open: name its control socket, or close it"
     rm -f "$beside" "$beside.part" 2>/dev/null || fail "$beside can't be removed"
     told=$(printf 'copy %s\nwhy\n' "$beside" | "$desk" at "$control" 2>&1) || fail "$register is not copied at $control: $(joined "$told")"
-    mv "$beside" "$new/$name" 2>/dev/null || fail "$beside can't be moved into $folder"
+    mv "$beside" "$new/$name" 2>/dev/null || { rm -f "$beside"; fail "$beside can't be moved into $folder"; }
 }
 
 copy() {

@@ -26,7 +26,7 @@ is_verified() {
 
 field() { openssl crl -in "$1" -noout "-$2" 2>/dev/null | sed -n 's/^[a-zA-Z]*=//p'; }
 number() { printf '%d' "0x$(field "$1" crlnumber | sed 's/^0x//')" 2>/dev/null || :; }
-is_same() { cmp -s "$new/$1" "$folder/$1"; }
+is_same() { cmp -s "$new/$1" "$folder/$1" 2>/dev/null; }
 holds_it() { openssl crl -in "$1" -outform DER 2>/dev/null | cmp -s - "$new/ca.crl"; }
 
 fetch() {

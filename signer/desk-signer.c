@@ -236,6 +236,13 @@ static long long wait_time(long long now, const struct connection *slow) {
     return at > now ? at - now : 0;
 }
 
+/* ppoll(2) handles no signal if a descriptor is ready, as one is all the time for a busy signer. */
+static void handle_signals(const sigset_t *while_waiting) {
+    sigset_t blocked;
+    (void)sigprocmask(SIG_SETMASK, while_waiting, &blocked);
+    (void)sigprocmask(SIG_SETMASK, &blocked, NULL);
+}
+
 /* Waits for clients. A client whose signature must wait only ends the wait when it disconnects. */
 static void wait_for_clients(const sigset_t *signals) {
     struct pollfd polled[CONNECTIONS + 1];
@@ -256,6 +263,7 @@ static void wait_for_clients(const sigset_t *signals) {
         forget_nonces(&signer);
     if (ready <= 0)
         return;
+    handle_signals(signals);
     for (size_t i = polled_count; i-- > 0;) {
         if (polled[i].revents && open_ones[i]->is_complete)
             end_connection(open_ones[i]);

@@ -331,6 +331,22 @@ def a_small_ca_that_openssl_made(t):
         t.has(t.tried("openssl", "ca", "-config", "ca.cnf", "-status", serial).stderr.decode(), wanted)
 
 
+@test
+def the_limits_of_a_register(t):
+    """The script has the longest validity, the greatest serial number and the last moment that a register takes (docs/RULES.md), and nothing beyond them. With
+    --days 397 a certificate is valid for 398 days, both ends counted."""
+    greatest = f"{2**159 - 1:X}"
+    rows = {"05": ("9999-12-21T23:59:59Z", True), "06": ("9999-12-22T00:00:00Z", False), greatest: ("2026-01-01T00:00:00Z", True), f"{2**159:X}": ("2026-01-01T00:00:00Z", False)}
+    index = [f"V\t{re.sub('[-:T]', '', ends)}\t\t{serial}\tunknown\t/CN=a\n" for serial, (ends, _) in rows.items()]
+    (t.room / "index.txt").write_text("".join(index))
+    script, _ = moved(t, "index.txt", "--days", "397", "--now", "9999-12-01T00:00:00Z")
+    registered = [line.split() for line in script.splitlines() if " register " in line]
+    t.same(sorted(line[3] for line in registered), sorted(serial for serial, (_, is_taken) in rows.items() if is_taken), "the serial numbers of the script")
+    t.same({line.split()[3] for line in script.splitlines() if " order " in line}, {"398"}, "the days of the orders")
+    Authority(t).register()
+    t.same([reply for reply in t.done("script", "ca.db", given=script).splitlines() if reply[0] in "EF"], [], "refusals")
+
+
 # A second line of an index, because of which nothing is written, and a part of the message.
 UNREADABLE = {
     "too few fields": ("V\t26\n", "bad.txt:2: no line of an index"),

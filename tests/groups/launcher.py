@@ -162,6 +162,36 @@ def a_proved_program_is_taken_first(t):
     it.looks(["script"], 1)
 
 
+@each({
+    "crates.txt": ("crates.txt", True), "a proof": ("crates/reg_desk/proofs/main.antt", True), "a page of a crate": ("crates/reg_desk/README.md", False),
+    "a wrong body that the prover refuses": ("crates/reg_desk/edits/main.rt", False), "another one": ("crates/reg_desk/must-fail/main.rt", False),
+}, seconds=1)  # fmt: skip
+def what_changes_before_the_program_is_built_again(t, path, is_built):
+    """A page, and the wrong bodies that the prover must refuse, are no part of the program: a change of one doesn't start a build of an hour."""
+    it = Repository(t)
+    t.same(it.desk("build")[0], 0)
+    (it.top / "ran").unlink()
+    later = (it.top / "crates/reg_desk/out/reg_desk").stat().st_mtime + 10
+    put(it.top / path, (it.top / path).read_text() if (it.top / path).exists() else "")
+    os.utime(it.top / path, (later, later))
+    t.same(it.desk("script", "ca.db")[:2], (0, "proved script ca.db\n"), "status and standard output")
+    t.same((it.top / "ran").exists(), is_built, "whether a build was started")
+
+
+@each({"script ca.db": "script ca.db", "build": "build", "build --keep": "build --keep"})
+def after_a_failed_build_no_older_program_is_run(t, words):
+    """The status is that of the failed build. The older program doesn't count as current afterwards."""
+    it = Repository(t)
+    t.same(it.desk("build")[0], 0)
+    put(it.top / "tools/build.py", '#!/bin/sh\necho "build $*" >>"$(dirname "$0")/../ran"\nexit 126\n', is_program=True)
+    os.utime(it.top / "crates/reg_desk/out/reg_desk", (1, 1))
+    (it.top / "ran").unlink()
+    for _ in range(2):
+        t.same(it.desk(*words.split())[:2], (126, ""), "status and standard output")
+    t.same((it.top / "ran").read_text().splitlines(), [BUILDS[words][0]] * 2, "what was run")
+    t.same((it.top / "crates/reg_desk/out/reg_desk").stat().st_mtime, 1, "the moment of the older program's last change")
+
+
 # The words of ./desk, and what it runs for them.
 BUILDS = {"build": ["build --lean", "trim "], "build --keep": ["build "], "script ca.db": ["build --lean", "trim "]}
 
@@ -393,3 +423,18 @@ def the_tests_take_the_unproved_program_and_say_so(t):
         status, out, _ = it.run(tests / "run", *words)
         t.same((status, out.splitlines()[-1]), (0, "1 passed, 0 failed, 0 skipped"), "status and last line")
         t.true("unproved" not in out, f"the proved program is called unproved: {out!r}")
+
+
+@test
+def the_version_names_the_commit_and_whether_sources_changed_since(t):
+    it = Repository(t)
+    put(it.top / "crates/reg_desk_cli/src/desk.rt", 'const VERSION: &str = "1.2";\n')
+    shutil.copy2(program.TOP / "tools/version.sh", it.top / "tools")
+    git = lambda *words: t.tool("git", "-C", it.top, "-c", "user.name=a", "-c", "user.email=a@example.com", *words).decode().strip()
+    for words in (("init", "--quiet"), ("add", "."), ("commit", "--quiet", "--message=a")):
+        git(*words)
+    commit = git("rev-parse", "--short=7", "HEAD")
+    first = lambda: it.desk("--version")[1].splitlines()[0]
+    t.same(first(), f"desk 1.2 (commit {commit})", "the first line")
+    put(it.top / "crates/reg_desk/src/main.rt", "fn main() { }\n")
+    t.same(first(), f"desk 1.2 (commit {commit}, changed since)", "the first line after a change of a source")

@@ -242,16 +242,21 @@ def a_key_with_a_passphrase(t, algorithm):
 
 
 def occurrences(process, octets):
-    """How often octets occur in the writable memory of a process. Skips the test if it can't be read."""
+    """How often octets occur in the writable memory of a process."""
+    return sum(part.count(octets) for part in memory_of(process))
+
+
+def memory_of(process):
+    """The writable memory of a process. Skips the test if it can't be read."""
     try:
         with open(f"/proc/{process.pid}/mem", "rb", buffering=0) as memory:
-            found = 0
+            parts = []
             for line in Path(f"/proc/{process.pid}/maps").read_text().splitlines():
                 if line.split()[1].startswith("rw"):
                     begin, end = (int(it, 16) for it in line.split()[0].split("-"))
                     memory.seek(begin)
-                    found += memory.read(end - begin).count(octets)
-            return found
+                    parts.append(memory.read(end - begin))
+            return parts
     except PermissionError as why:
         raise Skipped("the memory of another process can't be read here") from why
 
@@ -726,6 +731,38 @@ def clients_beyond_its_descriptors(t):
     t.true(len(told) < 100, f"too many lines: {len(told)}")
 
 
+@test(seconds=2)
+def it_ends_while_a_client_always_waits(t):
+    """The signer has no descriptor for a client, so its socket is readable all the time. SIGTERM ends it all the same."""
+    it = Authority(t)
+    process = started(t, it.key)
+    t.callback(process.kill)
+    t.tool("prlimit", "--pid", process.pid, "--nofile=3:")
+    t.enter_context(connected(t.room / "ca.sign"))
+    t.same(process.stderr.readline().decode(), f"{NAME}a connection failed: Too many open files\n", "its first line on standard error")
+    process.terminate()
+    with t.at_once("its end"):
+        t.same(process.wait(20), 0, "its status")
+
+
+@test(seconds=4)
+def no_client_of_256_is_lost_for_one_that_can_not_be_accepted(t):
+    """The signer has no descriptor for the 257th client. The oldest of the others keeps its connection, and gets its signature."""
+    it = Authority(t)
+    # 300 descriptors are open from the start, so that no client gets a number below the later limit.
+    process = started(t, it.key, before=["bash", "-c", 'for at in {3..302}; do eval "exec $at< /dev/null"; done; exec "$@"', "-"])
+    t.callback(process.kill)
+    clients = [t.enter_context(connected(t.room / "ca.sign")) for _ in range(256)]
+    for client in clients:
+        client.sendall(b"a")
+    authority.until(lambda: all(map(program.is_read, clients)), "the signer to read the beginning of each message")
+    t.tool("prlimit", "--pid", process.pid, "--nofile=280:")
+    t.enter_context(connected(t.room / "ca.sign"))
+    t.same(process.stderr.readline().decode(), f"{NAME}a connection failed: Too many open files\n", "its first line on standard error")
+    clients[0].shutdown(socket.SHUT_WR)
+    t.true(program.read_all(clients[0]) != b"", "the oldest client gets no signature")
+
+
 # Processes and sockets
 
 
@@ -829,6 +866,18 @@ def a_folder_that_stays_locked(t):
     process.stdout.close()
 
 
+@test(seconds=11)
+def a_folder_that_stays_locked_for_ten_seconds(t):
+    """The signer gives up, and says why: otherwise a start would hang without a word."""
+    it = Authority(t)
+    folder = os.open(t.room, os.O_RDONLY)
+    t.callback(os.close, folder)
+    fcntl.flock(folder, fcntl.LOCK_EX)
+    with t.ten_seconds("the end of the signer"):
+        ran = t.tried(native.signer(), it.key, "ca.sign", timeout=30)
+    t.same((ran.returncode, ran.stdout, ran.stderr.decode()), (1, b"", f"{NAME}ca.sign: its folder can't be locked: Resource temporarily unavailable\n"), "status and output")
+
+
 @each({"P-256": ("ecdsa-sha256",), "P-384": ("ecdsa-sha384",), "P-256, each drawn for its message": ("ecdsa-sha256", "--fresh-nonces")}, seconds=6)
 def no_nonce_signs_twice(t, algorithm, *words):
     """Three processes sign, with pauses of several lengths. Two signatures with the same r would reveal the key (FIPS 186-5 6.4.1)."""
@@ -842,6 +891,25 @@ def no_nonce_signs_twice(t, algorithm, *words):
         if at % 20 == 0 or pause >= 0.02:
             verifies(t, it, b"%d" % at, signed)
     t.same(len(found), 347, "different values of r")
+
+
+@test(seconds=4)
+def a_nonce_is_in_its_memory_for_a_second_at_most(t):
+    """A nonce that was drawn ahead is in the signer's memory before it signs, with the r that its signature then shows. The signer erases all of them after a
+    second without a client."""
+    it = Authority(t)
+    process = started(t, it.key)
+
+    def is_drawn_ahead(pause):
+        """Whether the memory has the nonce of the next signature, so long after the one before."""
+        t.true(signature(t.room / "ca.sign", b"a message") != b"", "it gives no signature")
+        time.sleep(pause)
+        memory = memory_of(process)
+        r = values_of(values_of(signature(t.room / "ca.sign", b"another"))[0][1])[0][1]
+        return any(int.from_bytes(r, "big").to_bytes(32, "little") in part for part in memory)
+
+    authority.until(lambda: is_drawn_ahead(0.2), "a signature with a nonce that was drawn ahead")
+    t.same(is_drawn_ahead(2.5), False, "whether the memory has a nonce after a pause")
 
 
 @test(seconds=5)
@@ -991,10 +1059,11 @@ def its_memory_is_locked_and_never_dumped(t):
 
 @test(seconds=2)
 def it_is_built_for_an_attacker(t):
-    """The program that holds the key is loaded anywhere in memory, its tables of functions can't be written, its stack is no code and has canaries."""
+    """The program that holds the key is loaded anywhere in memory, its tables of functions can't be written, its stack is no code and has canaries, and
+    the C library checks the sizes of what it writes."""
     need("readelf")
     told = t.tool("readelf", "--wide", "--file-header", "--program-headers", "--dynamic", "--dyn-syms", native.signer()).decode()
-    for part in ("Type:                              DYN", "GNU_RELRO", "BIND_NOW", "PIE", "__stack_chk_fail"):
+    for part in ("Type:                              DYN", "GNU_RELRO", "BIND_NOW", "PIE", "__stack_chk_fail", "__snprintf_chk"):
         t.has(told, part, "readelf's output")
     t.true(re.search(r"GNU_STACK .* RW  ", told), "the stack can be executed")
 

@@ -172,6 +172,10 @@ def other_crls(crl):
         "a moment with a zone": put(3, tlv(UTC, b"2601010000+0000")),
         "a moment without seconds": put(3, tlv(UTC, b"2601010000Z")),
         "the 13th month": put(3, tlv(UTC, b"261301000000Z")),
+        "the 32nd day": put(3, tlv(UTC, b"260132000000Z")),
+        "hour 24": put(3, tlv(UTC, b"260101240000Z")),
+        "minute 60": put(3, tlv(UTC, b"260101006000Z")),
+        "second 60": put(3, tlv(UTC, b"260101000060Z")),
         "a fraction of a second": put(3, tlv(GENERAL, b"20500101000000.5Z")),
         "no entries, and their list": put(5, tlv(SEQUENCE)),
         "serial number 0": put(5, row(b"\x02\x01\0", at)),
@@ -182,6 +186,7 @@ def other_crls(crl):
         "an entry with another issuer": put(5, row(serial, at, tlv(SEQUENCE, tlv(SEQUENCE, bytes.fromhex("0603551D1D"), b"\x01\x01\xFF",
                                                                                     tlv(OCTETS, tlv(SEQUENCE, tlv(0xA4, name))))))),
         "reason 0": put(5, row(serial, at, tlv(SEQUENCE, tlv(SEQUENCE, bytes.fromhex("0603551D15"), tlv(OCTETS, b"\x0A\x01\0"))))),
+        "reason 7": put(5, row(serial, at, tlv(SEQUENCE, tlv(SEQUENCE, bytes.fromhex("0603551D15"), tlv(OCTETS, b"\x0A\x01\x07"))))),
         "reason 11": put(5, row(serial, at, tlv(SEQUENCE, tlv(SEQUENCE, bytes.fromhex("0603551D15"), tlv(OCTETS, b"\x0A\x01\x0B"))))),
         "entries twice": tlv(SEQUENCE, *parts[:5], entries, *parts[5:]),
         "a set in place of a sequence": b"\x31" + crl[1:],
@@ -234,6 +239,8 @@ def forms_of_answer(answer, name):
         "another status": one(asked, b"\x83\0", this, following),
         "good, and something in it": one(asked, b"\x80\1\0", this, following),
         "unknown, and something in it": one(asked, b"\x82\1\0", this, following),
+        "revoked, and an octet behind the moment": one(asked, tlv(0xA1, whole(inside(status)[1])[0], b"\0"), this, following),
+        "revoked with reason 7": one(asked, tlv(0xA1, whole(inside(status)[1])[0], tlv(0xA0, b"\x0A\x01\x07")), this, following),
         "an extension of one answer": one(asked, good, this, following, tlv(0xA1, tlv(SEQUENCE, tlv(SEQUENCE, b"\x06\x01\x2A", tlv(OCTETS))))),
         "a CertID with more in it": one(tlv(SEQUENCE, hashed, name_hash, key_hash, serial, serial), unknown, this, following),
         "a CertID with less": one(tlv(SEQUENCE, hashed, name_hash, serial), unknown, this, following),
@@ -474,6 +481,9 @@ def a_responder_s_signer_is_tried_by_its_own_certificate(t):
     t.has(checked(t, "ca.pem", *beside, "guarded.sign", status=1), "guarded.sign: no signature")
     t.signer("any.sign", it.sign)
     t.has(checked(t, "ca.pem", *beside, "any.sign", status=1), "does not verify the signer's signature by ocsp.der")
+    # The CA's key may be away. The responder's signer is tried all the same.
+    told = checked(t, "--allow-absent", "ca.pem", *it.signing("nowhere.sign"), *beside, "any.sign", status=1)
+    t.same([line.split(":")[0] for line in told.splitlines()], ["nowhere.sign", "any.sign"], "the signers that are reported")
 
 
 @test(seconds=2)

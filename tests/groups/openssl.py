@@ -322,6 +322,14 @@ def issue_due_crl_at_once(t, ground):
         desk.end()
 
 
+@test
+def issue_due_crl_takes_each_ground(t):
+    """It then looks for a desk, of which there is none."""
+    for ground in (*AT_ONCE, ",".join(AT_ONCE)):
+        ran = play(t, "bash", EXAMPLES / "issue-due-crl.sh", "--at-once", ground, "nobody", status=1)
+        t.true(b"no reply" in ran.stderr, f"after --at-once {ground}: {ran.stderr}")
+
+
 @test(seconds=3)
 def a_crl_is_issued_at_once_and_published_at_the_ipv6_loopback_address(t):
     """The scripts of the package's units work with the address [::1] of a desk with --listen [::1]. The units pass ADDRESS on to them."""

@@ -21,7 +21,7 @@ from lib import authority, native, program
 from lib.authority import EXAMPLES, Authority, moment_of
 from lib.documents import block, version
 from lib.program import TOP
-from lib.trial import Failed, Skipped, need, test
+from lib.trial import Failed, Skipped, each, need, test
 
 REGISTER, KEY = "/var/lib/durshavon/ca.db", "/var/lib/durshavon-signer/ca.key"
 SOCKET, PUBLISHED = "/run/durshavon-signer/ca.sign", "/var/lib/durshavon-crl/ca"
@@ -90,8 +90,10 @@ def built(t):
     made.mkdir(parents=True)
     shutil.copy(program.program(), made / "reg_desk")
     packages = []
-    for it in ("first", "second"):
-        ran = t.tried("env", "-C", folder, "GIT_OPTIONAL_LOCKS=0", "bash", "tools/package.sh", t.room / it, timeout=LONGEST)
+    # The second one is built elsewhere on earth, by a user whose new files are their own.
+    for it, how in (("first", ""), ("second", "umask 077; export TZ=Asia/Tokyo; ")):
+        words = ("bash", "-c", f'{how}exec bash tools/package.sh "$0"', t.room / it)
+        ran = t.tried("env", "-C", folder, "GIT_OPTIONAL_LOCKS=0", *words, timeout=LONGEST)
         t.same(ran.returncode, 0, f"status of tools/package.sh, which reported {ran.stderr[-1000:]!r}")
         packages.append(ran.stdout.decode().splitlines()[-1])
     first, second = (Path(it) for it in packages)
@@ -167,6 +169,49 @@ def a_desk_that_ends_is_started_again_unless_its_command_line_is_wrong(t):
     t.same(t.desk("open", "ca.db", "--port", "8080", "--control", "control").status, 2, "the status of `desk open` without a signer")
 
 
+# The folders that each service may write, since the rest of the system is read-only to it, and their modes.
+FOLDERS = {
+    "desk@": ["StateDirectory=durshavon", "StateDirectoryMode=0700", "RuntimeDirectory=durshavon/%i", "RuntimeDirectoryMode=0700", "LogsDirectory=durshavon", "LogsDirectoryMode=0750"],
+    "desk-crl@": [],
+    "desk-publish@": ["StateDirectory=durshavon-crl/%i", "StateDirectoryMode=0755"],
+    "desk-signer@": [],
+    "desk-responder@": [],
+}
+
+
+@test
+def which_folders_each_service_may_write(t):
+    """Without its folder /var/log/durshavon, for example, a desk with the documented option --log-file would not start."""
+    found = {name.removesuffix(".service"): text.splitlines() for name, text in units("service").items()}
+    t.same({name: [it for it in lines if re.match(r"\w+Directory(Mode)?=|ReadWritePaths=", it)] for name, lines in found.items()}, FOLDERS)
+
+
+@each({"signer": "signer", "responder": "responder"})
+def the_native_signer_gets_the_words_of_signer_py(t, name):
+    """The drop-ins differ from the services only in the program, and in the memory that it may lock: 12 MiB with a token."""
+    start = lambda text: [line.split() for line in text.splitlines() if line.startswith("ExecStart=")]
+    [service] = start(units("service")[f"desk-{name}@.service"])
+    native_conf = (TOP / f"packaging/native-{name}.conf").read_text()
+    t.same(service[:2], ["ExecStart=/usr/bin/python3", "/usr/lib/durshavon/signer.py"], "the program of the service")
+    t.same(start(native_conf), [["ExecStart="], ["ExecStart=/usr/lib/durshavon/desk-signer", *service[2:]]], "what the drop-in starts")
+    t.has(native_conf.splitlines(), "LimitMEMLOCK=16M", "the drop-in")
+
+
+@test
+def a_desk_has_fifteen_minutes_to_open_a_large_register(t):
+    """By default systemd would kill it after 90 seconds, again and again."""
+    t.has(units("service")["desk@.service"].splitlines(), "TimeoutStartSec=15min")
+
+
+@test
+def the_latest_crl_is_published_also_if_no_new_one_can_be_issued(t):
+    """desk-publish@ca.service starts with desk-crl@ca.service, whatever becomes of that, and runs after it."""
+    found = units("service")
+    t.has(found["desk-crl@.service"].splitlines(), "Wants=desk-publish@%i.service")
+    after = [line for line in found["desk-publish@.service"].splitlines() if line.startswith("After=")]
+    t.same(after, ["After=desk@%i.service desk-crl@%i.service"], "what desk-publish@.service comes after")
+
+
 @test
 def every_user_can_read_what_is_published(t):
     """desk-publish@.service lets every user, such as the web server's, read the published CRLs."""
@@ -175,15 +220,24 @@ def every_user_can_read_what_is_published(t):
            "settings that desk-publish@.service lacks")
 
 
-def maintained(t, script, *words):
-    """The commands that a script of the package gives to systemctl if systemd runs. Its tools are replaced, so it changes nothing on the machine."""
+def maintained(t, script, *words, fails="-", reports=""):
+    """The commands that a script of the package gives to systemctl if systemd runs. Its tools are replaced, so it changes nothing on the machine; a
+    command that has the word `fails` fails. The script ends with status 0, and prints `reports`."""
     (t.room / "bin").mkdir(exist_ok=True)
-    for name in ("systemctl", "getent", "install"):
-        (t.room / "bin" / name).write_text(f'#!/bin/sh\n[ {name} != systemctl ] || echo "$@" >>"{t.room}/told"\n')
+    for name in ("systemctl", "getent", "useradd", "install"):
+        log = f'echo "{name} $*" >>"{t.room}/told"' if name != "getent" else ":"
+        (t.room / "bin" / name).write_text(f'#!/bin/sh\n{log}\ncase " $* " in *" {fails} "*) exit 1 ;; esac\n')
         (t.room / "bin" / name).chmod(0o755)
-    (t.room / script).write_text((TOP / "packaging" / script).read_text().replace("/run/systemd/system", str(t.room)))
+    text = (TOP / "packaging" / script).read_text().replace("/run/systemd/system", str(t.room)).replace("/var/lib/", f"{t.room}/lib/")
+    (t.room / script).write_text(text)
     (t.room / "told").write_text("")
-    t.same(t.tool("env", f"PATH={t.room}/bin:{os.environ['PATH']}", "sh", script, *words), b"", f"what {script} prints")
+    printed = t.tool("env", f"PATH={t.room}/bin:{os.environ['PATH']}", "sh", script, *words).decode()
+    t.same(printed, reports, f"what {script} prints")
+    return [rest for tool, *rest in commands(t) if tool == "systemctl"]
+
+
+def commands(t):
+    """The commands of the last script that `maintained` ran, each as its words."""
     return [line.split() for line in (t.room / "told").read_text().splitlines()]
 
 
@@ -201,6 +255,46 @@ def a_removal_stops_and_disables_each_unit(t):
     t.same((stops[0], sorted(stops[1:])), ("stop", sorted(name.replace("@", "@*") for name in all_units)))
     t.same((disables[:2], sorted(disables[2:])), (["--quiet", "disable"], sorted(name for name, text in all_units.items() if "[Install]" in text)))
     t.same(maintained(t, "prerm", "upgrade"), [], "an upgrade")
+
+
+@test
+def a_unit_that_fails_does_not_fail_the_package(t):
+    """Otherwise dpkg would leave the package half-configured, or refuse to remove it. The script says what to look at."""
+    told = "durshavon: not every service was restarted: systemctl --failed 'desk*' names the others\n"
+    maintained(t, "postinst", "configure", "1", fails="try-restart", reports=told)
+    told = "durshavon: units of a register may still be enabled, in /etc/systemd/system\n"
+    maintained(t, "prerm", "remove", fails="disable", reports=told)
+
+
+@test
+def the_package_is_installed_and_removed_without_systemd(t):
+    """On a machine without systemd, such as a container, there is no systemctl, and the scripts end with status 0."""
+    (t.room / "bin").mkdir()
+    for name in ("sh", "ls"):
+        (t.room / "bin" / name).symlink_to(shutil.which(name))
+    for name in ("getent", "useradd", "install"):
+        (t.room / "bin" / name).write_text("#!/bin/sh\n")
+        (t.room / "bin" / name).chmod(0o755)
+    for script, *words in (("postinst", "configure", ""), ("prerm", "remove"), ("postrm", "remove"), ("postrm", "purge")):
+        (t.room / script).write_text((TOP / "packaging" / script).read_text().replace("/run/systemd/system", f"{t.room}/none").replace("/var/lib/", f"{t.room}/lib/"))
+        ran = t.tried("env", f"PATH={t.room}/bin", "sh", script, *words)
+        t.same((ran.returncode, ran.stdout + ran.stderr), (0, b""), f"status and output of {script} {words[0]}")
+
+
+@test
+def its_users_have_no_shell_and_their_folders_keep_their_modes(t):
+    """The first installation makes both users and their folders. An upgrade changes neither, whatever mode and owner the operator gave a folder."""
+    wanted = []
+    for user in ("durshavon", "durshavon-signer"):
+        home = f"{t.room}/lib/{user}"
+        wanted.append(f"useradd --system --user-group --home-dir {home} --no-create-home --shell /usr/sbin/nologin {user}".split())
+        wanted.append(f"install -d -m 0700 -o {user} -g {user} {home}".split())
+    maintained(t, "postinst", "configure", "", fails="passwd")
+    t.same([it for it in commands(t) if it[0] != "systemctl"], wanted, "what the first installation makes")
+    for user in ("durshavon", "durshavon-signer"):
+        (t.room / "lib" / user).mkdir(parents=True)
+    maintained(t, "postinst", "configure", "1")
+    t.same([it for it in commands(t) if it[0] != "systemctl"], [], "what an upgrade makes")
 
 
 @test
@@ -230,6 +324,8 @@ def completion_in_bash(t):
         t.same(sorted(completed("desk", *before, "script", "ca.db", "--s")), ["--signer", "--strict"])
         t.same(completed("desk", *before, "audit", "a r"), ["a register.db"])
     t.same(sorted(completed("desk", "list", "ca.db", "o")), ["open-requests", "orders", "overdue"])
+    paths = ("--signer", "--responder", "--published", "--log-file", "--port")
+    t.same({it: completed("desk", "open", "ca.db", it, "a r") for it in paths}, {it: ["a register.db"] if it != "--port" else [""] for it in paths}, "after each option")
 
 
 @test(seconds=200)
@@ -253,6 +349,28 @@ def the_package(t):
     documented(t, root)
     booted(t, root, it)
     removed(t, root)
+
+
+@test(seconds=15)
+def what_the_package_needs_and_has(t):
+    """It names the newest version of glibc that its programs need, and each package whose programs its scripts run. Every user can read its files, and each path
+    of a file of it that a page, a unit or a script names is there."""
+    need("dpkg-deb", "git", "make")
+    if not Path(os.environ.get("KIT", "/opt/rattle")).exists():
+        raise Skipped("the licences of the package are in the toolchain's folder, which is not here")
+    deb, files = built(t), t.room / "files"
+    t.tool("dpkg-deb", "-x", deb, files)
+    programs = [it for it in (files / "usr/lib/durshavon/desk", files / "usr/lib/durshavon/desk-signer") if it.exists()]
+    versions = {tuple(map(int, it.split(b"."))) for file in programs for it in re.findall(rb"GLIBC_(\d+\.\d+)", file.read_bytes())}
+    wanted = [f"libc6 (>= {'.'.join(map(str, max(versions)))})", *(["libssl3"] if native.has_libcrypto() else []), "passwd", "openssl", "curl", "python3"]
+    needs = t.tool("dpkg-deb", "-f", deb, "Depends").decode().strip()
+    t.same(re.sub(r"libssl3\w*", "libssl3", needs).split(", "), wanted, "the packages that it needs")
+    modes = {line.split()[0] for line in t.tool("dpkg-deb", "-c", deb).decode().splitlines()}
+    t.same(modes, {"drwxr-xr-x", "-rwxr-xr-x", "-rw-r--r--"}, "the modes of its files")
+    texts = {path: path.read_bytes() for path in files.rglob("*") if path.is_file() and path.suffix != ".gz" and path not in programs}
+    named = {it.decode() for text in texts.values() for it in re.findall(rb"/usr/(?:lib|share)/durshavon/[\w./-]*\w", text)}
+    t.true(len(named) > 15, f"too few paths were found: {named}")
+    t.same(sorted(it for it in named if not (files / it[1:]).exists()), [], "paths that lead nowhere")
 
 
 def linked(t, deb):

@@ -185,6 +185,10 @@ def a_folder_that_is_none_or_not_to_be_written(t):
     _, desk = open_desk(t, "crl")
     fails(t, publish(t, desk, folder="nowhere"), "nowhere is no folder that can be read")
     fails(t, publish(t, desk, folder="ca.db"), "ca.db is no folder that can be read")
+    (t.room / "www/ca.crl").mkdir()
+    fails(t, publish(t, desk), "www/ca.crl can't be replaced")
+    t.same(names(t.room / "www/ca.crl"), [], "files in a folder that is at the place of ca.crl")
+    (t.room / "www/ca.crl").rmdir()
     publish(t, desk)
     at_control(t, "crl")
     before = contents(t.room / "www")
@@ -329,10 +333,11 @@ def each_request_to_a_desk_ends_after_a_minute(t, script, paths):
 
 @test
 def what_a_server_says_is_told_in_one_line_of_plain_characters(t):
-    """The body of a failed response may be a proxy's page. The script prints it on one line without control characters, for a terminal or a mail."""
+    """The body of a failed response may be a proxy's page. The script prints its first 200 octets on one line without control characters, for a terminal or
+    a mail."""
     (t.room / "www").mkdir()
     (t.room / "ca.pem").write_text("")
-    body = b"one\n\x1b[31mtwo\x07\r\n"
+    body = b"one\n\x1b[31mtwo\x07\r\n" + 1_000 * b"x"
     with socket.create_server(("127.0.0.1", 0)) as server, ThreadPoolExecutor(1) as pool:
         server.settimeout(60)
 
@@ -344,7 +349,8 @@ def what_a_server_says_is_told_in_one_line_of_plain_characters(t):
 
         pool.submit(answer)
         url = f"http://127.0.0.1:{server.getsockname()[1]}/crl"
-        fails(t, played(t, "publish-crl.sh", url, "www", "ca.pem"), f"publish-crl: {url}: 502 one[31mtwo")
+        ran = played(t, "publish-crl.sh", url, "www", "ca.pem")
+        t.same(ran, (1, "", [f"publish-crl: {url}: 502 one[31mtwo" + "x" * (200 - 15)]), "status, output and error lines")
 
 
 @test
@@ -739,14 +745,14 @@ def a_copy_of_an_open_register_in_another_folder(t):
     t.true(name(begun) <= copy.name <= name(authority.now()), f"{copy.name} is not named after its moment in UTC")
 
 
-@test(seconds=2)
-def seven_are_kept(t):
+@each({"at a plain path": "copies", "at a path with a blank and a star": "all * copies"}, seconds=2)
+def seven_are_kept(t, folder):
     others = ["ca.db-2-20250101T000000Z", "other.db-20250101T000000Z"]
-    copies = register_and_copies(t, *(f"ca.db-2026010{day}T000000Z" for day in range(1, 9)), *others)
+    copies = register_and_copies(t, *(f"ca.db-2026010{day}T000000Z" for day in range(1, 9)), *others).rename(t.room / folder)
     # A killed run left this folder.
     (copies / ".backup.abc").mkdir()
     (copies / ".backup.abc/ca.db").write_text("half")
-    t.same(back_up(t)[0], 0)
+    t.same(back_up(t, folder=folder)[0], 0)
     kept = names(copies)
     t.same(kept[1:7], [f"ca.db-2026010{day}T000000Z" for day in range(3, 9)], "the six newest of the older copies")
     t.same((len(kept), [kept[0], kept[-1]]), (9, others), "number of all copies, and the copies of other registers")
@@ -873,3 +879,11 @@ def a_full_disk_of_copies(t):
     t.same(names(folder), [], "files on the full disk")
     fails(t, back_up(t, folder="nowhere"), "nowhere is no folder that can be read")
 
+
+@test(seconds=2)
+def a_copy_that_does_not_fit_is_not_left_beside_the_register(t):
+    register_and_copies(t)
+    folder = small_disk(t, 16)
+    t.open("ca.db", "--control", "counter")
+    fails(t, back_up(t, "ca.db", folder, "counter"), "ca.db.copy can't be moved into ")
+    t.same([it.name for it in t.room.iterdir() if ".copy" in it.name], [], "copies that are left beside the register")

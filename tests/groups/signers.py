@@ -1,5 +1,6 @@
 """Signers at a Unix socket: keys and signatures of openssl for each algorithm, bytes that are no signature, and signers that fail or hang."""
 
+import hashlib
 import json
 import os
 import re
@@ -130,6 +131,76 @@ def examples_signer_py_uses_no_processor_time_while_nobody_comes(t):
     process = authority.started(t, ["python3", authority.EXAMPLES / "signer.py", it.key, "ca.sign"], t.room / "ca.sign")
     t.true(signature(t.room / "ca.sign", b"a message") != b"", "the signer does not sign")
     native_signer.is_idle(t, process)
+
+
+# The order of P-256 (SEC 2, 2.4.2).
+ORDER = 0xFFFFFFFF00000000FFFFFFFFFFFFFFFFBCE6FAADA7179E84F3B9CAC2FC632551
+
+
+@test(seconds=3)
+def examples_signer_py_erases_each_nonce_that_has_signed(t):
+    """A reader of its memory could compute the key from a nonce and its signature (FIPS 186-5 6.4.1). Here the test computes each nonce from the key."""
+    authority.need_cryptography(t)
+    it = Authority(t)
+    key = native_signer.values_octets(t.tool("openssl", "ec", "-in", it.key, "-outform", "DER"))
+    process = authority.started(t, ["python3", authority.EXAMPLES / "signer.py", it.key, "ca.sign"], t.room / "ca.sign")
+    inverses = []
+    for at in range(20):
+        message = b"%d" % at
+        r, s = (int.from_bytes(value[1], "big") for value in authority.values_of(authority.inside(signature(t.room / "ca.sign", message))[1]))
+        inverses.append(s * pow(int.from_bytes(hashlib.sha256(message).digest(), "big") + r * int.from_bytes(key[7:39], "big"), -1, ORDER) % ORDER)
+        # Time in which it draws the next one.
+        time.sleep(0.02)
+    # libcrypto has the octets in this order. Its stack may keep those of a signature whose nonce was not drawn ahead.
+    left = [at for at, inverse in enumerate(inverses) if native_signer.occurrences(process, inverse.to_bytes(32, "little")[16:])]
+    t.true(len(left) < 10, f"the nonces of these signatures of twenty are still in memory: {left}")
+
+
+@each({"SIGTERM": signal.SIGTERM, "SIGINT": signal.SIGINT}, seconds=2)
+def examples_signer_py_ends_at_a_signal(t, number):
+    authority.need_cryptography(t)
+    it = Authority(t)
+    process = authority.started(t, ["python3", authority.EXAMPLES / "signer.py", it.key, "ca.sign"], t.room / "ca.sign")
+    t.callback(process.kill)
+    t.true(signature(t.room / "ca.sign", b"a message") != b"", "the signer does not sign")
+    process.send_signal(number)
+    t.same((process.wait(20), process.stderr.read(), (t.room / "ca.sign").exists()), (0, b"", False), "status, standard error, whether its socket is still there")
+
+
+@test(seconds=11)
+def examples_signer_py_waits_ten_seconds_for_a_silent_client(t):
+    """It signs for one client after the other. The desk gives up after ten seconds too, and then its next requests must not wait any longer."""
+    authority.need_cryptography(t)
+    it = Authority(t)
+    process = authority.started(t, ["python3", authority.EXAMPLES / "signer.py", it.key, "ca.sign"], t.room / "ca.sign")
+    t.callback(process.kill)
+    t.enter_context(connected(t.room / "ca.sign"))
+    with t.ten_seconds("the signature for the next client"):
+        t.true(signature(t.room / "ca.sign", b"a message") != b"", "the signer does not sign for the next client")
+    process.terminate()
+    t.same(process.stderr.read(), b"a connection failed: nothing came in time\n", "standard error")
+
+
+@test(seconds=2)
+def examples_signer_py_has_a_queue_for_all_requests_of_a_desk(t):
+    """The desk requests up to 32 signatures of OCSP answers at once, and does not wait for a place in the queue. The signer is stopped meanwhile."""
+    authority.need_cryptography(t)
+    it = Authority(t)
+    process = authority.started(t, ["python3", authority.EXAMPLES / "signer.py", it.key, "ca.sign"], t.room / "ca.sign")
+    t.callback(process.send_signal, signal.SIGCONT)
+    t.true(signature(t.room / "ca.sign", b"a message") != b"", "the signer does not sign")
+    process.send_signal(signal.SIGSTOP)
+    clients = []
+    for at in range(32):
+        client = t.enter_context(socket.socket(socket.AF_UNIX))
+        client.setblocking(False)
+        t.same(client.connect_ex(str(t.room / "ca.sign")), 0, f"the error of connect(2) for client {at}")
+        client.settimeout(program.LONGEST)
+        client.sendall(b"a message")
+        client.shutdown(socket.SHUT_WR)
+        clients.append(client)
+    process.send_signal(signal.SIGCONT)
+    t.same([at for at, client in enumerate(clients) if not program.read_all(client)], [], "clients without a signature")
 
 
 @test(seconds=5)
