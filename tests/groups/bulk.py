@@ -148,7 +148,7 @@ def nobody_or_nothing_is_read(t, control, file, wanted):
 @test
 def it_is_not_taken_beside_an_import(t):
     ran = t.desk("at", "counter", "--import", "rows.csv", "--revoke", "rows.csv")
-    t.same((ran.status, b"at takes --import or --revoke" in ran.err), (2, True), ran.err)
+    t.same((ran.status, b"at takes --import or --revoke" in ran.err), (2, True), ran.err.decode())
 
 
 @test
@@ -384,9 +384,14 @@ def a_last_registration_without_its_end_is_not_sent(t):
     t.same(replies_to(t, "status 0b", "order 1 1"), ["unknown", "order 3"])
 
 
+WANTED = b"error: at takes --import or --revoke, and not both; --orders needs --import\n"
+
+
 @each({
-    "without an import": (("--orders", "1", "398"), b"--orders needs --import"),
-    "beside a revocation": (("--revoke", "rows.csv", "--orders", "1", "398"), b"--orders needs --import"),
+    "without an import": (("--orders", "1", "398"), WANTED),
+    "beside a revocation": (("--revoke", "rows.csv", "--orders", "1", "398"), WANTED),
+    "beside a revocation and an import": (("--revoke", "rows.csv", "--import", "rows.csv", "--orders", "1", "398"), WANTED),
+    "an import beside a revocation": (("--revoke", "rows.csv", "--import", "rows.csv"), WANTED),
     "one value": (("--import", "rows.csv", "--orders", "1"), b"--orders"),
     "three values": (("--import", "rows.csv", "--orders", "1", "398", "2"), b"'2'"),
     "a name": (("--import", "rows.csv", "--orders", "acme", "398"), b"invalid value 'acme' for '--orders'"),
@@ -395,7 +400,7 @@ def a_last_registration_without_its_end_is_not_sent(t):
 })
 def orders_are_two_numbers_of_an_import(t, words, part):
     ran = t.desk("at", "counter", *words)
-    t.same((ran.status, ran.out, part in ran.err), (2, b"", True), ran.err)
+    t.same((ran.status, ran.out, part in ran.err), (2, b"", True), ran.err.decode())
 
 
 @test(seconds=4)

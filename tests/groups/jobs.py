@@ -327,3 +327,14 @@ def a_clock_that_fails(t):
         opened.ask("GET", "/counts")
         ended = opened.wait()
         t.same((ended.status, ended.err), (1, told), f"serve {more}")
+
+
+@test
+def a_clock_before_1970_is_read_as_the_start_of_1970(t):
+    """A machine whose clock lost its setting still answers, and its operator still has the desk's metrics."""
+    t.register()
+    t.clock(-86_400)
+    desk = t.open()
+    status, fields, _ = program.parted(desk.ask("GET", "/counts"))
+    t.same((status, "Date: Thu, 01 Jan 1970 00:00:00 GMT" in fields), (200, True), f"the status of GET /counts, and whether its date is the start of 1970: {fields}")
+    t.same((t.control().ask("counts"), desk.process.poll()), ("good 0 revoked 0 expired 0", None), "a line, and the exit status of the desk, which must still run")

@@ -240,6 +240,29 @@ def a_desk_tries_to_lock_the_folder_of_its_control_socket_for_ten_seconds(t):
     t.same(count["lock"], 2_000, "attempts")
 
 
+@test(seconds=3)
+def a_desk_tries_to_lock_the_folder_of_its_control_socket_many_times_a_second(t):
+    """After each of its two thousand attempts it sleeps for five milliseconds. So it waits ten seconds in all, and notices a free lock at once."""
+    t.register()
+    (t.room / "sockets").mkdir()
+    folder = os.open(t.room / "sockets", os.O_RDONLY)
+    t.callback(os.close, folder)
+    fcntl.flock(folder, fcntl.LOCK_EX)
+    tried = lambda: (t.room / "count").exists() and faults.counted(t.room / "count")["lock"]
+    with ThreadPoolExecutor(1) as pool:
+        opening = pool.submit(t.open, "ca.db", "--control", "sockets/counter", faults=faults.environment(count=t.room / "count", only="sockets"))
+        try:
+            authority.until(tried, "a desk that tries to lock the folder", seconds=20)
+            before = tried()
+            time.sleep(1)
+            attempts = tried() - before
+        finally:
+            fcntl.flock(folder, fcntl.LOCK_UN)
+        opening.result()
+    # On a busy machine there are fewer than two hundred.
+    t.true(attempts > 10, f"only {attempts} attempts in a second, so the desk waits for minutes in place of ten seconds")
+
+
 # Long runs
 
 
@@ -464,6 +487,27 @@ def a_thousand_clients_are_late_together(t):
     authority.until(lambda: desk.files == desk.before, "the desk to close all", seconds=10)
     desk.advance(0)
     t.same([why for _, why in desk.lost], ["late"] * 1_000, "why each connection was lost")
+
+
+@test(seconds=5)
+def clients_at_the_port_leave_descriptors_for_the_operator(t):
+    """The desk has 1,024 descriptors, as is usual. Silent clients get a thousand connections to the port, so some are left for the control socket."""
+    _, hard = resource.getrlimit(resource.RLIMIT_NOFILE)
+    if hard < 2_000 and hard != resource.RLIM_INFINITY:
+        raise Skipped("the system has no descriptors for 1,100 connections: ulimit -n 2000")
+    resource.setrlimit(resource.RLIMIT_NOFILE, (2_000, hard))
+    t.register()
+    desk = t.open()
+    t.tool("prlimit", "--pid", desk.process.pid, "--nofile=1024:1024")
+    clients = [t.enter_context(desk.connect()) for _ in range(1_001)]
+    clients[0].settimeout(20)
+    is_closed = False
+    with contextlib.suppress(TimeoutError):
+        is_closed = read_all(clients[0]) == b""
+    t.true(is_closed, "the oldest of 1,001 connections is still open, though the desk has a thousand at most")
+    clients += [t.enter_context(desk.connect()) for _ in range(99)]
+    with Control(t.room / "counter", timeout=20) as control:
+        t.same(control.ask("counts"), "good 0 revoked 0 expired 0", "a line at the control socket")
 
 
 @each({f"{it}, {what}": (error, what) for it, error in (("the process has no descriptor left", "EMFILE"), ("the machine has none", "ENFILE")) for what in ("an answer", "a CRL")}, seconds=3)
@@ -844,6 +888,20 @@ def a_client_that_sends_on_while_it_waits_holds_up_nobody(t):
                 client.shutdown(socket.SHUT_RDWR)
 
 
+@test(seconds=2)
+def a_long_request_and_a_long_answer_take_few_system_calls(t):
+    """Each call moves up to 64 KiB. Smaller pieces take processor time."""
+    t.register(lines=f"{DAY} crl\n{DAY} crl\n")
+    t.sql("ca.db", "UPDATE crl SET der = zeroblob(12000000) WHERE number = 1")
+    t.clock(DAY)
+    desk = t.open(faults=faults.environment(count=t.room / "count", only="socket"))
+    t.same(parted(desk.ask("POST", "/ocsp", bytes(65_536)))[2], authority.MALFORMED, "the answer to the longest body")
+    reads = faults.counted(t.room / "count")["read"]
+    t.true(len(desk.ask("GET", "/crl/1")) > 12_000_000, "the long answer is cut off")
+    writes = faults.counted(t.room / "count")["write"]
+    t.true(reads < 30 and writes < 10_000, f"{reads} reads of a request of 64 KiB, and {writes} writes of an answer of 12 MB")
+
+
 @test(seconds=3)
 def a_client_whose_request_took_29_seconds_gets_its_signature(t):
     ends = threading.Event()
@@ -959,6 +1017,16 @@ def a_terminal_shows_the_lines_and_how_many_a_second(t):
     t.same(t.desk("script", "ca.db", given=given, faults=faults.environment(tick=1_000)).err, b"", "standard error that is no terminal")
     (t.room / "passed").write_bytes(bytes(8))
     t.same(on_a_terminal(t, "script", "ca.db", given=given, passed=t.room / "passed"), [], "what the terminal shows in less than a second")
+
+
+@test
+def a_terminal_shows_how_many_lines_a_second_are_done(t):
+    """A tenth of a second passes with each line. The lines that are done are shown once a second."""
+    t.register()
+    shown = on_a_terminal(t, "script", "ca.db", given=f"{DAY} counts\n".encode() * 40, tick=100)
+    found = [tuple(map(int, re.fullmatch(r"(\d+) lines done, (\d+) a second", it).groups())) for it in shown]
+    t.true(len(found) >= 3 and found[-1][0] > 20, f"lines that are done, and how many a second: {found}")
+    t.same([rate for _, rate in found], [lines // seconds for seconds, (lines, _) in enumerate(found, 1)], f"how many a second; the terminal shows {shown}")
 
 
 # The words of each job, and the lines or rows that it reads.
@@ -1165,6 +1233,22 @@ def a_client_whose_answer_makes_room_is_not_lost(t):
     desk.loses()
 
 
+@test(seconds=4)
+def answers_that_nobody_takes_have_64_mib_together(t):
+    """The sockets take no byte, and no time passes. 67 answers of a megabyte fit, and the next one does not, so the oldest connection is closed."""
+    t.register(lines=f"{DAY} crl\n{DAY} crl\n")
+    t.sql("ca.db", "UPDATE crl SET der = zeroblob(1000000) WHERE number = 1")
+    have_passed(t, 0)
+    desk = t.open("ca.db", "--log", faults=faults.environment(passed=t.room / "passed", fail="write:1+=EAGAIN", only="socket"))
+    logged, clients = lambda word: [it for it in desk.log if word in it], []
+    for count in range(1, 69):
+        clients.append(t.enter_context(desk.connect()))
+        clients[-1].sendall(b"GET /crl/1 HTTP/1.1\r\n\r\n")
+        authority.until(lambda: len(logged('"GET /crl/1')) == count, f"answer {count}", seconds=20)
+    authority.until(lambda: logged(" lost "), "a lost connection", seconds=10)
+    t.same([it.split(":")[-1] for it in logged(" lost ")], [f"{clients[0].getsockname()[1]} lost crowded"], "lost connections after 68 answers of a megabyte")
+
+
 @test
 def closed_connections_are_counted_no_more(t):
     t.register()
@@ -1366,6 +1450,35 @@ def a_script_does_not_ask_a_signer_again_for_ten_seconds(t):
         t.true(signed.result() != unsigned, "a line ten seconds after the timeout is not signed")
 
 
+@test
+def a_script_asks_a_signer_for_a_crl_during_its_back_off(t):
+    """The signer exceeds its ten seconds for an `ocsp` line. The script asks it for a CRL even so, and then again for `ocsp` lines."""
+    t.register(key=P256_KEY)
+    have_passed(t, 0)
+    line, unsigned = f"{DAY} ocsp {asks(1).hex()}", "ocsp 30030a0102"
+    with ThreadPoolExecutor(1) as pool, socket.socket(socket.AF_UNIX) as server, faults.Lines(t, "ca.db", SIGNING, passed=t.room / "passed") as desk:
+        server.bind(str(t.room / "ca.sign"))
+        server.listen(8)
+        server.settimeout(20)
+        late = pool.submit(desk.ask, line)
+        peer, _ = server.accept()
+        with peer:
+            read_all(peer)
+            have_passed(t, 10_000)
+            peer.sendall(b"0")
+            t.same(late.result(), unsigned, "the line that waited")
+        t.same(desk.ask(line), unsigned, "a line behind it, for which the signer is not asked")
+        for asked in (f"{DAY} crl", line):
+            signed = pool.submit(desk.ask, asked)
+            authority.until(lambda: signed.done() or select.select([server], [], [], 0)[0], "a request to the signer")
+            t.same(signed.done(), False, f"whether `{asked[:30]}` is answered before the signer is asked")
+            peer, _ = server.accept()
+            with peer:
+                read_all(peer)
+                peer.sendall(ANY_SIGNATURE)
+            t.true(signed.result() not in (unsigned, "F3 signer"), f"`{asked[:30]}` is not signed: {signed.result()}")
+
+
 @test(seconds=2)
 def a_crl_at_the_control_socket_waits_for_a_signer_whose_queue_is_full(t):
     t.register(key=P256_KEY)
@@ -1455,6 +1568,17 @@ def a_signer_that_has_no_room_is_asked_again_after_ten_milliseconds(t):
             t.same([parted(desk.send(COUNTS))[0] for _ in range(2)], [200, 200])
             asked.append(faults.counted(t.room / "count")["connect"])
         t.same([it - asked[0] for it in asked], [0, 0, 0, 0, 1], "further attempts")
+
+
+@test
+def an_answer_that_does_not_fit_into_the_signer_s_socket_is_internal_error(t):
+    """The desk does not ask again. Otherwise each other answer would wait behind one that never fits."""
+    t.register(key=P256_KEY)
+    signers = t.enter_context(Signers(t.room / "ca.sign"))
+    desk = t.open("ca.db", *SIGNING, faults=faults.environment(count=t.room / "count", fail="write:1=EAGAIN", only="socket"))
+    t.same(parted(desk.ask("POST", "/ocsp", asks(1)))[2], authority.INTERNAL, "the answer whose message the socket does not take")
+    t.true(ANY_SIGNATURE in desk.ask("POST", "/ocsp", asks(1)), "the next answer has no signature")
+    t.same((faults.counted(t.room / "count")["met"], signers.connected), (1, 2), "injected faults, and connections to the signer for both answers")
 
 
 @each({"an answer": "answer", "a line": "line"}, seconds=2)
@@ -1643,6 +1767,35 @@ def a_large_file_is_read_once(t):
         t.true(len(desk.ask("GET", "/crl/1")) > 12_000_000, "the answer is cut off")
         reads.append(faults.counted(t.room / "count")["read"])
     t.true(reads[1] - reads[0] < reads[0] / 100, f"reads until each answer: {reads}")
+
+
+@test(seconds=8)
+def a_register_that_grows_while_it_is_open_is_read_once(t):
+    """The page cache has room for twice the pages that the file has when it is opened. A CRL of 8 MB is in the file then, and 60 shorter ones come later."""
+    count, large, crls = 2_000, 8_000_000, 60
+    registers.make_revoked(t.room / "ca.db", count, program.KEY)
+    t.done("script", "ca.db", given="2026-01-02T00:00:00Z crl\n" * 2)
+    t.sql("ca.db", f"UPDATE crl SET der = zeroblob({large}) WHERE number = 1")
+    t.clock("2026-01-02T00:00:00Z")
+    before = (t.room / "ca.db").stat().st_size
+    desk, reads = t.open(faults=faults.environment(count=t.room / "count", only="ca.db,ca.db-wal")), []
+    control = t.control()
+    for number in range(3, 3 + crls):
+        t.true(control.ask("crl").startswith(f"crl {number} entries "), f"CRL {number} is not issued")
+    for _ in range(3):
+        added = sum(len(desk.ask("GET", f"/crl/{number}")) for number in (1, *range(3, 3 + crls))) - large
+        reads.append(faults.counted(t.room / "count")["read"])
+    t.true(before - large + 2_000_000 < added < before - 1_000_000, f"the file of {before} bytes grew by {added}, which are too few or too many for this test")
+    t.true(reads[2] - reads[1] < 100, f"reads until the end of each round: {reads}")
+
+
+@test(seconds=2)
+def a_copy_takes_little_memory(t):
+    """A register of 60 MB is copied page by page, by a program that may have 32 MB."""
+    t.register(lines=f"{DAY} crl\n{DAY} crl\n")
+    t.sql("ca.db", "UPDATE crl SET der = zeroblob(60000000) WHERE number = 1")
+    ran = t.tried("prlimit", "--as=32000000", program.program(), "copy", "ca.db", "copy.db")
+    t.same((ran.returncode, ran.stdout.split()[:1], ran.stderr), (0, [b"copied"], b""), "status, the first word of the output, and standard error")
 
 
 @test

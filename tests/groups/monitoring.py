@@ -124,6 +124,13 @@ def requests_are_counted_once_a_minute(t):
 
 
 @test
+def the_cap_is_set_by_the_option_that_its_metric_names(t):
+    (option,) = re.findall(r"^# HELP desk_rows_cap .*\(desk init (--[a-z-]+)\)", asked(t, opened(t), "/metrics")[2].decode(), re.MULTILINE)
+    t.register("other.db", options=(option, "7"))
+    t.same(metrics(t, t.open("other.db", "--control", "other"))["desk_rows_cap"], 7, f"the cap of a register made with {option} 7")
+
+
+@test
 def a_clock_that_is_set_back(t):
     desk = opened(t)
     t.done("at", "counter", given="subscriber acme\n")

@@ -7,6 +7,7 @@ import subprocess
 from lib.documents import version
 from lib.program import KEY, LONGEST, NAME, environment, program
 from lib.trial import each, test
+from model import der
 
 ISSUER = ("--name", NAME, "--key", KEY)
 SERVE, OPEN = ("serve", "none.db"), ("open", "none.db", "--control", "S")
@@ -17,11 +18,11 @@ BOTH = "give both --signer and --algorithm, or neither; an algorithm is ecdsa-sh
 ONE_OF_BOTH = (
     "open needs --signer SOCKET with --algorithm NAME, or --unsigned for a placeholder digest instead of signatures, and not both; with --responder, --signer may be left out, and --unsigned is refused"
 )
-TOGETHER = "give --responder, --responder-signer and --responder-algorithm together, and without --embed; an algorithm is"
+TOGETHER = "give --responder, --responder-signer and --responder-algorithm together, and without --embed; an algorithm is ecdsa-sha256, ecdsa-sha384, rsa-sha256 or ed25519"
 RESPONDER = ("--responder=r.der", "--responder-signer=r.sign", "--responder-algorithm=ed25519")
 RESPONDER_HELP = ("--responder <CERT>", "--responder-signer <SOCKET>", "--responder-algorithm <NAME>", "--embed <CERT>")
 NUMBER, RANGE = "a number is 1 to 18 digits", "within the range"
-MOMENT, STEP = "a moment is written as", "a step is written as"
+MOMENT, STEP = "a moment is written as", "a step is written as "
 
 
 def refused(t, *words):
@@ -146,6 +147,8 @@ def a_bad_step_is_named_at_either_place(t, step):
         told = refused(t, *SCHEDULE, *words)
         t.has(told, f"error: invalid value '{step}' for 'MOMENT=DAYS': ")
         t.has(told, STEP)
+        # The step that the error gives as an example is read: there is no such register.
+        t.same(t.desk(*SCHEDULE, FIRST_STEP, re.search(rf"{STEP}(\S+)", told)[1]).status, 1, "status of the step in the error")
 
 
 SIGNER, SERVED = ("script", "none.db"), ("serve", "none.db", "--port=80", "--requests=1")
@@ -316,6 +319,95 @@ def the_range_and_the_default_that_help_names_hold(t, option, column):
         t.same(t.desk("init", f"{number}.db", *ISSUER, f"{option}={max(number, 0)}").status, status, f"status of init with {option} {number}")
     t.done("init", "ca.db", *ISSUER)
     t.same(t.sql("ca.db", f"SELECT {column} FROM office"), [(default,)], "the register without the option")
+
+
+@each({it: it for it in ("--port", "--requests")})
+def serve_takes_the_numbers_that_its_help_names(t, option):
+    """Status 2 refuses a number beyond the range. Within the range, the status is 1: there is no such register."""
+    least, most = map(int, re.search(rf" {option} <N> .*?(\d+) to (\d+)", t.done("serve", "--help")).groups())
+    for number, status in ((least - 1, 2), (least, 1), (most, 1), (most + 1, 2)):
+        words = {"--port": 80, "--requests": 1, option: number}
+        t.same(t.desk(*SERVE, *[f"{name}={value}" for name, value in words.items()]).status, status, f"status of serve with {option} {number}")
+
+
+# The options of `init` for which its help names the most bytes, and so many bytes of their values.
+SIZED = {"--name": lambda size: der.value(0x30, bytes(size - 4)), "--key": bytes, "--key-id": bytes}
+
+
+@each({option: (option, value) for option, value in SIZED.items()})
+def as_many_bytes_as_help_names_are_accepted(t, option, value):
+    """`desk init` accepts as many bytes of a Name, a key or a key identifier as its help says, and not one more."""
+    most = int(re.search(rf" {option} <HEX> .*? (\d+) bytes", t.done("init", "--help"))[1])
+    for more, status in ((0, 0), (1, 1)):
+        words = {"--name": NAME, "--key": KEY, option: value(most + more).hex()}
+        ran = t.desk("init", f"{more}.db", *[word for it in words.items() for word in it])
+        t.same((ran.status, ran.err), (status, b"bad-issuer\n" if status else b""), f"status and standard error with {option} of {most + more} bytes")
+
+
+SIGNERS = {"--algorithm": "--signer", "--responder-algorithm": "--responder-signer"}
+
+
+@each({f"{command} {option}": (command, option) for command, options in (("script", 1), ("serve", 2), ("open", 2)) for option in list(SIGNERS)[:options]})
+def the_help_of_an_algorithm_names_its_signer(t, command, option):
+    named = re.search(rf" {option} <NAME> .* the signer at (--[a-z-]+): ", t.done(command, "--help"))[1]
+    t.same(named, SIGNERS[option], f"the option that the help of {option} names")
+
+
+# The words of a run that is not all accepted, its input, and the text before the exit status in help.
+STATUS = {
+    "at": (("at", "counter"), "x\n", "Exit status "), "replay": (("replay", "counter", "ca.log"), "", "Exit status "), "audit": (("audit", "broken.db"), "", "Exit status "),
+    "script": (("script", "other.db", "--strict"), "x\n", "exit status "), "import": (("import", "other.db", "--now", "2026-01-01T00:00:00Z", "--strict"), "1,2\n", "exit status "),
+}
+
+
+@each(STATUS)
+def a_refusal_ends_with_the_status_that_help_names(t, words, given, text):
+    """`replay` stops at a command that the log has only in part, and `audit` at a row that is not sound."""
+    for file in ("ca.db", "other.db", "broken.db"):
+        t.register(file)
+    t.sql("broken.db", "UPDATE kept SET n_good = 7")
+    (t.room / "ca.log").write_text('2026-01-01T00:00:00Z control "subscriber \\x41" "subscriber 1" 13 9\n')
+    t.open()
+    (status,) = re.findall(rf"{text}(\d+)", t.done(words[0], "--help"))
+    t.same(t.desk(*words, given=given).status, int(status), f"the status of {words[0]}, and the one that its help names")
+
+
+@test
+def a_schedule_has_as_many_steps_as_help_names(t):
+    t.register()
+    most = int(re.search(r"; 1 to (\d+) steps,", t.done("schedule", "--help"))[1])
+    steps = [FIRST_STEP, *[f"{year}-01-01T00:00:00Z=100" for year in range(2_000, 2_000 + most)]]
+    for count, status in ((most, 0), (most + 1, 1)):
+        t.same(t.desk("schedule", "ca.db", *steps[:count]).status, status, f"the status with {count} steps")
+
+
+# The command with rows of a file, the text before and after their fields in its help, and the reply to a row.
+FIELDS = {
+    "at --import": (("at", "--import", "rows.csv"), "Instead of standard input: register each certificate of this CSV file, ", "\n", "registered"),
+    "at --orders": (("at", "--import", "rows.csv", "--orders", "1", "398"), "; the rows are ", ";", "registered"),
+    "at --revoke": (("at", "--revoke", "rows.csv"), "of each row of this file, ", ";", "revoked"),
+    "import": (("import", "--now", "2026-01-01T00:00:00Z"), "a CSV file on standard input: ", ".", "registered"),
+}
+
+
+@each(FIELDS)
+def rows_have_the_fields_that_help_names(t, words, before, after, reply):
+    """The first row has the names of the fields, in their order in help. It gets no reply."""
+    day, end = "2026-01-01T00:00:00Z", "2026-12-31T00:00:00Z"
+    lines = ["subscriber acme", "order 1 398", *([f"register 1 05 {day} {end}"] if reply == "revoked" else ())]
+    t.register(lines="".join(f"{day} {it}\n" for it in lines))
+    t.clock(day)
+    names = t.done(words[0], "--help").partition(before)[2].partition(after)[0].split(",")
+    values = {"order": "1", "serial": "05", "notBefore": day, "notAfter": end, "ground": "superseded"}
+    t.true(names and set(names) <= set(values), f"help names other fields: {names}")
+    rows = f"{','.join(names)}\n{','.join(values[it] for it in names)}\n"
+    (t.room / "rows.csv").write_text(rows)
+    if words[0] == "at":
+        t.open()
+        told = t.done("at", "counter", *words[1:])
+    else:
+        told = t.done("import", "ca.db", *words[1:], given=rows)
+    t.same(told, f"{reply}\n", f"the replies to the rows {rows!r}")
 
 
 @test
