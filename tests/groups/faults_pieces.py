@@ -52,6 +52,17 @@ def an_open_desk_in_pieces(t, size):
     t.same(ran.lines, ["good", "request 1 due 2026-01-03T00:00:00Z", "revoked", f"revoked {LATER} reason 0"], "the control socket in pieces")
 
 
+@each({"one byte": 1, "seven bytes": 7}, seconds=2)
+def an_import_at_the_control_socket_in_pieces(t, size):
+    """Of 300 rows, 256 are in flight: more writes than a socket's buffer takes. So the desk must read on while no reply is read."""
+    t.register(lines=f"{DAY} subscriber acme\n{DAY} order 1 398\n")
+    t.clock(DAY)
+    t.open()
+    (t.room / "rows").write_text(f"1,05,{DAY},2026-01-10T00:00:00Z\n" * 300)
+    ran = t.desk("at", "counter", "--import", "rows", faults=faults.environment(only=WIRES, short=size))
+    t.same((ran.status, ran.out, ran.err), (0, b"registered\n" + b"same\n" * 299, b""))
+
+
 @each({"standard error": ("stderr", ["--log"]), "a file": ("ca.log", ["--log-file", "ca.log"])})
 def a_log_in_pieces(t, only, words):
     t.register()

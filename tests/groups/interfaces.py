@@ -293,6 +293,83 @@ def a_reply_is_printed_before_the_next_one_comes(t, words, given, line, reply):
         it.stdout.close()
 
 
+# The most rows of an import whose lines are sent before their replies are read.
+IN_FLIGHT = 256
+
+
+@contextlib.contextmanager
+def sending(t, words):
+    """The job `at` with these words, and its connection to a control socket at which the test answers."""
+    with socket.socket(socket.AF_UNIX) as server:
+        server.bind(str(t.room / "counter"))
+        server.listen(1)
+        it = subprocess.Popen([program(), *words], cwd=t.room, stdin=subprocess.PIPE, stdout=subprocess.PIPE, stderr=subprocess.PIPE, env=environment())
+        t.callback(it.wait, LONGEST)
+        t.callback(it.kill)
+        peer, _ = server.accept()
+        with peer:
+            peer.settimeout(20)
+            yield it, peer
+
+
+def lines_from(peer, count):
+    """The next `count` lines of a connection, and what came behind them, if anything did."""
+    text = b""
+    while text.count(b"\n") < count:
+        more = peer.recv(65_536)
+        if not more:
+            break
+        text += more
+    lines = text.split(b"\n")
+    return [it.decode() for it in lines[:count]], b"\n".join(lines[count:])
+
+
+@each({"256 rows": (IN_FLIGHT, [256]), "257 rows": (257, [256, 1]), "513 rows": (513, [256, 256, 1]), "one row": (1, [1])})
+def an_import_sends_256_lines_before_it_reads_their_replies(t, count, pieces):
+    """No reply is sent before all lines of a piece came; the next piece comes only after the last reply."""
+    (t.room / "rows").write_text("".join(f"{at},{at:x},{DAY},2026-12-31T00:00:00Z\n" for at in range(1, count + 1)))
+    expected = [f"register {at} {at:x} {DAY} 2026-12-31T00:00:00Z" for at in range(1, count + 1)]
+    replies = [("registered", "E08 no-order")[at % 2] for at in range(count)]
+    with sending(t, ["at", "counter", "--import", "rows"]) as (it, peer):
+        sent = 0
+        for size in pieces:
+            lines, behind = lines_from(peer, size)
+            t.same((lines, behind), (expected[sent:sent + size], b""), f"the lines of a piece after {sent}")
+            piece = [f"{reply}\n".encode() for reply in replies[sent:sent + size]]
+            for reply in piece[:-1]:
+                peer.sendall(reply)
+                t.same(it.stdout.readline(), reply, "a reply that is printed before the next one comes")
+            t.same(select.select([peer], [], [], 0.2)[0], [], f"lines that come before the last reply to the piece after {sent}")
+            peer.sendall(piece[-1])
+            t.same(it.stdout.readline(), piece[-1], "the last reply")
+            sent += size
+        t.same(peer.recv(1), b"", "what comes after the last line")
+        out, err = it.communicate(timeout=LONGEST)
+    t.same((it.returncode, out, err), (0 if count == 1 else 3, b"", b"" if count == 1 else b"refused\n"))
+
+
+@each({"all lines are read": 65_536, "lines are unread": 10})
+def an_import_writes_the_replies_that_came_before_the_connection_ended(t, most):
+    (t.room / "rows").write_text(f"1,05,{DAY},2026-12-31T00:00:00Z\n" * 300)
+    with sending(t, ["at", "counter", "--import", "rows"]) as (it, peer):
+        t.same(peer.recv(most)[:10], b"register 1", "what it sends")
+        peer.sendall(b"registered\nsame\nsa")
+    out, err = it.communicate(timeout=LONGEST)
+    t.same((it.returncode, out, err), (1, b"registered\nsame\n", b"F4 read\n"))
+
+
+@test
+def at_sends_each_line_of_its_input_once_the_reply_to_the_line_before_came(t):
+    with sending(t, ["at", "counter"]) as (it, peer):
+        it.stdin.write(b"counts\n" * 3)
+        it.stdin.flush()
+        for at in range(3):
+            t.same(lines_from(peer, 1), (["counts"], b""), f"line {at}")
+            t.same(select.select([peer], [], [], 0.2)[0], [], "another line before the reply")
+            peer.sendall(b"good\n")
+            t.same(it.stdout.readline(), b"good\n", "a reply, while standard input stays open")
+
+
 @test
 def many_lines_in_one_write_are_all_answered_in_order(t):
     t.register(lines=ENTERED)

@@ -1,5 +1,5 @@
 -- Lines, or rows as lines, that are sent to a control socket, and its replies.
-use Rattle.std.specs.Prelude.{◌≡◌, ◌↔◌, ◌⊎◌, ◌<◌, ℕ, List, [], ◌∷◌, ◌++◌, length, IsTrue, IfSome, Option, Some, Result, Ok, Err}
+use Rattle.std.specs.Prelude.{◌≡◌, ◌↔◌, ◌⊎◌, ◌<◌, ◌≤◌, ℕ, Bool, List, [], ◌∷◌, ◌++◌, length, IsTrue, IfSome, Option, Some, Result, Ok, Err}
 use Rattle.std.specs.Io.KnownBytes.{Appends, Consumes}
 use Rattle.std.specs.List.{AllByRecursion, concat}
 use Rattle.reg_core.specs.declared.refusal.Fault.{Fault}
@@ -11,8 +11,9 @@ use Rattle.reg_lines.specs.Script.{HasNoLf, IsWholeLine}
 use Rattle.reg_lines.specs.RowLines.{ListingEnds}
 use Rattle.reg_desk_jobs.specs.declared.at_job.Next.{Next}
 use Rattle.reg_desk_jobs.specs.declared.at_job.Next.TheVariants as next
-use Rattle.reg_desk_jobs.specs.declared.at_job.Step.{Step}
-use Rattle.reg_desk_jobs.specs.declared.at_job.Step.TheVariants as step
+use Rattle.reg_desk_jobs.specs.declared.at_job.Piece.{Piece}
+use Rattle.reg_desk_jobs.specs.declared.at_job.PieceEnd.{PieceEnd}
+use Rattle.reg_desk_jobs.specs.declared.at_job.PieceEnd.TheVariants as piece_end
 
 -- each of the lines ends with its LF
 abbrev pub AreWhole : List (List ℕ) → Type 0
@@ -45,6 +46,29 @@ NextIs input input' (next.Line line) = IsWholeLine line.items × Consumes input 
 NextIs input input' next.Cut = (left : List ℕ) × IsCutOff left × IsInput input left
 NextIs input input' next.End = IsInput input []
 
+-- an input before and after these bytes were taken from it, and how it goes on: nothing more was read; a last line without its line end; or nothing
+abbrev pub GoesOn : Option (List ℕ) → Option (List ℕ) → List ℕ → PieceEnd → Type 0
+GoesOn input input' taken piece_end.Full = Consumes input input' taken
+GoesOn input input' taken piece_end.Cut = (left : List ℕ) × IsCutOff left × IsInput input (taken ++ left)
+GoesOn input input' taken piece_end.End = IsInput input taken
+
+-- the next lines of an input: at most `most`, and as many unless it has no further line
+pub record IsPiece (most : ℕ) (input input' : Option (List ℕ)) (piece : Piece) : Type 0 where
+  pub lines : List (List ℕ)
+  pub whole : AreWhole lines
+  pub text : piece.text.items ≡ concat lines
+  pub count : length lines ≡ piece.count
+  pub few : piece.count ≤ most
+  pub full : piece.end ≡ piece_end.Full → piece.count ≡ most
+  pub left : GoesOn input input' (concat lines) piece.end
+
+-- this many replies were received and written, and whether each of them was accepted
+abbrev pub PassesReplies
+    : Option (List ℕ) → Option (List ℕ) → Option (List ℕ) → Option (List ℕ) → ℕ → Bool → Type 0
+PassesReplies incoming incoming' out out' count accepted =
+    (replies : List (List ℕ)) × (length replies ≡ count) × Consumes incoming incoming' (concat replies)
+    × Appends out out' (concat replies) × (IsTrue accepted ↔ AllByRecursion IsAccepted replies)
+
 -- these lines were sent, one after the other; as many replies were received and written
 pub record ExchangedLines (sent sent' incoming incoming' out out' : Option (List ℕ))
     (lines replies : List (List ℕ)) : Type 0 where
@@ -68,18 +92,6 @@ module _ (sent sent' incoming incoming' out out' : Option (List ℕ)) where
   abbrev pub ExchangesLine : List ℕ → List ℕ → Type 0
   ExchangesLine line reply =
       Appends sent sent' line × Consumes incoming incoming' reply × Appends out out' reply
-
-  -- one line of an input: it was sent, and its reply was accepted or not; or nothing was sent, because it has no line end, or there is none
-  abbrev pub ExchangesNextLine : Option (List ℕ) → Option (List ℕ) → Result Step Failure → Type 0
-  ExchangesNextLine input input' (Ok (step.Replied accepted)) =
-      (line reply : List ℕ) × IsWholeLine line × Consumes input input' line × ExchangesLine line reply
-      × (IsTrue accepted ↔ IsAccepted reply)
-  ExchangesNextLine input input' (Ok step.Cut) =
-      (left : List ℕ) × IsCutOff left × IsInput input left × (sent' ≡ sent) × (incoming' ≡ incoming)
-      × (out' ≡ out)
-  ExchangesNextLine input input' (Ok step.End) =
-      IsInput input [] × (sent' ≡ sent) × (incoming' ≡ incoming) × (out' ≡ out)
-  ExchangesNextLine input input' (Err why) = IsConversationFault why
 
   -- all lines of an input: each reply was accepted; or one was not, or a last line without its line end was not sent. If the conversation
   -- ended early, nothing is stated about how far the job got

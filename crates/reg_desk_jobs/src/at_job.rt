@@ -1,10 +1,10 @@
 //! The job `at`: sends lines, or rows as lines, to the control socket of an open desk, and writes its replies.
 
-ghost use Rattle.std.specs.Prelude.{◌≡◌, ◌⊎◌, ◌↔◌, IsFalse, IsTrue, IfErr, IfOk, MatchResult};
+ghost use Rattle.std.specs.Prelude.{◌≡◌, ◌⊎◌, ◌↔◌, ◌<◌, IsFalse, IsTrue, IfErr, IfOk, MatchResult};
 ghost use Rattle.std.specs.Io.{StopsAt};
 ghost use Rattle.std.specs.Io.BufRead.{ends_with_byte};
 ghost use Rattle.std.specs.Io.KnownBytes.{Appends, Consumes};
-ghost use Rattle.reg_desk_jobs.specs.Conversations.{AtControlSocket, IsConversationFault, IsReadAs, NextIs, RowsAtControlSocket, ExchangesLines, ExchangesLine, ExchangesNextLine, ExchangesLinesOver};
+ghost use Rattle.reg_desk_jobs.specs.Conversations.{AtControlSocket, IsConversationFault, IsPiece, IsReadAs, NextIs, PassesReplies, RowsAtControlSocket, ExchangesLines, ExchangesLine, ExchangesLinesOver};
 
 use crate::machine::Machine;
 use crate::output_lines::print_text;
@@ -27,19 +27,33 @@ pub(crate) enum Next {
     End,
 }
 
-/// The result of the next line of a conversation with a control socket.
+/// The next lines of an input, which are sent in one write.
+#[derive(Drop)]
+struct Piece {
+    /// The lines, each with its LF.
+    text: Vec<u8>,
+    count: usize,
+    end: PieceEnd,
+}
+
+/// Why a piece has no further line.
 #[derive(Clone, Copy)]
-enum Step {
-    /// The line was sent; `true` if its reply was no refusal and no fault.
-    Replied(bool),
-    /// The last line has no line end, and was not sent.
+enum PieceEnd {
+    /// The piece has as many lines as it may have.
+    Full,
+    /// A last line without its line end comes next.
     Cut,
-    /// There is no line left.
+    /// The input is at its end.
     End,
 }
 
-/// Sends each line of standard input to the control socket at a path, and writes its reply. Errors: `Read` if it can't connect there; `Memory` if out
-/// of memory for the buffers; else those of [`exchange_lines`].
+/// The most rows whose lines are sent before their replies are read, so that the desk can run as many in one transaction. The two never wait for each
+/// other: a row's line has at most 111 bytes, so a socket's buffer (208 KB) takes 256 lines while the desk reads nothing. The desk stops reading while
+/// a reply is unsent, but the buffer takes 278 replies, of at most 84 bytes each, while this job reads nothing.
+const MOST_IN_FLIGHT: usize = 256;
+
+/// Sends each line of standard input to the control socket at a path, once the reply to the line before has come, and writes its reply. Errors: `Read`
+/// if it can't connect there; `Memory` if out of memory for the buffers; else those of [`exchange_lines`].
 pub fn at<M: Machine, R: Read, W: Write>(
     alloc: Global,
     machine: &M,
@@ -50,13 +64,11 @@ pub fn at<M: Machine, R: Read, W: Write>(
     ensures { AtControlSocket (M.socket_connected control_path.now) (R.remaining reader.old)
         (W.contents writer.old) (W.contents writer.new) result }
 {
-    match machine.connect_to_socket(control_path) {
-        Ok(link) => exchange_lines_over(alloc, &link, reader, writer),
-        Err(_) => Err(Failure::Fault(Fault::Read)),
-    }
+    exchange_at(alloc, machine, control_path, 1, reader, writer)
 }
 
-/// Sends each row of a CSV file, except its header, as a `register` line. `Read`, and nothing is sent, if the file can't be read or has over 16 MiB.
+/// Sends each row of a CSV file, except its header, as a `register` line; 256 lines, or what is left of them, before it reads their replies. `Read`, and
+/// nothing is sent, if the file can't be read or has over 16 MiB.
 pub fn at_rows<M: Machine, R: Source, W: Write>(
     alloc: Global,
     machine: &M,
@@ -69,17 +81,44 @@ pub fn at_rows<M: Machine, R: Source, W: Write>(
         result }
 {
     match lines_of_rows(alloc, reader) {
-        Ok(lines) => at(alloc, machine, control_path, &mut lines.as_slice(), writer),
+        Ok(lines) => exchange_at(
+            alloc,
+            machine,
+            control_path,
+            MOST_IN_FLIGHT,
+            &mut lines.as_slice(),
+            writer,
+        ),
         Err(fault) => Err(Failure::Fault(fault)),
+    }
+}
+
+fn exchange_at<M: Machine, R: Read, W: Write>(
+    alloc: Global,
+    machine: &M,
+    control_path: &str,
+    most_in_flight: usize,
+    reader: &mut R,
+    writer: &mut W,
+) -> Result<(), Failure>
+    requires { 0 < most_in_flight }
+    ensures { AtControlSocket (M.socket_connected control_path.now) (R.remaining reader.old)
+        (W.contents writer.old) (W.contents writer.new) result }
+{
+    match machine.connect_to_socket(control_path) {
+        Ok(link) => exchange_lines_over(alloc, &link, most_in_flight, reader, writer),
+        Err(_) => Err(Failure::Fault(Fault::Read)),
     }
 }
 
 fn exchange_lines_over<R: Read, W: Write>(
     alloc: Global,
     link: &UnixStream,
+    most_in_flight: usize,
     reader: &mut R,
     writer: &mut W,
 ) -> Result<(), Failure>
+    requires { 0 < most_in_flight }
     ensures { ExchangesLinesOver (R.remaining reader.old) (W.contents writer.old) (W.contents writer.new)
         result }
 {
@@ -88,36 +127,46 @@ fn exchange_lines_over<R: Read, W: Write>(
     };
     let mut outgoing = link;
     match BufReader::new(alloc, reader) {
-        Ok(mut input) => exchange_lines(alloc, &mut input, writer, &mut incoming, &mut outgoing),
+        Ok(mut input) => exchange_lines(
+            alloc,
+            most_in_flight,
+            &mut input,
+            writer,
+            &mut incoming,
+            &mut outgoing,
+        ),
         Err(_) => Err(Failure::Fault(Fault::Memory)),
     }
 }
 
-/// Sends each line of the input to a control socket through `outgoing`, once the reply to the line before has come from `incoming`, and writes each
-/// reply to `writer`. A last line without its line end is not sent. Errors: after all lines were sent, `Refused` if a reply was a refusal or a
-/// fault, `NoLineEnd` if a last line without its line end is left, and `RefusedNoLineEnd` for both. `Read` if the input fails, the connection fails
-/// or ends before the end of a reply, or out of memory for a line or a reply; `Write` if a line can't be sent, or a reply can't be written.
+/// Sends the lines of the input to a control socket through `outgoing`: at most `most_in_flight` in one write, and the next ones once the replies to
+/// these have come from `incoming`. Writes each reply to `writer` once it has come. A last line without its line end is not sent. Errors: after all
+/// lines were sent, `Refused` if a reply was a refusal or a fault, `NoLineEnd` if a last line without its line end is left, and `RefusedNoLineEnd`
+/// for both. `Read` if the input fails, the connection fails or ends before the end of a reply, or out of memory for a line or a reply; `Memory` if
+/// out of memory for the lines of one write; `Write` if they can't be sent, or a reply can't be written.
 pub fn exchange_lines<R: BufRead, W: Write, C: BufRead, S: Write>(
     alloc: Global,
+    most_in_flight: usize,
     input: &mut R,
     writer: &mut W,
     incoming: &mut C,
     outgoing: &mut S,
 ) -> Result<(), Failure>
+    requires { 0 < most_in_flight }
     ensures { ExchangesLines (S.contents outgoing.old) (S.contents outgoing.new)
         (C.remaining incoming.old) (C.remaining incoming.new)
         (W.contents writer.old) (W.contents writer.new) (R.remaining input.old) result }
 {
     let mut is_accepted = true;
     for _ in 0..u64::MAX {
-        let step = match exchange_next_line(alloc, input, writer, incoming, outgoing) {
-            Ok(step) => step,
-            Err(why) => return Err(why),
-        };
-        match step {
-            Step::Replied(accepted) => is_accepted = both(is_accepted, accepted),
-            Step::Cut => return Err(cut_off(is_accepted)),
-            Step::End => return ended(is_accepted),
+        let piece = next_piece(alloc, most_in_flight, input)?;
+        print_text(outgoing, &piece.text)?;
+        let piece_is_accepted = pass_replies(alloc, piece.count, writer, incoming)?;
+        is_accepted = both(is_accepted, piece_is_accepted);
+        match piece.end {
+            PieceEnd::Full => {}
+            PieceEnd::Cut => return Err(cut_off(is_accepted)),
+            PieceEnd::End => return ended(is_accepted),
         }
     }
     // No input has this many lines.
@@ -154,26 +203,55 @@ pub(crate) fn cut_off(is_accepted: bool) -> Failure
     }
 }
 
-fn exchange_next_line<R: BufRead, W: Write, C: BufRead, S: Write>(
+/// Reads the next lines of an input, at most `most`. `Read` if the input fails, or out of memory for a line; `Memory` if out of memory for the piece.
+fn next_piece<R: BufRead>(alloc: Global, most: usize, input: &mut R) -> Result<Piece, Failure>
+    ensures ok { IfOk result (IsPiece most (R.remaining input.old) (R.remaining input.new)) }
+    ensures err { IfErr result IsConversationFault }
+{
+    let mut text = Vec::new(alloc);
+    for count in 0..most {
+        match next_line(alloc, input)? {
+            Next::Line(line) => match text.extend_from_slice(&line) {
+                Ok(()) => {}
+                Err(_) => return Err(Failure::Fault(Fault::Memory)),
+            },
+            Next::Cut => return Ok(Piece {
+                text,
+                count,
+                end: PieceEnd::Cut,
+            }),
+            Next::End => return Ok(Piece {
+                text,
+                count,
+                end: PieceEnd::End,
+            }),
+        }
+    }
+    Ok(Piece {
+        text,
+        count: most,
+        end: PieceEnd::Full,
+    })
+}
+
+/// Reads as many replies, and writes each once it has come. Returns whether none was a refusal or a fault.
+fn pass_replies<W: Write, C: BufRead>(
     alloc: Global,
-    input: &mut R,
+    count: usize,
     writer: &mut W,
     incoming: &mut C,
-    outgoing: &mut S,
-) -> Result<Step, Failure>
-    ensures { ExchangesNextLine (S.contents outgoing.old) (S.contents outgoing.new)
-        (C.remaining incoming.old) (C.remaining incoming.new)
-        (W.contents writer.old) (W.contents writer.new) (R.remaining input.old) (R.remaining input.new)
-        result }
+) -> Result<bool, Failure>
+    ensures ok { IfOk result (PassesReplies (C.remaining incoming.old) (C.remaining incoming.new)
+        (W.contents writer.old) (W.contents writer.new) count) }
+    ensures err { IfErr result IsConversationFault }
 {
-    let next = next_line(alloc, input)?;
-    let line = match next {
-        Next::Line(line) => line,
-        Next::Cut => return Ok(Step::Cut),
-        Next::End => return Ok(Step::End),
-    };
-    let reply = exchange(alloc, &line, writer, incoming, outgoing)?;
-    Ok(Step::Replied(is_accepted(&reply)))
+    let mut all_accepted = true;
+    for _ in 0..count {
+        let reply = next_reply(alloc, incoming)?;
+        print_text(writer, &reply)?;
+        all_accepted = both(all_accepted, is_accepted(&reply));
+    }
+    Ok(all_accepted)
 }
 
 /// Sends a line to a control socket, and writes its reply.

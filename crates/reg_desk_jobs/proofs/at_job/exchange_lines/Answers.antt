@@ -6,10 +6,21 @@ loop-init g c = begins _ _ _ _
 
 pub loop-preserved : goal.loop-preserved
 loop-preserved g c =
-    goes_on _ _ _ _ _ _ _ _ _ _ _ _ _ c.in-Replied.accepted _ c.loop.invariant (rw c.in-Replied.is at c.in-Ok.ensures) c.both-is_accepted.ensures
+    let sent = rw c.deref.ensures.value at c.in_ok-print_text.ensures in
+    let so = goes_on _ _ _ _ _ _ _ _ _ _ _ _ _ c.in_ok-piece.piece _ _ _ c.loop.invariant c.in_ok-piece.ensures.ok sent c.in_ok-piece_is_accepted.ensures.ok
+    c.both-is_accepted.ensures in
+    rw c.in-Full.is at so
 
 pub returns-in-Cut : goal.returns-in-Cut
-returns-in-Cut g c = cuts _ _ _ _ _ _ _ _ _ _ _ _ _ c.loop.invariant (rw c.in-Cut.is at c.in-Ok.ensures) c.cut_off.ensures
+returns-in-Cut g c =
+    let sent = rw c.deref.ensures.value at c.in_ok-print_text.ensures in
+    let so = goes_on _ _ _ _ _ _ _ _ _ _ _ _ _ c.in_ok-piece.piece _ _ _ c.loop.invariant c.in_ok-piece.ensures.ok sent c.in_ok-piece_is_accepted.ensures.ok
+    c.both-is_accepted.ensures in
+    cuts _ _ _ _ (g.R.Read.remaining c.next_piece.new.input) _ _ _ _ _ (rw c.in-Cut.is at so) c.cut_off.ensures
 
 pub returns-in-End : goal.returns-in-End
-returns-in-End g c = ends _ _ _ _ _ _ _ _ _ _ _ _ _ c.loop.invariant (rw c.in-End.is at c.in-Ok.ensures) c.ended.ensures
+returns-in-End g c =
+    let sent = rw c.deref.ensures.value at c.in_ok-print_text.ensures in
+    let so = goes_on _ _ _ _ _ _ _ _ _ _ _ _ _ c.in_ok-piece.piece _ _ _ c.loop.invariant c.in_ok-piece.ensures.ok sent c.in_ok-piece_is_accepted.ensures.ok
+    c.both-is_accepted.ensures in
+    ends _ _ _ _ (g.R.Read.remaining c.next_piece.new.input) _ _ _ _ _ (rw c.in-End.is at so) c.ended.ensures
