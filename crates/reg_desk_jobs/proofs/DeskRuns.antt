@@ -5,14 +5,14 @@ use Rattle.reg_office_api.specs.Leads.{Leads}
 use Rattle.reg_office_api.specs.Signers.{OfficeSigners}
 use Rattle.reg_office_api.proofs.PublicLaws.{runs}
 use Rattle.reg_core.specs.Records.{Records}
-use Rattle.reg_desk_server.specs.Exchange.{Input, request, line, Outcome, said, pending, later, Handles}
+use Rattle.reg_desk_server.specs.Exchange.{Input, request, lines, Outcome, said, pending, later, Handles}
 use Rattle.reg_io.specs.RunsOfAnswers.{Answered}
-use Rattle.reg_desk_jobs.specs.ControlWords.{IsAdmissionAfter, AnswersLineByClock}
+use Rattle.reg_desk_jobs.specs.ControlWords.{IsAdmissionAfter, AnswersLinesByClock}
 use Rattle.reg_desk_jobs.specs.Admission.{first_admission}
 use Rattle.reg_desk_jobs.specs.Exchanges.{AnswersBy}
 use Rattle.reg_desk_jobs.specs.SignerAnswers.{AnsweredAtPath, AnsweredAtSomePath}
 use Rattle.reg_desk_jobs.specs.FinishedResponses.{FinishesUnsigned, Meets}
-use Rattle.reg_desk_jobs.specs.Serving.{DeskState, Exchanging, Serves, AnswersControlLine, StateStays}
+use Rattle.reg_desk_jobs.specs.Serving.{DeskState, Exchanging, Serves, AnswersControlLines, StateStays}
 use Rattle.reg_desk_jobs.specs.declared.admission.Admission.{Admission}
 use Rattle.reg_desk_jobs.specs.declared.unsigned_responses.Unsigned.{Unsigned}
 use Rattle.reg_desk_jobs.proofs.Finishing.{told_moves}
@@ -39,7 +39,7 @@ module _ {S : Type 0} (is_clean : S → Type 0) (stands : OfficeSigners → S �
 
   abbrev TellsOf : S → List ℕ → List ℕ → S → Type 0
   TellsOf s came text t = IsTrue (is_open s) × IsTrue (is_open t) × IsAdmissionAfter came (admission_of s) (admission_of t)
-      × Leads is_clean stands (λ signers before after. AnswersLineByClock (admission_of s).accepted signs told signers before came text after) s t
+      × Leads is_clean stands (λ signers before after. AnswersLinesByClock (admission_of s).accepted signs told signers before came text after) s t
 
   abbrev DefersOf : S → List ℕ → S → Type 0
   DefersOf s came t = (is_open t ≡ is_open s) × (admission_of t ≡ admission_of s) × Leads is_clean stands (λ signers before after. after ≡ before) s t
@@ -50,7 +50,7 @@ module _ {S : Type 0} (is_clean : S → Type 0) (stands : OfficeSigners → S �
 
   -- the same over the records and limits of one that is open, or is not
   abbrev Handled : Bool → OfficeSigners → DeskState → Input → Outcome Unsigned → DeskState → Type 0
-  Handled now_open signers = Handles (Exchanging now_open signs (AnsweredAtPath signer_answered socket) told signers) (AnswersControlLine now_open signs told signers) StateStays
+  Handled now_open signers = Handles (Exchanging now_open signs (AnsweredAtPath signer_answered socket) told signers) (AnswersControlLines now_open signs told signers) StateStays
 
   abbrev Moves : Bool → S → Input → Outcome Unsigned → S → Type 0
   Moves now_open s input outcome t = Leads is_clean Stands (λ signers before after. Handled now_open signers before input outcome after) s t
@@ -82,14 +82,14 @@ module _ {S : Type 0} (is_clean : S → Type 0) (stands : OfficeSigners → S �
             (λ signers before after text. AnswersBy now_open signs told (admission_of s) (admission_of t) signers before came text after) outcome (subst P is step.1)),
         step.0 ∙ is,
       )
-  step_moves now_open s (line came) (said text) t is step = (
-    with_limits (λ signers before after. AnswersLineByClock (admission_of s).accepted signs told signers before came text after)
-        (λ signers before after. AnswersControlLine now_open signs told signers before came text after)
+  step_moves now_open s (lines came) (said text) t is step = (
+    with_limits (λ signers before after. AnswersLinesByClock (admission_of s).accepted signs told signers before came text after)
+        (λ signers before after. AnswersControlLines now_open signs told signers before came text after)
         s t (λ signers before after word. (sym is ∙ step.0, step.2, word)) step.3,
     step.1 ∙ sym step.0 ∙ is,
   )
-  step_moves now_open s (line came) (pending ticket) t is step = absurd step
-  step_moves now_open s (line came) later t is step = (
+  step_moves now_open s (lines came) (pending ticket) t is step = absurd step
+  step_moves now_open s (lines came) later t is step = (
     with_limits (λ signers before after. after ≡ before) (λ signers before after. StateStays before came after)
         s t (λ signers before after same. (same, step.1)) step.2,
     step.0 ∙ is,

@@ -1,6 +1,7 @@
 pub mod Admitting
 pub mod Answering
 pub mod Comparing
+pub mod CommandBatches
 pub mod ControlLines
 pub mod DeskRuns
 pub mod Fates

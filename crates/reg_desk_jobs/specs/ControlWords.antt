@@ -18,7 +18,7 @@ use Rattle.reg_lines.specs.Answer.{ComesTo, Replied}
 use Rattle.reg_lines.specs.ByCalls.{Lines}
 use Rattle.reg_lines.specs.Fields.{fields_of}
 use Rattle.reg_lines.specs.Meaning.{LineMeans, means_command}
-use Rattle.reg_lines.specs.Script.{IsShortUntimedLine, line_of}
+use Rattle.reg_lines.specs.Script.{IsShortUntimedLine, line_of, pieces}
 use Rattle.reg_desk_cli.specs.WordValues.{steps_of}
 use Rattle.reg_desk_metrics.specs.Ahead.{is_ahead}
 use Rattle.reg_desk_jobs.specs.ControlReplies.{IsReplyText, ReportsFault}
@@ -194,10 +194,17 @@ abbrev pub IsAcceptedAfter : List ℕ → Option ℕ → Option ℕ → Type 0
 IsAcceptedAfter line accepted accepted' =
     (accepted' ≡ accepted_by (meaning_in line) accepted) ⊎ (accepted' ≡ accepted)
 
--- the admission after a line: the counted requests stay, and the accepted moment is the one after the line
+-- the moment that the operator has accepted after these lines, one after the other
+abbrev pub accepted_after : List (List ℕ) → Option ℕ → Option ℕ
+accepted_after [] accepted = accepted
+accepted_after (line ∷ lines) accepted = accepted_after lines (accepted_by (meaning_in line) accepted)
+
+-- the admission after whole lines (their bytes): the counted requests stay, and the accepted moment is the one after the lines, or stays
 abbrev pub IsAdmissionAfter : List ℕ → Admission → Admission → Type 0
-IsAdmissionAfter line admission admission' =
-    (admission'.recent ≡ admission.recent) × IsAcceptedAfter line admission.accepted admission'.accepted
+IsAdmissionAfter bytes admission admission' =
+    (admission'.recent ≡ admission.recent)
+    × ((admission'.accepted ≡ accepted_after (pieces bytes) admission.accepted)
+    ⊎ (admission'.accepted ≡ admission.accepted))
 
 -- a line at a moment, its reply and the records after it; or the reply is out of memory, or empty, and no record changes
 abbrev pub AnswersLineAt : Option ℕ → Signs → ℕ → OfficeSigners → Records → List ℕ → List ℕ → Records → Type 0
@@ -205,7 +212,15 @@ AnswersLineAt accepted signs now identity before line text after =
     AnswersWord accepted signs now identity before line (meaning_in line) text after
     ⊎ (ReportsFault fault.Memory text × (after ≡ before))
 
--- the same at some moment that the clock has reached
-abbrev pub AnswersLineByClock : Option ℕ → Signs → (ℕ → Type 0) → OfficeSigners → Records → List ℕ → List ℕ → Records → Type 0
-AnswersLineByClock accepted signs clock_reached identity before line text after =
-    (now : ℕ) × clock_reached now × AnswersLineAt accepted signs now identity before line text after
+-- lines at one moment, each answered as it is alone, one after the other: their replies, joined, and the records after the last
+abbrev pub AnswersLinesAt : Option ℕ → Signs → ℕ → OfficeSigners → Records → List (List ℕ) → List ℕ → Records → Type 0
+AnswersLinesAt accepted signs now identity before [] text after = (text ≡ []) × (after ≡ before)
+AnswersLinesAt accepted signs now identity before (line ∷ lines) text after =
+    (reply : List ℕ) × (rest : List ℕ) × (middle : Records) × (text ≡ reply ++ rest)
+    × AnswersLineAt accepted signs now identity before line reply middle
+    × AnswersLinesAt (accepted_by (meaning_in line) accepted) signs now identity middle lines rest after
+
+-- whole lines (their bytes) at some moment that the clock has reached
+abbrev pub AnswersLinesByClock : Option ℕ → Signs → (ℕ → Type 0) → OfficeSigners → Records → List ℕ → List ℕ → Records → Type 0
+AnswersLinesByClock accepted signs clock_reached identity before bytes text after =
+    (now : ℕ) × clock_reached now × AnswersLinesAt accepted signs now identity before (pieces bytes) text after

@@ -5,6 +5,7 @@ pub mod Clocks
 pub mod ControlReplies
 pub mod Copies
 pub mod Counted
+pub mod CommandBatches
 pub mod ControlWords
 pub mod LineSignatures
 pub mod Digest

@@ -17,7 +17,7 @@ use Rattle.reg_desk_cli.specs.declared.failure.Failure.TheVariants as failure
 use Rattle.reg_desk_jobs.specs.Admission.{first_admission}
 use Rattle.reg_desk_jobs.specs.Exchanges.{AnswersBy}
 use Rattle.reg_desk_jobs.specs.FinishedResponses.{FinishesUnsigned, Meets}
-use Rattle.reg_desk_jobs.specs.ControlWords.{IsAdmissionAfter, AnswersLineByClock}
+use Rattle.reg_desk_jobs.specs.ControlWords.{IsAdmissionAfter, AnswersLinesByClock}
 use Rattle.reg_desk_jobs.specs.Signers.{AnsweredByOcspSigner}
 use Rattle.reg_desk_jobs.specs.declared.admission.Admission.{Admission}
 use Rattle.reg_desk_jobs.specs.declared.machine.Machine.{Ghosts as Machine}
@@ -41,12 +41,12 @@ Exchanging is_open signs signer_answered clock_reached identity before request o
     (λ text. AnswersBy is_open signs clock_reached before.1 after.1 identity before.0 request text after.0)
     outcome
 
--- a line at the control socket, which only an open desk has
-abbrev pub AnswersControlLine
+-- whole lines at the control socket, which only an open desk has
+abbrev pub AnswersControlLines
     : Bool → Signs → (ℕ → Type 0) → OfficeSigners → DeskState → List ℕ → List ℕ → DeskState → Type 0
-AnswersControlLine is_open signs clock_reached identity before line text after =
-    IsTrue is_open × IsAdmissionAfter line before.1 after.1
-    × AnswersLineByClock before.1.accepted signs clock_reached identity before.0 line text after.0
+AnswersControlLines is_open signs clock_reached identity before bytes text after =
+    IsTrue is_open × IsAdmissionAfter bytes before.1 after.1
+    × AnswersLinesByClock before.1.accepted signs clock_reached identity before.0 bytes text after.0
 
 -- a line that waits for a signature, and is answered later, changes nothing yet
 abbrev pub StateStays : DeskState → List ℕ → DeskState → Type 0
@@ -60,7 +60,7 @@ abbrev pub Serves
 Serves is_open signs signer_answered clock_reached inputs outcomes identity before after =
     (admission : Admission)
     × Answered (Handles (Exchanging is_open signs signer_answered clock_reached identity)
-    (AnswersControlLine is_open signs clock_reached identity) StateStays)
+    (AnswersControlLines is_open signs clock_reached identity) StateStays)
     (before, first_admission) inputs outcomes (after, admission)
 
 -- the same at a desk with the options' signers, over the offices of a machine

@@ -1,14 +1,17 @@
 //! Lines at the control socket, as an open desk answers them.
 
-ghost use Rattle.std.specs.Prelude.{◌≡◌, ◌⊎◌, ◌↔◌, ◌<◌, ◌≤◌, [], IfSome, IsTrue, OnOk, Some, codes, vec_capacity};
+ghost use Rattle.std.specs.Prelude.{◌≡◌, ◌⊎◌, ◌↔◌, ◌<◌, ◌≤◌, [], IfSome, IsTrue, OnOk, Some, codes, take, vec_capacity};
 ghost use Rattle.reg_lines.specs.Answer.{reply_of};
 ghost use Rattle.reg_office_api.specs.Calls.{KeepsIn, LeadsIn, LooksIn};
 ghost use Rattle.reg_desk_jobs.specs.ControlReplies.{IsLineReply, IsReplyText, ReportsLineOutcome, line_outcome_of};
 ghost use Rattle.reg_desk_jobs.specs.Counted.{CountsLine, SignatureFailed};
-ghost use Rattle.reg_desk_jobs.specs.ControlWords.{AtClock, CommandAt, HasCommand, IsAcceptedAfter, LineAt, ChecksClock, AnswersLineAt};
+ghost use Rattle.reg_desk_jobs.specs.ControlWords.{AtClock, CommandAt, HasCommand, IsAcceptedAfter, LineAt, ChecksClock, AnswersLineAt, AnswersLinesAt, accepted_after};
+ghost use Rattle.reg_desk_server.specs.LineEnds.{EndsLine, FirstLineEnds, IsWholeLines};
+ghost use Rattle.reg_lines.specs.Script.{pieces};
 ghost use Rattle.reg_desk_jobs.specs.Schedules.{SetAt, SetsSteps, RepliesSetting};
 ghost use Rattle.reg_desk_jobs.specs.SerialDecisions.{DecidesAt};
 
+use crate::command_batches::answer_batch;
 use crate::control_reply::{ControlReply, LineOutcome};
 use crate::copy_job::answer_copy;
 use crate::decisions_by_serial::{answer_serial_decision, decided_request, logged_request};
@@ -25,9 +28,107 @@ use crate::words::{AcceptedClock, ControlWord, SerialDecision, read_control_line
 use reg_core::{Fault, Moment};
 use reg_desk_cli::{Failure, Steps, schedule_of};
 use reg_desk_metrics::{Tally, is_ahead};
+use reg_desk_server::{LineReplies, line_end};
 use reg_lines::{Answered, LONGEST_REPLY, ParsedLine, read_line, run_line};
 use reg_office_api::{LineReply, Office};
 use std::alloc::Global;
+
+/// Answers the first of these lines at a moment, or the first several, if they are commands that can run in one transaction. The other parameters are
+/// as for `answer_counted`.
+pub(crate) fn answer_first_lines<M: Machine>(
+    alloc: Global,
+    office: &mut M::Office,
+    machine: &M,
+    file: &str,
+    tally: &mut Tally,
+    accepted: &mut Option<Moment>,
+    began: u64,
+    now: Moment,
+    lines: &[u8],
+    last_reason: &mut Vec<u8>,
+) -> LineReplies
+    requires { IsWholeLines lines.now }
+    ensures ends { EndsLine lines.now result.length }
+    ensures moves { LeadsIn M.Office.Office
+        (λ identity before after. AnswersLinesAt accepted.old M.Office.signs now identity before
+        (pieces (take result.length lines.now)) result.text.items after)
+        office.old office.new }
+    ensures accepted { (accepted.new ≡ accepted_after (pieces (take result.length lines.now)) accepted.old)
+        ⊎ (accepted.new ≡ accepted.old) }
+{
+    match answer_batch::<M>(
+        alloc,
+        office,
+        machine,
+        tally,
+        *accepted,
+        began,
+        now,
+        lines,
+        last_reason,
+    ) {
+        Some(replies) => replies,
+        None => answer_first_line::<M>(
+            alloc,
+            office,
+            machine,
+            file,
+            tally,
+            accepted,
+            began,
+            now,
+            lines,
+            last_reason,
+        ),
+    }
+}
+
+/// Answers the first of these lines alone.
+fn answer_first_line<M: Machine>(
+    alloc: Global,
+    office: &mut M::Office,
+    machine: &M,
+    file: &str,
+    tally: &mut Tally,
+    accepted: &mut Option<Moment>,
+    began: u64,
+    now: Moment,
+    lines: &[u8],
+    last_reason: &mut Vec<u8>,
+) -> LineReplies
+    requires { IsWholeLines lines.now }
+    ensures ends { FirstLineEnds lines.now result.length }
+    ensures moves { LeadsIn M.Office.Office
+        (λ identity before after. AnswersLineAt accepted.old M.Office.signs now identity before
+        (take result.length lines.now) result.text.items after)
+        office.old office.new }
+    ensures accepted { IsAcceptedAfter (take result.length lines.now) accepted.old accepted.new }
+{
+    let length = first_length(lines);
+    let text = answer_counted::<M>(
+        alloc,
+        office,
+        machine,
+        file,
+        tally,
+        accepted,
+        began,
+        now,
+        &lines[..length],
+        last_reason,
+    );
+    LineReplies { length, text }
+}
+
+fn first_length(lines: &[u8]) -> usize
+    requires { IsWholeLines lines.now }
+    ensures { FirstLineEnds lines.now result }
+{
+    match line_end(lines) {
+        Some(length) => length,
+        None => lines.len(),
+    }
+}
 
 /// Answers a line at the control socket at a moment, counts it, and logs it if there is a log. `began` is when the desk began to answer it, in
 /// microseconds of the monotonic clock. `accepted` is the moment of the last `accept-clock` line, which this line may be. `last_reason` is for `why`.

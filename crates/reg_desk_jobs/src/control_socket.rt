@@ -77,6 +77,8 @@ fn drop_waiting(listener: &UnixListener) -> io::Result<()> {
         match listener.accept() {
             Ok(_) => {}
             Err(error) if error.kind() == ErrorKind::WouldBlock => return Ok(()),
+            // The client is gone.
+            Err(error) if error.kind() == ErrorKind::ConnectionAborted => {}
             Err(error) => return Err(error),
         }
     }

@@ -4,7 +4,8 @@ ghost use Rattle.std.specs.Prelude.{◌≡◌, IfOk, IfSome, OnErr, option_copie
 ghost use Rattle.reg_office_api.specs.Calls.{KeepsIn, LeadsIn};
 ghost use Rattle.reg_desk_jobs.specs.LineSignatures.{AnsweredBySigner, IsLineSignature, socket_for};
 ghost use Rattle.reg_desk_jobs.specs.Signers.{crl_socket};
-ghost use Rattle.reg_desk_jobs.specs.ControlWords.{IsAdmissionAfter, AnswersLineByClock};
+ghost use Rattle.reg_desk_jobs.specs.ControlWords.{IsAdmissionAfter, AnswersLinesByClock};
+ghost use Rattle.reg_desk_server.specs.LineEnds.{IsLine};
 
 use crate::control_lines::answer_counted;
 use crate::desks::Desk;
@@ -291,13 +292,14 @@ impl<'a, 'w, M: Machine> Desk<'a, 'w, M> {
         ticket: LineTicket,
         known: LineSignature,
     ) -> Vec<u8>
-        requires { IsLineSignature
+        requires signature { IsLineSignature
             (AnsweredBySigner M.signer_answered self.old.signer.now self.old.responder.now
             ticket.wanted) M.clock_reached known }
+        requires line { IsLine line.now }
         ensures open { self.new.is_open ≡ self.old.is_open }
         ensures admission { IsAdmissionAfter line.now self.old.admission self.new.admission }
         ensures moves { LeadsIn M.Office.Office
-            (λ identity before after. AnswersLineByClock self.old.admission.accepted M.Office.signs M.clock_reached
+            (λ identity before after. AnswersLinesByClock self.old.admission.accepted M.Office.signs M.clock_reached
             identity before line.now result.items after)
             self.old.office self.new.office }
     {

@@ -3,7 +3,7 @@
 ghost use Rattle.std.specs.Prelude.{◌≡◌, IfOk, MatchOption, OnErr};
 
 use crate::admission::Admission;
-use crate::control_lines::answer_counted;
+use crate::control_lines::answer_first_lines;
 use crate::deferred_commands::{LineTicket, SignatureKind, line_signature_of, socket_of};
 use crate::exchange_log::log_lost;
 use crate::http_exchanges::answer_http;
@@ -14,7 +14,9 @@ use mio::{Events, Poll};
 use reg_crl_signer::{Backoff, SignatureRequest};
 use reg_desk_cli::{ResponderChoice, SignerAddress};
 use reg_desk_metrics::{ConnectionTotals, Tally};
-use reg_desk_server::{ConnectionCounts, ConnectionFault, Deferred, EventLoopFault, Handler};
+use reg_desk_server::{
+    ConnectionCounts, ConnectionFault, Deferred, EventLoopFault, Handler, LineReplies,
+};
 use reg_http_head::Collected;
 use reg_io::ReadyOrUnsigned;
 use reg_lines::{read_line, untimed_line};
@@ -51,13 +53,14 @@ pub(crate) struct Desk<'a, 'w, M: Machine> {
 impl<'a, 'w, M: Machine> Handler for Desk<'a, 'w, M> {
     ghost use Rattle.std.specs.Prelude.{[], IsTrue};
     ghost use Rattle.reg_office_api.specs.Calls.{KeepsIn, LeadsIn};
-    ghost use Rattle.reg_desk_jobs.specs.ControlWords.{IsAdmissionAfter, AnswersLineByClock};
+    ghost use Rattle.reg_desk_jobs.specs.ControlWords.{IsAdmissionAfter, AnswersLinesByClock};
     ghost use Rattle.reg_desk_jobs.specs.LineSignatures.{socket_for};
     ghost use Rattle.reg_desk_jobs.specs.Exchanges.{AnswersBy};
     ghost use Rattle.reg_desk_jobs.specs.SignerAnswers.{AtGivenPath, AnsweredAtSomePath};
     ghost use Rattle.reg_desk_jobs.specs.FinishedResponses.{FinishesUnsigned, Meets};
     ghost use Rattle.reg_desk_jobs.specs.Signers.{AnsweredByOcspSigner, answer_socket};
     ghost use Rattle.reg_crl_signer.specs.SignatureRequest.{IsSignatureRequest};
+    ghost use Rattle.reg_desk_server.specs.LineEnds.{IsLine};
 
     type Ticket = Unsigned;
 
@@ -70,10 +73,10 @@ impl<'a, 'w, M: Machine> Handler for Desk<'a, 'w, M> {
         s.office t.office };
 
     // only an open desk has a control socket
-    ghost answers_line = { λ s line text t. IsTrue s.is_open × IsTrue t.is_open
-        × IsAdmissionAfter line s.admission t.admission × LeadsIn M.Office.Office
-        (λ identity before after. AnswersLineByClock s.admission.accepted M.Office.signs M.clock_reached
-        identity before line text after)
+    ghost answers_lines = { λ s bytes text t. IsTrue s.is_open × IsTrue t.is_open
+        × IsAdmissionAfter bytes s.admission t.admission × LeadsIn M.Office.Office
+        (λ identity before after. AnswersLinesByClock s.admission.accepted M.Office.signs M.clock_reached
+        identity before bytes text after)
         s.office t.office };
 
     ghost defers = { λ s line t. (t.is_open ≡ s.is_open) × (t.admission ≡ s.admission)
@@ -171,17 +174,17 @@ impl<'a, 'w, M: Machine> Handler for Desk<'a, 'w, M> {
         text
     }
 
-    fn answer_line(
+    fn answer_lines(
         &mut self,
-        line: &[u8],
+        lines: &[u8],
         last_reason: &mut Vec<u8>,
-    ) -> Result<Vec<u8>, EventLoopFault> {
+    ) -> Result<LineReplies, EventLoopFault> {
         let Ok(now) = self.machine.moment() else {
             return Err(EventLoopFault);
         };
         let began = self.machine.micros();
         let mut tally = self.tally.get();
-        let text = answer_counted::<M>(
+        let replies = answer_first_lines::<M>(
             self.alloc,
             &mut self.office,
             self.machine,
@@ -190,11 +193,11 @@ impl<'a, 'w, M: Machine> Handler for Desk<'a, 'w, M> {
             &mut self.admission.accepted,
             began,
             now,
-            line,
+            lines,
             last_reason,
         );
         self.tally.set(tally);
-        Ok(text)
+        Ok(replies)
     }
 
     fn defer(&mut self, line: &[u8]) -> Option<Deferred<LineTicket>> {
@@ -222,13 +225,14 @@ impl<'a, 'w, M: Machine> Handler for Desk<'a, 'w, M> {
         deferred: Deferred<LineTicket>,
         link: Option<SignatureRequest>,
     ) -> Result<Option<Vec<u8>>, EventLoopFault>
-        requires { IsTrue self.old.is_open }
+        requires control { IsTrue self.old.is_open }
+        requires line { IsLine line.now }
         ensures ok { IfOk result (λ answered. MatchOption answered
             ((self.new.is_open ≡ self.old.is_open) × (self.new.admission ≡ self.old.admission)
             × KeepsIn M.Office.Office self.old.office self.new.office)
             (λ text. IsTrue self.old.is_open × IsTrue self.new.is_open
             × IsAdmissionAfter line.now self.old.admission self.new.admission × LeadsIn M.Office.Office
-            (λ identity before after. AnswersLineByClock self.old.admission.accepted M.Office.signs M.clock_reached
+            (λ identity before after. AnswersLinesByClock self.old.admission.accepted M.Office.signs M.clock_reached
             identity before line.now text.items after)
             self.old.office self.new.office)) }
         ensures err { OnErr result ((self.new ≡ self.old) × (last_reason.new ≡ last_reason.old)) }

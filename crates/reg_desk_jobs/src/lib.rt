@@ -4,6 +4,7 @@
 mod admission;
 mod at_job;
 mod clock;
+mod command_batches;
 mod control_lines;
 mod control_reply;
 mod control_socket;

@@ -227,7 +227,7 @@ fn run_event_loop<H: Handler, W: Write>(
     writer: &mut W,
 ) -> Result<(), Failure>
     ensures { (inputs : List Input) × (outcomes : List (Outcome H.Ticket))
-        × Answered (Handles H.answers H.answers_line H.defers) handler.old inputs outcomes handler.new
+        × Answered (Handles H.answers H.answers_lines H.defers) handler.old inputs outcomes handler.new
         × Served port requests (EndsEarly H.failed H.waited) inputs
         (W.contents writer.old) (W.contents writer.new) result }
 {

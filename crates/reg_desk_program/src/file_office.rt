@@ -42,6 +42,14 @@ impl reg_office_api::Office for FileOffice {
         self.office.run_one(alloc, now, command)
     }
 
+    fn run_batch(
+        &mut self,
+        alloc: Global,
+        commands: &[(Moment, Command)],
+    ) -> Result<Vec<Outcome>, Fault> {
+        self.office.run_batch(alloc, commands)
+    }
+
     fn ask(&mut self, alloc: Global, now: Moment, query: &Query) -> Outcome {
         self.office.ask(alloc, now, query)
     }

@@ -1,13 +1,15 @@
 -- Lemmas about the received bytes that are kept, and about the sent part of a text, one step after the other.
-use Rattle.std.proofs.Common.{◌≡◌, ℕ, ◌+◌, ◌-◌, ◌≤◌, List, [], ◌∷◌, ◌++◌, length, take, drop, sym, subst, ap, ◌∙◌, arith, take-append-drop}
+use Rattle.std.proofs.Common.{◌≡◌, ℕ, ◌+◌, ◌-◌, ◌≤◌, List, [], ◌∷◌, ◌++◌, length, take, drop, sym, subst, ap, ◌∙◌, arith, take-append-drop, length-drop}
 use Rattle.std.specs.Prelude.{Option, None, Some, MatchOption}
 use Rattle.std.specs.Io.KnownBytes.{Appends}
 use Rattle.std.proofs.KnownBytes.{Appends-trans, Consumes-trans}
+use Rattle.std.proofs.Math.Seq.{take-add}
 use Rattle.std.proofs.lemmas.List.{append_assoc, drop-drop, take-take, take_all}
 use Rattle.reg_io.specs.Delimiter.{EndsWith, FirstDelimiter, HasNoDelimiter}
-use Rattle.reg_io.proofs.PublicLaws.{no_delimiter_in_prefix}
+use Rattle.reg_io.proofs.PublicLaws.{first_delimiter_of_byte, no_delimiter_in_prefix}
 use Rattle.reg_desk_server.specs.Stages.{HasUnsentText, HasUnsentRest, IsDropped, Sends}
 use Rattle.reg_desk_server.specs.Buffers.{AddsTo, Receives, SendsOn}
+use Rattle.reg_desk_server.specs.LineEnds.{EndsLine, FirstLineEnds, IsLine}
 use Rattle.reg_desk_server.specs.declared.http_connection.HttpConnection.{HttpConnection}
 use Rattle.reg_desk_server.specs.declared.http_connection.Stage.{Stage}
 use Rattle.reg_desk_server.specs.declared.http_connection.Stage.TheVariants as stage
@@ -67,6 +69,33 @@ pub due_or_none : (unsent bytes : List ℕ) (r : Option ℕ) → unsent ≡ [] �
     → MatchOption r (unsent ≡ [] → HasNoDelimiter (10 ∷ []) bytes) (λ end. (unsent ≡ []) × FirstDelimiter (10 ∷ []) bytes end)
 due_or_none unsent bytes None sent none = λ is. none
 due_or_none unsent bytes (Some end) sent found = (sent, found)
+
+-- the same for whole lines
+pub due_or_no_lines : (unsent bytes : List ℕ) (r : Option ℕ) → unsent ≡ [] → MatchOption r (HasNoDelimiter (10 ∷ []) bytes) (λ end. EndsLine bytes end)
+    → MatchOption r (unsent ≡ [] → HasNoDelimiter (10 ∷ []) bytes) (λ end. (unsent ≡ []) × EndsLine bytes end)
+due_or_no_lines unsent bytes None sent none = λ is. none
+due_or_no_lines unsent bytes (Some end) sent found = (sent, found)
+
+-- the first line, taken alone, is a line
+pub first_is_line : (bytes : List ℕ) (end : ℕ) → FirstLineEnds bytes end → IsLine (take end bytes)
+first_is_line bytes end ends = first_delimiter_of_byte 10 bytes end ends
+
+-- one more line ends after whole lines
+pub ends_next : (bytes : List ℕ) (end more : ℕ) → EndsLine bytes end → FirstLineEnds (drop end bytes) more → EndsLine bytes (end + more)
+ends_next bytes end more ends next = (
+  omega (arith, ends.0, next.within, length-drop {A = ℕ} end bytes),
+  (
+    take end bytes ++ next.here.0,
+    take-add end more bytes ∙ ap (λ (l : List ℕ). take end bytes ++ l) next.here.1 ∙ sym (append_assoc (take end bytes) next.here.0 (10 ∷ [])),
+  ),
+)
+
+-- the same for the rest as a slice
+pub ends_next_slice : (bytes : List ℕ) (end more : ℕ) → EndsLine bytes end → FirstLineEnds (take (length bytes - end) (drop end bytes)) more
+    → EndsLine bytes (end + more)
+ends_next_slice bytes end more ends next =
+    ends_next bytes end more ends
+    (subst (λ (l : List ℕ). FirstLineEnds l more) (take_all (length bytes - end) (drop end bytes) (omega (arith, length-drop {A = ℕ} end bytes))) next)
 
 -- some bytes were dropped, and then others
 pub dropped_then : (a b c : Option (List ℕ)) → IsDropped a b → IsDropped b c → IsDropped a c

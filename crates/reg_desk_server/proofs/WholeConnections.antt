@@ -6,12 +6,11 @@ use Rattle.std.specs.List.{concat}
 use Rattle.std.proofs.lemmas.List.{append-nil, append_assoc}
 use Rattle.std.proofs.lemmas.List.Elements.{AllZip-push}
 use Rattle.std.proofs.lemmas.List.Folds.{concat-append}
-use Rattle.reg_io.specs.Delimiter.{FirstDelimiter}
-use Rattle.reg_io.proofs.PublicLaws.{first_delimiter_of_byte}
 use Rattle.reg_http_head.specs.Bytes.{collected_bytes}
 use Rattle.reg_http_head.specs.declared.collected.Collected.{Collected}
-use Rattle.reg_desk_server.specs.Connections.{FinishesInSomeState, IsServedOnce, HasAnsweredLines, IsAnsweredAtMostOnce, IsAnsweredBy, KeepsServed, ServesOn, SinceAccepted, AnswersNoMoreLines, AnswersOneMoreLine, WasAnswered, WasLeftUnsigned, more_received, more_sent, nothing_yet}
-use Rattle.reg_desk_server.specs.ControlLines.{DefersFirstLine, Gathers, IsFresh, SameLines, SameLinkAndEnd, AnswersFirstLine, AnswersDeferred}
+use Rattle.reg_desk_server.specs.Connections.{FinishesInSomeState, IsServedOnce, HasAnsweredLines, IsAnsweredAtMostOnce, IsAnsweredBy, KeepsServed, ServesOn, SinceAccepted, AnswersNoMoreLines, AnswersMoreLines, WasAnswered, WasLeftUnsigned, more_received, more_sent, nothing_yet}
+use Rattle.reg_desk_server.specs.ControlLines.{DefersFirstLine, Gathers, IsFresh, SameLines, SameLinkAndEnd, AnswersFirstLines, AnswersDeferred}
+use Rattle.reg_desk_server.specs.LineEnds.{IsWholeLines}
 use Rattle.reg_desk_server.specs.Exchange.{Outcome, said, pending, later}
 use Rattle.reg_desk_server.specs.Stages.{Answering, Finishing, HasReceived, HasUnsentText, HasUnsentRest, IsDraining, IsDropped, KeepsOutcome, AwaitsSignature, KeepsReceived, KeepsSigning}
 use Rattle.reg_desk_server.specs.Buffers.{unsent_of}
@@ -48,9 +47,9 @@ lost_on front held held' lost kept lost' ended ended' (inr ends) grows whole ove
 part_on : (gone went rest text : List ℕ) → text ≡ went ++ rest → gone ++ text ≡ gone ++ went ++ rest
 part_on gone went rest text parted = ap (λ (l : List ℕ). gone ++ l) parted ∙ sym (append_assoc gone went rest)
 
-module _ {S H : Type 0} (contents remaining : S → Option (List ℕ)) (answers_line : H → List ℕ → List ℕ → H → Type 0) where
+module _ {S H : Type 0} (contents remaining : S → Option (List ℕ)) (answers_lines : H → List ℕ → List ℕ → H → Type 0) where
   -- on a connection that was just accepted, no line was answered
-  pub told_none : (connection : ControlConnection S) → IsFresh connection → HasAnsweredLines contents remaining answers_line connection.link connection [] []
+  pub told_none : (connection : ControlConnection S) → IsFresh connection → HasAnsweredLines contents remaining answers_lines connection.link connection [] []
   told_none connection fresh = record {
     arrived = [];
     gone = [];
@@ -63,7 +62,7 @@ module _ {S H : Type 0} (contents remaining : S → Option (List ℕ)) (answers_
   }
 
   -- the connection was advanced
-  pub told_on : AnswersNoMoreLines contents remaining answers_line
+  pub told_on : AnswersNoMoreLines contents remaining answers_lines
   told_on first old new lines replies was step =
       let it = step.gathered in
       let (lost, front, whole) =
@@ -82,11 +81,11 @@ module _ {S H : Type 0} (contents remaining : S → Option (List ℕ)) (answers_
         whole = whole;
       }
 
-  -- the first line was answered
+  -- the first lines were answered
   told_more : (first : S) (s t : H) (old new : ControlConnection S) (lines replies : List (List ℕ)) (end : ℕ)
-      → HasAnsweredLines contents remaining answers_line first old lines replies → SameLinkAndEnd old new → FirstDelimiter (10 ∷ []) old.arrived.items end
-      → unsent_of old.unsent ≡ [] → answers_line s (take end old.arrived.items) (unsent_of new.unsent) t → new.arrived.items ≡ drop end old.arrived.items
-      → HasAnsweredLines contents remaining answers_line first new (lines ++ take end old.arrived.items ∷ []) (replies ++ unsent_of new.unsent ∷ [])
+      → HasAnsweredLines contents remaining answers_lines first old lines replies → SameLinkAndEnd old new → IsWholeLines (take end old.arrived.items)
+      → unsent_of old.unsent ≡ [] → answers_lines s (take end old.arrived.items) (unsent_of new.unsent) t → new.arrived.items ≡ drop end old.arrived.items
+      → HasAnsweredLines contents remaining answers_lines first new (lines ++ take end old.arrived.items ∷ []) (replies ++ unsent_of new.unsent ∷ [])
   told_more first s t old new lines replies end was same mark none step rest =
       let held = old.arrived.items in
       record {
@@ -104,13 +103,13 @@ module _ {S H : Type 0} (contents remaining : S → Option (List ℕ)) (answers_
         answered =
             concat_more replies (unsent_of new.unsent)
             ∙ ap (λ (l : List ℕ). l ++ unsent_of new.unsent) (was.answered ∙ ap (λ (l : List ℕ). was.gone ++ l) none ∙ append-nil was.gone);
-        each = AllZip-push (IsAnsweredBy answers_line) lines replies (take end held) (unsent_of new.unsent) was.each (first_delimiter_of_byte 10 held end mark, (s, t, step));
+        each = AllZip-push (IsAnsweredBy answers_lines) lines replies (take end held) (unsent_of new.unsent) was.each (mark, (s, t, step));
         whole = subst (λ (ended : Bool). (was.lost ≡ []) ⊎ (ended ≡ true)) (sym same.1) was.whole;
       }
 
   -- neither the kept bytes nor the unsent ones changed
   told_same : (first : S) (old new : ControlConnection S) (lines replies : List (List ℕ)) → SameLinkAndEnd old new → SameLines old new
-      → HasAnsweredLines contents remaining answers_line first old lines replies → HasAnsweredLines contents remaining answers_line first new lines replies
+      → HasAnsweredLines contents remaining answers_lines first old lines replies → HasAnsweredLines contents remaining answers_lines first new lines replies
   told_same first old new lines replies same as_held was = record {
     arrived = was.arrived;
     gone = was.gone;
@@ -122,17 +121,17 @@ module _ {S H : Type 0} (contents remaining : S → Option (List ℕ)) (answers_
     whole = subst (λ (ended : Bool). (was.lost ≡ []) ⊎ (ended ≡ true)) (sym same.1) was.whole;
   }
 
-  -- the first line was answered, or none was
-  pub told_next : AnswersOneMoreLine contents remaining answers_line (AnswersFirstLine answers_line) (λ s t _. t ≡ s)
+  -- the first lines were answered, or none was
+  pub told_next : AnswersMoreLines contents remaining answers_lines (AnswersFirstLines answers_lines) (λ s t _. t ≡ s)
   told_next first s t old new lines replies was same (inl (end, mark, none, step, rest)) =
-      inl (take end old.arrived.items, step, told_more first s t old new lines replies end was same mark none step rest)
+      inl (take end old.arrived.items, step, told_more first s t old new lines replies end was same mark.1 none step rest)
   told_next first s t old new lines replies was same (inr (none, nothing, as_held)) =
       inr (nothing, told_same first old new lines replies same as_held was)
 
   -- a deferred line was answered, or deferred again
-  pub told_later : (defers : H → List ℕ → H → Type 0) → AnswersOneMoreLine contents remaining answers_line (AnswersDeferred answers_line defers) (DefersFirstLine defers)
+  pub told_later : (defers : H → List ℕ → H → Type 0) → AnswersMoreLines contents remaining answers_lines (AnswersDeferred answers_lines defers) (DefersFirstLine defers)
   told_later defers first s t old new lines replies was same (inl (inl (end, mark, none, step, rest))) =
-      inl (take end old.arrived.items, step, told_more first s t old new lines replies end was same mark none step rest)
+      inl (take end old.arrived.items, step, told_more first s t old new lines replies end was same mark.here none step rest)
   told_later defers first s t old new lines replies was same (inl (inr (none, nothing, as_held))) =
       inr (inr nothing, told_same first old new lines replies same as_held was)
   told_later defers first s t old new lines replies was same (inr (looked, as_held)) =

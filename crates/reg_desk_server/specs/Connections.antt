@@ -1,11 +1,12 @@
 -- A whole connection, since it was accepted: which lines of a control connection, or which part of a request, were answered. If the connection ends
 -- early, because it failed or there was no memory, the rest is not answered, and the unsent bytes are not sent. Nothing is answered or sent twice.
-use Rattle.std.specs.Prelude.{◌≡◌, ◌≢◌, ◌⊎◌, ℕ, Bool, true, List, [], ◌∷◌, ◌++◌, Option, is_some}
+use Rattle.std.specs.Prelude.{◌≡◌, ◌⊎◌, ℕ, Bool, true, List, [], ◌∷◌, ◌++◌, Option, is_some}
 use Rattle.std.specs.Io.KnownBytes.{Appends, Consumes}
-use Rattle.std.specs.List.{All, AllZip, concat}
+use Rattle.std.specs.List.{AllZip, concat}
 use Rattle.reg_http_head.specs.Bytes.{collected_bytes}
 use Rattle.reg_desk_server.specs.Exchange.{Outcome, said, pending}
 use Rattle.reg_desk_server.specs.ControlLines.{Advances, SameLinkAndEnd}
+use Rattle.reg_desk_server.specs.LineEnds.{IsWholeLines}
 use Rattle.reg_desk_server.specs.Stages.{Drops, Sends, ReceivesMore}
 use Rattle.reg_desk_server.specs.Buffers.{unsent_of}
 use Rattle.reg_desk_server.specs.declared.control_connection.ControlConnection.{ControlConnection}
@@ -25,17 +26,16 @@ pub data SinceAccepted {S : Type 0} (contents remaining : S → Option (List ℕ
       → Appends (contents s) (contents t) more
       → SinceAccepted contents remaining first arrived (gone ++ more) t
 
--- this line, which ends with its only LF, got this reply from the handler, in some state of the handler
+-- these whole lines got these replies from the handler, in some state of the handler
 abbrev pub IsAnsweredBy : {H : Type 0} → (H → List ℕ → List ℕ → H → Type 0) → List ℕ → List ℕ → Type 0
-IsAnsweredBy {H = H} answers_line line reply =
-    ((prefix : List ℕ) × (line ≡ prefix ++ 10 ∷ []) × All (λ byte. byte ≢ 10) prefix)
-    × ((s : H) × (t : H) × answers_line s line reply t)
+IsAnsweredBy {H = H} answers_lines lines replies =
+    IsWholeLines lines × ((s : H) × (t : H) × answers_lines s lines replies t)
 
 module _ {S H : Type 0} (contents remaining : S → Option (List ℕ))
-    (answers_line : H → List ℕ → List ℕ → H → Type 0) where
-  -- These lines of a control connection were answered, each once. The bytes that came are these lines, one after the other, then the bytes that are
-  -- kept for the next lines, and then lost bytes. If bytes are lost, because there was no memory for them, the connection has ended. The bytes that
-  -- were sent, followed by the unsent ones, are the replies, in the same order, each once.
+    (answers_lines : H → List ℕ → List ℕ → H → Type 0) where
+  -- These inputs of a control connection, of one or several lines each, were answered, each once. The bytes that came are these inputs, one after the
+  -- other, then the bytes that are kept for the next lines, and then lost bytes. If bytes are lost, because there was no memory for them, the
+  -- connection has ended. The bytes that were sent, followed by the unsent ones, are the replies, in the same order, each once.
   pub record HasAnsweredLines (first : S) (connection : ControlConnection S)
       (lines replies : List (List ℕ)) : Type 0 where
     pub arrived : List ℕ
@@ -44,7 +44,7 @@ module _ {S H : Type 0} (contents remaining : S → Option (List ℕ))
     pub since : SinceAccepted contents remaining first arrived gone connection.link
     pub told : arrived ≡ concat lines ++ connection.arrived.items ++ lost
     pub answered : concat replies ≡ gone ++ unsent_of connection.unsent
-    pub each : AllZip (IsAnsweredBy answers_line) lines replies
+    pub each : AllZip (IsAnsweredBy answers_lines) lines replies
     pub whole : (lost ≡ []) ⊎ (connection.has_ended ≡ true)
 
   -- when a control connection is advanced, the answered lines and their replies stay the same
@@ -54,16 +54,16 @@ module _ {S H : Type 0} (contents remaining : S → Option (List ℕ))
       → HasAnsweredLines first old lines replies
       → Advances contents remaining old new → HasAnsweredLines first new lines replies
 
-  -- after a step of the handler and the connection that may answer a line: either one more line was answered, and its reply is unsent; or none was,
-  -- and the relation `rests` states how the handler changed
-  abbrev pub AnswersOneMoreLine
+  -- after a step of the handler and the connection that may answer lines: either one or several more lines were answered, and their replies are
+  -- unsent; or none was, and the relation `rests` states how the handler changed
+  abbrev pub AnswersMoreLines
       : (H → H → ControlConnection S → ControlConnection S → Type 0) → (H → H → ControlConnection S → Type 0)
       → Type 0
-  AnswersOneMoreLine step rests =
+  AnswersMoreLines step rests =
       (first : S) (s t : H) (old new : ControlConnection S) (lines replies : List (List ℕ))
       → HasAnsweredLines first old lines replies → SameLinkAndEnd old new → step s t old new
-      → ((line : List ℕ) × answers_line s line (unsent_of new.unsent) t
-      × HasAnsweredLines first new (lines ++ line ∷ []) (replies ++ unsent_of new.unsent ∷ []))
+      → ((more : List ℕ) × answers_lines s more (unsent_of new.unsent) t
+      × HasAnsweredLines first new (lines ++ more ∷ []) (replies ++ unsent_of new.unsent ∷ []))
       ⊎ (rests s t old × HasAnsweredLines first new lines replies)
 
 -- this text finishes the answer with this ticket, in some state of the handler

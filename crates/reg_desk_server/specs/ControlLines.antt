@@ -1,19 +1,11 @@
--- One control connection: the handler's reply to a line, the bytes that are left after it, and how received bytes are kept until then.
-use Rattle.std.specs.Prelude.{◌≡◌, ℕ, Bool, true, false, List, [], ◌∷◌, ◌++◌, ◌⊎◌, Option, take, drop}
+-- One control connection: the handler's replies to lines, the bytes that are left after them, and how received bytes are kept until then.
+use Rattle.std.specs.Prelude.{◌≡◌, ℕ, Bool, true, false, List, [], ◌++◌, ◌⊎◌, Option, take, drop}
 use Rattle.std.specs.Io.KnownBytes.{Appends, Consumes}
-use Rattle.reg_io.specs.Delimiter.{FirstDelimiter, HasNoDelimiter}
 use Rattle.reg_desk_server.specs.Buffers.{unsent_of}
+use Rattle.reg_desk_server.specs.LineEnds.{EndsLine, FirstLineEnds, HasNoLine}
 use Rattle.reg_desk_server.specs.declared.control_connection.ControlConnection.{ControlConnection}
 use Rattle.reg_desk_server.specs.declared.request_bytes.Received.{Received}
 use Rattle.reg_desk_server.specs.declared.request_bytes.Received.TheVariants as received
-
--- these bytes have no whole line
-abbrev pub HasNoLine : List ℕ → Type 0
-HasNoLine bytes = HasNoDelimiter (10 ∷ []) bytes
-
--- the first line of these bytes, with its LF, is the first `end` of them
-abbrev pub FirstLineEnds : List ℕ → ℕ → Type 0
-FirstLineEnds bytes end = FirstDelimiter (10 ∷ []) bytes end
 
 module _ {S : Type 0} where
   -- as just after the connection was accepted: no received bytes are kept, nothing is to be sent, and the connection has not ended
@@ -34,27 +26,33 @@ module _ {S : Type 0} where
   SameLines old new = (new.arrived.items ≡ old.arrived.items) × (unsent_of new.unsent ≡ unsent_of old.unsent)
 
 module _ {H S : Type 0} where
-  -- Either nothing of an older reply was unsent, and the first line was answered with the bytes that are now unsent and removed from the kept bytes;
-  -- or there was no whole line, or an unsent rest of a reply, and nothing changed.
-  abbrev pub AnswersFirstLine
-      : (H → List ℕ → List ℕ → H → Type 0) → H → H → ControlConnection S → ControlConnection S → Type 0
-  AnswersFirstLine answers_line s t old new =
-      ((end : ℕ) × FirstLineEnds old.arrived.items end × (unsent_of old.unsent ≡ [])
-      × answers_line s (take end old.arrived.items) (unsent_of new.unsent) t
+  -- Either nothing of an older reply was unsent, and the bytes up to an end with this property were answered with the bytes that are now unsent, and
+  -- removed from the kept bytes; or there was no whole line, or an unsent rest of a reply, and nothing changed.
+  abbrev pub AnswersUpTo
+      : (List ℕ → ℕ → Type 0) → (H → List ℕ → List ℕ → H → Type 0) → H → H → ControlConnection S
+      → ControlConnection S → Type 0
+  AnswersUpTo Ends answers_lines s t old new =
+      ((end : ℕ) × Ends old.arrived.items end × (unsent_of old.unsent ≡ [])
+      × answers_lines s (take end old.arrived.items) (unsent_of new.unsent) t
       × (new.arrived.items ≡ drop end old.arrived.items))
       ⊎ ((unsent_of old.unsent ≡ [] → HasNoLine old.arrived.items) × (t ≡ s) × SameLines old new)
+
+  -- one or several lines, from the first on, were answered; or nothing changed
+  abbrev pub AnswersFirstLines
+      : (H → List ℕ → List ℕ → H → Type 0) → H → H → ControlConnection S → ControlConnection S → Type 0
+  AnswersFirstLines = AnswersUpTo EndsLine
 
   -- the handler deferred the first line, for which it may have made a message; or the handler did not change
   abbrev pub DefersFirstLine : (H → List ℕ → H → Type 0) → H → H → ControlConnection S → Type 0
   DefersFirstLine defers s t old =
       ((end : ℕ) × FirstLineEnds old.arrived.items end × defers s (take end old.arrived.items) t) ⊎ (t ≡ s)
 
-  -- a deferred line was then answered like any other; or it was deferred again, and neither the kept bytes nor the unsent ones changed
+  -- a deferred line, the first, was then answered alone; or it was deferred again, and neither the kept bytes nor the unsent ones changed
   abbrev pub AnswersDeferred
       : (H → List ℕ → List ℕ → H → Type 0) → (H → List ℕ → H → Type 0) → H → H → ControlConnection S
       → ControlConnection S → Type 0
-  AnswersDeferred answers_line defers s t old new =
-      AnswersFirstLine answers_line s t old new ⊎ (DefersFirstLine defers s t old × SameLines old new)
+  AnswersDeferred answers_lines defers s t old new =
+      AnswersUpTo FirstLineEnds answers_lines s t old new ⊎ (DefersFirstLine defers s t old × SameLines old new)
 
 -- The bytes that came next on a connection are appended to the kept ones. If there was no memory, the last of them may be lost, and then the
 -- connection has ended.

@@ -2,12 +2,12 @@
 use Rattle.std.specs.Prelude.{◌≡◌, ℕ, zero, suc, ◌+◌, List, [], ◌∷◌}
 use Rattle.reg_io.specs.RunsOfAnswers.{Answered}
 
--- an input: the bytes of a request, or of a line of a control connection
+-- an input: the bytes of a request, or of one or several whole lines of a control connection
 pub data Input : Type 0 where
   request : List ℕ → Input
-  line : List ℕ → Input
+  lines : List ℕ → Input
 
--- the outcome of an input: the text that answers it; or the ticket of an answer that is left to be signed, and that a text finishes later; or nothing
+-- the outcome of an input: the text that answers it, for lines their replies; or the ticket of an answer that is left to be signed, and that a text finishes later; or nothing
 -- yet, for a line that is answered later, perhaps with a signature
 pub data Outcome (T : Type 0) : Type 0 where
   said : List ℕ → Outcome T
@@ -18,16 +18,16 @@ pub data Outcome (T : Type 0) : Type 0 where
 abbrev pub requests_in : List Input → ℕ
 requests_in [] = zero
 requests_in (request bytes ∷ inputs) = suc (requests_in inputs)
-requests_in (line bytes ∷ inputs) = requests_in inputs
+requests_in (lines bytes ∷ inputs) = requests_in inputs
 
 module _ {S T : Type 0} (answers : S → List ℕ → Outcome T → S → Type 0)
-    (answers_line : S → List ℕ → List ℕ → S → Type 0) (defers : S → List ℕ → S → Type 0) where
-  -- the handler before an input, the input, its outcome, and the handler after it: a line is answered at once or later, and has no ticket
+    (answers_lines : S → List ℕ → List ℕ → S → Type 0) (defers : S → List ℕ → S → Type 0) where
+  -- the handler before an input, the input, its outcome, and the handler after it: lines are answered at once or later, and have no ticket
   abbrev pub Handles : S → Input → Outcome T → S → Type 0
   Handles s (request bytes) outcome t = answers s bytes outcome t
-  Handles s (line bytes) (said text) t = answers_line s bytes text t
-  Handles s (line bytes) (pending ticket) t = ⊥
-  Handles s (line bytes) later t = defers s bytes t
+  Handles s (lines bytes) (said text) t = answers_lines s bytes text t
+  Handles s (lines bytes) (pending ticket) t = ⊥
+  Handles s (lines bytes) later t = defers s bytes t
 
   -- the handler s became t by some exchanges and nothing else, and `answered` grew by the number of their requests; an answer that is left to be
   -- signed is listed where its request was

@@ -5,7 +5,7 @@ use Rattle.reg_desk_server.specs.declared.handler.Handler.{Ghosts}
 
 -- the handler went from s to t by requests of HTTP clients and by lines of control connections, and the count grew by the number of requests
 abbrev pub Handled : {H T L : Type 0} → Ghosts H T L → H → H → ℕ → ℕ → Type 0
-Handled g = Exchanged g.answers g.answers_line g.defers
+Handled g = Exchanged g.answers g.answers_lines g.defers
 
 -- the same with lines only, so that the count stays the same
 abbrev pub AnsweredLines : {H T L : Type 0} → Ghosts H T L → H → H → Type 0

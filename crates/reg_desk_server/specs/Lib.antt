@@ -3,6 +3,7 @@ pub mod ControlLines
 pub mod Exchange
 pub mod Failures
 pub mod Handling
+pub mod LineEnds
 pub mod Buffers
 pub mod Outcomes
 pub mod Stages

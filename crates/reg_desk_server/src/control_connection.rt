@@ -2,9 +2,10 @@
 
 ghost use Rattle.std.specs.Prelude.{◌≡◌, ◌≤◌, ◌⊎◌, [], length, drop, Some, false, MatchOption, IfNone, OnOk, OnErr};
 ghost use Rattle.reg_desk_server.specs.Buffers.{AddsTo, Receives, unsent_of};
-ghost use Rattle.reg_desk_server.specs.ControlLines.{Advances, DefersFirstLine, FirstLineEnds, GathersOn, HasNoLine, IsFresh, SameLinkAndEnd, StaysEnded, AnswersFirstLine, AnswersDeferred, ends_by};
+ghost use Rattle.reg_desk_server.specs.LineEnds.{EndsLine, FirstLineEnds, HasNoLine};
+ghost use Rattle.reg_desk_server.specs.ControlLines.{Advances, DefersFirstLine, GathersOn, IsFresh, SameLinkAndEnd, StaysEnded, AnswersFirstLines, AnswersDeferred, ends_by};
 
-use crate::handler::{Deferred, EventLoopFault, Handler};
+use crate::handler::{Deferred, EventLoopFault, Handler, LineReplies};
 use crate::http_connection::Next;
 use crate::link::Link;
 use crate::request_bytes::Received;
@@ -19,6 +20,9 @@ use std::io::{ErrorKind, Read};
 const LONGEST_LINE: usize = 8_194;
 
 const MOST_READS: usize = 4;
+
+/// The most lines that are passed to the handler at once. Other connections wait while it answers them.
+const MOST_LINES: usize = 256;
 
 /// How often, at most, a line's signature is requested in the background. After that, answering the line blocks the loop while the signer signs.
 const MOST_DEFERRALS: u32 = 3;
@@ -37,11 +41,29 @@ pub struct ControlConnection<S: Link> {
     pub(crate) last_reason: Vec<u8>,
 }
 
+/// The index after the first line, with its LF; `None` if no line is whole.
 #[tactic(auto, using(crate::proofs::Holdings::found_or_none))]
-fn line_end(bytes: &[u8]) -> Option<usize>
+pub fn line_end(bytes: &[u8]) -> Option<usize>
     ensures { MatchOption result (HasNoLine bytes.now) (λ end. FirstLineEnds bytes.now end) }
 {
     first_delimiter(bytes, bytes.len(), b"\n", 0)
+}
+
+/// The index after the last whole line, or after the first `MOST_LINES` lines if there are more; `None` if no line is whole.
+fn lines_end(bytes: &[u8]) -> Option<usize>
+    ensures { MatchOption result (HasNoLine bytes.now) (λ end. EndsLine bytes.now end) }
+{
+    let mut end = match line_end(bytes) {
+        Some(end) => end,
+        None => return None,
+    };
+    for _ in 1..MOST_LINES {
+        match line_end(&bytes[end..]) {
+            Some(length) => end += length,
+            None => return Some(end),
+        }
+    }
+    Some(end)
 }
 
 impl<S: Link> ControlConnection<S> {
@@ -136,19 +158,32 @@ impl<S: Link> ControlConnection<S> {
         line_end(self.arrived.as_slice())
     }
 
-    /// Answers the first line, if one is whole and the reply before it was sent. The error is that of [`Handler::answer_line`].
-    pub fn answer_line<H: Handler>(&mut self, handler: &mut H) -> Result<(), EventLoopFault>
+    fn due_lines(&self) -> Option<usize>
+        ensures { MatchOption result (unsent_of self.now.unsent ≡ [] → HasNoLine self.now.arrived.items)
+            (λ end. (unsent_of self.now.unsent ≡ []) × EndsLine self.now.arrived.items end) }
+    {
+        if self.unsent.len() > 0 {
+            return None;
+        }
+        lines_end(self.arrived.as_slice())
+    }
+
+    /// Passes the whole lines, at most `MOST_LINES`, to the handler, which answers one or several of them, if the replies before them were sent. The
+    /// error is that of [`Handler::answer_lines`].
+    pub fn answer_lines<H: Handler>(&mut self, handler: &mut H) -> Result<(), EventLoopFault>
         requires { H.has_control handler.old }
-        ensures ok { OnOk result (AnswersFirstLine H.answers_line handler.old handler.new self.old self.new) }
+        ensures ok { OnOk result
+            (AnswersFirstLines H.answers_lines handler.old handler.new self.old self.new) }
         ensures kept { SameLinkAndEnd self.old self.new }
         ensures err { OnErr result ((self.new ≡ self.old) × (handler.new ≡ handler.old)) }
         ensures fails { OnErr result H.failed }
     {
-        match self.due_line() {
+        match self.due_lines() {
             None => Ok(()),
             Some(end) => {
-                let text = handler.answer_line(&self.arrived[..end], &mut self.last_reason)?;
-                self.reply(text, end);
+                let replies = handler.answer_lines(&self.arrived[..end], &mut self.last_reason)?;
+                let LineReplies { length, text } = replies;
+                self.reply(text, length);
                 Ok(())
             }
         }
@@ -195,7 +230,7 @@ impl<S: Link> ControlConnection<S> {
     ) -> Result<(), EventLoopFault>
         requires { H.has_control handler.old }
         ensures ok { OnOk result
-            (AnswersDeferred H.answers_line H.defers handler.old handler.new self.old self.new) }
+            (AnswersDeferred H.answers_lines H.defers handler.old handler.new self.old self.new) }
         ensures kept { SameLinkAndEnd self.old self.new }
         ensures err { OnErr result ((self.new ≡ self.old) × (handler.new ≡ handler.old)) }
         ensures fails { OnErr result H.failed }

@@ -172,7 +172,7 @@ impl<H: Handler> ControlConnections<H> {
         self.slots.release(slot);
     }
 
-    /// Answers one line of each connection. But while a line waits for a signature, only advances that line: no other line is answered before it.
+    /// Answers lines of each connection. But while a line waits for a signature, only advances that line: no other line is answered before it.
     #[tactic(auto, using(crate::proofs::Exchanges::exchanged_none))]
     pub(crate) fn answer_all_lines(
         &mut self,
@@ -191,7 +191,7 @@ impl<H: Handler> ControlConnections<H> {
         }
         self.has_lines = false;
         for slot in 0..MOST_CONTROL_CONNECTIONS {
-            self.answer_line_at(slot, shared, handler, now)?;
+            self.answer_lines_at(slot, shared, handler, now)?;
         }
         Ok(())
     }
@@ -223,9 +223,9 @@ impl<H: Handler> ControlConnections<H> {
         Ok(())
     }
 
-    /// Answers one line of the connection in a slot, unless this line or an earlier one waits for a signature.
+    /// Answers lines of the connection in a slot, unless the first of them or an earlier line waits for a signature.
     #[tactic(auto, using(crate::proofs::Exchanges::exchanged_none))]
-    fn answer_line_at(
+    fn answer_lines_at(
         &mut self,
         slot: usize,
         shared: &mut Shared,
@@ -254,7 +254,7 @@ impl<H: Handler> ControlConnections<H> {
                     self.close(slot, connection);
                     return Ok(());
                 }
-                let line_answered = connection.answer_line(handler);
+                let line_answered = connection.answer_lines(handler);
                 self.drive(slot, connection, shared);
                 line_answered
             }

@@ -41,12 +41,20 @@ pub struct Deferred<T> {
     pub ticket: T,
 }
 
+/// The lines that were answered at once: how many bytes they have, with their LFs, and their replies, one after the other.
+#[derive(Drop)]
+pub struct LineReplies {
+    pub length: usize,
+    pub text: Vec<u8>,
+}
+
 /// Answers requests and lines, one after the other. While a signature is awaited, other requests are answered. While a line awaits one, no other line
 /// is answered. Only `Desk` in `reg_desk_jobs` implements this trait, which exists so that the contracts of the event loop hold for any `answers`,
-/// `answers_line`, `defers` and `finishes`.
+/// `answers_lines`, `defers` and `finishes`.
 pub trait Handler {
-    ghost use Rattle.std.specs.Prelude.{◌≡◌, ◌+◌, ℕ, List, IsTrue, IfErr, IfOk, OnErr, OnOk, MatchOption};
+    ghost use Rattle.std.specs.Prelude.{◌≡◌, ◌+◌, ℕ, List, take, IsTrue, IfErr, IfOk, OnErr, OnOk, MatchOption};
     ghost use Rattle.reg_http_head.specs.Bytes.{collected_bytes};
+    ghost use Rattle.reg_desk_server.specs.LineEnds.{EndsLine, IsLine, IsWholeLines};
     ghost use Rattle.reg_desk_server.specs.Exchange.{Outcome};
     ghost use Rattle.reg_desk_server.specs.Outcomes.{outcome_of};
     ghost use Rattle.reg_desk_server.specs.Failures.{AcceptFails};
@@ -60,8 +68,8 @@ pub trait Handler {
     // The outcome of this request, with the handler before and after it.
     ghost answers: { Self → List ℕ → Outcome Self.Ticket → Self → Type 0 };
 
-    // The reply to a line (the first list) is a text (the second), with the handler before and after it.
-    ghost answers_line: { Self → List ℕ → List ℕ → Self → Type 0 };
+    // The replies to one or several whole lines (the first list) are a text (the second), with the handler before and after them.
+    ghost answers_lines: { Self → List ℕ → List ℕ → Self → Type 0 };
 
     // The handler does not answer this line; at most it makes the message to be signed for the line. The handler before and after it.
     ghost defers: { Self → List ℕ → Self → Type 0 };
@@ -126,15 +134,17 @@ pub trait Handler {
     fn finish(&self, ticket: Self::Ticket, link: Option<SignatureRequest>) -> Vec<u8>
         ensures { finishes self.now ticket result.items };
 
-    /// Answers one line of a control connection. The handler keeps in `last_reason`, which is empty at first, the text that the line `why` reports.
-    /// [`EventLoopFault`] if the clock can't be read.
-    fn answer_line(
+    /// Answers the first of these lines of a control connection, or the first several. The handler keeps in `last_reason`, which is empty at first,
+    /// the text that the line `why` reports. [`EventLoopFault`] if the clock can't be read.
+    fn answer_lines(
         &mut self,
-        line: &[u8],
+        lines: &[u8],
         last_reason: &mut Vec<u8>,
-    ) -> Result<Vec<u8>, EventLoopFault>
-        requires { has_control self.old }
-        ensures ok { IfOk result (λ text. answers_line self.old line.now text.items self.new) }
+    ) -> Result<LineReplies, EventLoopFault>
+        requires control { has_control self.old }
+        requires lines { IsWholeLines lines.now }
+        ensures ok { IfOk result (λ replies. EndsLine lines.now replies.length
+            × answers_lines self.old (take replies.length lines.now) replies.text.items self.new) }
         ensures err { OnErr result ((self.new ≡ self.old) × (last_reason.new ≡ last_reason.old)) }
         ensures fails { OnErr result failed };
 
@@ -147,7 +157,7 @@ pub trait Handler {
     fn connect_to_signer(&self, ticket: &Self::ControlTicket) -> io::Result<SignatureRequest>;
 
     /// Answers a line whose message was made. `link` is the connection on which the message was sent, once it is at its end; `None` if there is no
-    /// signature. Returns `None` if another message is to be signed by now: then `defer` is to be called again. The error is as for `answer_line`.
+    /// signature. Returns `None` if another message is to be signed by now: then `defer` is to be called again. The error is as for `answer_lines`.
     fn answer_deferred(
         &mut self,
         line: &[u8],
@@ -155,9 +165,10 @@ pub trait Handler {
         deferred: Deferred<Self::ControlTicket>,
         link: Option<SignatureRequest>,
     ) -> Result<Option<Vec<u8>>, EventLoopFault>
-        requires { has_control self.old }
+        requires control { has_control self.old }
+        requires line { IsLine line.now }
         ensures ok { IfOk result (λ answered. MatchOption answered (defers self.old line.now self.new)
-            (λ text. answers_line self.old line.now text.items self.new)) }
+            (λ text. answers_lines self.old line.now text.items self.new)) }
         ensures err { OnErr result ((self.new ≡ self.old) × (last_reason.new ≡ last_reason.old)) }
         ensures fails { OnErr result failed };
 

@@ -1,8 +1,8 @@
 //! Laws of whole connections. The functions do nothing: their contracts are the laws.
 
 ghost use Rattle.std.specs.Prelude.{◌≡◌, []};
-ghost use Rattle.reg_desk_server.specs.Connections.{IsServedOnce, HasAnsweredLines, KeepsServed, ServesOn, AnswersNoMoreLines, AnswersOneMoreLine};
-ghost use Rattle.reg_desk_server.specs.ControlLines.{DefersFirstLine, IsFresh, AnswersFirstLine, AnswersDeferred};
+ghost use Rattle.reg_desk_server.specs.Connections.{IsServedOnce, HasAnsweredLines, KeepsServed, ServesOn, AnswersNoMoreLines, AnswersMoreLines};
+ghost use Rattle.reg_desk_server.specs.ControlLines.{DefersFirstLine, IsFresh, AnswersFirstLines, AnswersDeferred};
 ghost use Rattle.reg_desk_server.specs.Stages.{Answering, Finishing, HasReceived, KeepsReceived, KeepsSigning};
 ghost use Rattle.reg_desk_server.specs.declared.control_connection.ControlConnection.{ControlConnection};
 ghost use Rattle.reg_desk_server.specs.declared.http_connection.HttpConnection.{HttpConnection};
@@ -14,16 +14,16 @@ use crate::link::Link;
 ///
 /// Over any steps since the connection was accepted, the bytes that came are the answered lines, the kept bytes, and last any bytes for which there
 /// was no memory; if there are such bytes, the connection has ended. The sent bytes and then the unsent ones are the replies to these lines
-/// (`HasAnsweredLines`). `ControlConnection::advance` answers no line, `answer_line` and `answer_deferred` at most one. The law is about a `Link`; no
-/// clause states which bytes a socket carries.
+/// (`HasAnsweredLines`). `ControlConnection::advance` answers no line, `answer_lines` one or several or none, and `answer_deferred` at most one. The
+/// law is about a `Link`; no clause states which bytes a socket carries.
 pub fn each_line_is_answered_once_in_order<S: Link, H: Handler>()
     ensures begins { (client : ControlConnection S) → IsFresh client
-        → HasAnsweredLines S.Write.contents S.Read.remaining H.answers_line client.link client [] [] }
-    ensures advances { AnswersNoMoreLines S.Write.contents S.Read.remaining H.answers_line }
-    ensures answers_line { AnswersOneMoreLine S.Write.contents S.Read.remaining H.answers_line
-        (AnswersFirstLine H.answers_line) (λ s t _. t ≡ s) }
-    ensures later { AnswersOneMoreLine S.Write.contents S.Read.remaining H.answers_line
-        (AnswersDeferred H.answers_line H.defers) (DefersFirstLine H.defers) }
+        → HasAnsweredLines S.Write.contents S.Read.remaining H.answers_lines client.link client [] [] }
+    ensures advances { AnswersNoMoreLines S.Write.contents S.Read.remaining H.answers_lines }
+    ensures answers_lines { AnswersMoreLines S.Write.contents S.Read.remaining H.answers_lines
+        (AnswersFirstLines H.answers_lines) (λ s t _. t ≡ s) }
+    ensures later { AnswersMoreLines S.Write.contents S.Read.remaining H.answers_lines
+        (AnswersDeferred H.answers_lines H.defers) (DefersFirstLine H.defers) }
 {}
 
 /// A request is answered at most once.

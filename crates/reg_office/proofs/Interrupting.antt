@@ -11,15 +11,16 @@ use Rattle.reg_core.specs.declared.refusal.Fault.TheVariants.{Refused, Memory, S
 use Rattle.reg_office_api.specs.CallSteps.{Signs}
 use Rattle.reg_office_api.specs.Signers.{OfficeSigners}
 use Rattle.reg_store_tables.proofs.PublicLaws.{was_clean}
-use Rattle.reg_office.specs.AfterStoppedCommand.{ChangingCall, command_call, identifier_call, schedule_call}
+use Rattle.reg_office.specs.AfterStoppedCommand.{ChangingCall, command_call, identifier_call, schedule_call, batch_call}
 use Rattle.reg_office.specs.Calls.{MayInterrupt, StandsWith}
-use Rattle.reg_office.specs.InterruptedCalls.{AreCalls, AreCallSteps, CallStep, FailsFrom, HasNotChanged, InterruptsOneOfThem, InterruptsOnlyItself, IsCall, OfficeCall, changing, command_ran, identifier_set, looked_up, schedule_set}
+use Rattle.reg_office.specs.InterruptedCalls.{AreCalls, AreCallSteps, CallStep, FailsFrom, HasNotChanged, InterruptsOneOfThem, InterruptsOnlyItself, IsCall, OfficeCall, changing, command_ran, identifier_set, looked_up, schedule_set, batch_ran}
 use Rattle.reg_office.proofs.Leading.{looked_stands}
 use Rattle.reg_office.proofs.Leaving.{not_closed}
 
 -- the interrupted call, before a call and after it
 abbrev Moves : Option ChangingCall → OfficeCall → Option ChangingCall → Type 0
 Moves first (command_ran now command outcome) last = MayInterrupt first (command_call now command) outcome last
+Moves first (batch_ran commands result) last = MayInterrupt first (batch_call commands) result last
 Moves first (schedule_set steps result) last = MayInterrupt first (schedule_call steps) result last
 Moves first (identifier_set octets result) last = MayInterrupt first (identifier_call octets) result last
 Moves first looked_up last = last ≡ first
@@ -28,6 +29,7 @@ Moves first looked_up last = last ≡ first
 moves_on : (first : ChangingCall) (call : OfficeCall) (last : Option ChangingCall) → Moves (Some first) call last
     → HasNotChanged call × (last ≡ Some first)
 moves_on first (command_ran now command outcome) last moves = moves
+moves_on first (batch_ran commands result) last moves = moves
 moves_on first (schedule_set steps result) last moves = moves
 moves_on first (identifier_set octets result) last moves = moves
 moves_on first looked_up last moves = (tt, moves)
@@ -61,6 +63,9 @@ moves_first : (call : OfficeCall) (last : Option ChangingCall) → Moves None ca
 moves_first (command_ran now command outcome) last moves =
     let it = command_call now command in
     interrupts it (command_ran now command outcome) last refl (by_result it outcome last moves)
+moves_first (batch_ran commands result) last moves =
+    let it = batch_call commands in
+    interrupts it (batch_ran commands result) last refl (by_result it result last moves)
 moves_first (schedule_set steps result) last moves =
     let it = schedule_call steps in
     interrupts it (schedule_set steps result) last refl (by_result it result last moves)
@@ -85,6 +90,7 @@ module _ {C : Type 0} (g : Ghosts C) (signs : Signs) where
   call_clean : (s : Held C × OfficeSigners) (call : OfficeCall) (t : Held C × OfficeSigners) → IsCall g signs s call t
       → HasCleanDisk (state g t.0) → HasCleanDisk (state g s.0)
   call_clean s (command_ran now command outcome) t called = called.0
+  call_clean s (batch_ran commands result) t called = called.0
   call_clean s (schedule_set steps result) t called = called.0
   call_clean s (identifier_set octets result) t called = called.0
   call_clean s looked_up t called = was_clean (state g s.0) (state g t.0) called.0.survives.clean
@@ -100,6 +106,7 @@ module _ {C : Type 0} (g : Ghosts C) (signs : Signs) where
       → (after : Records) × (last : Option ChangingCall) × CallStep signs call signers before after
       × StandsWith g signs t signers after last × Moves first call last
   one_call s (command_ran now command outcome) t signers before first stands called clean = called.1 signers before first stands clean
+  one_call s (batch_ran commands result) t signers before first stands called clean = called.1 signers before first stands clean
   one_call s (schedule_set steps result) t signers before first stands called clean = called.1 signers before first stands clean
   one_call s (identifier_set octets result) t signers before first stands called clean = called.1 signers before first stands clean
   one_call s looked_up t signers before first stands (looked, same) clean =

@@ -23,7 +23,7 @@ use Rattle.reg_ocsp.specs.Drafts.{Drafted}
 use Rattle.reg_io.specs.declared.begun.ReadyOrUnsigned.{ReadyOrUnsigned}
 use Rattle.reg_io.specs.declared.begun.ReadyOrUnsigned.TheVariants.{Ready, Unsigned}
 use Rattle.reg_store_tables.specs.Stays.{Changed, Looked}
-use Rattle.reg_store_tables.proofs.PublicLaws.{was_clean, ok_then}
+use Rattle.reg_store_tables.proofs.PublicLaws.{kept_until, was_clean, ok_then}
 use Rattle.reg_office.proofs.Beginning.{draft_replied}
 use Rattle.reg_office.specs.AfterStoppedCommand.{ChangingCall, Does, command_call}
 use Rattle.reg_office.specs.Calls.{LeadsOver, OfficeLeads, OfficeLooks, OfficeStops, RanIn, StandsWith, StopsOver, seen}
@@ -125,7 +125,7 @@ module _ {C S : Type 0} (g : Ghosts C) (signer : Signer S) (old new : Office C S
   office_looks Tells Holds looks same holds = record {
     looked = looks.looked;
     same = same;
-    found = λ records stands is_clean. holds records stands.sound.rows (looks.found records stands.shown stands.sound.rows is_clean);
+    found = λ records stands is_clean. holds records stands.sound.rows (looks.found records (kept_until _ stands.shown) stands.sound.rows is_clean);
   }
 
   -- an OCSP request that is answered

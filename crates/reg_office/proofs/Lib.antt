@@ -1,4 +1,6 @@
 pub mod Agreeing
+pub mod Batching
+pub mod BatchStops
 pub mod QueryLemmas
 pub mod Beginning
 pub mod Composing

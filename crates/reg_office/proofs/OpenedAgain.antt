@@ -17,7 +17,7 @@ use Rattle.sqlite_schema.specs.declared.schema.Schema.{Schema}
 use Rattle.reg_store.proofs.PublicLaws.{shows_again}
 use Rattle.reg_store_tables.specs.Schema.{register_schema}
 use Rattle.reg_store_tables.specs.AfterStop.{HaveRegisterSchema, ShowsDerivedAfterStop}
-use Rattle.reg_office.specs.AfterStoppedCommand.{ChangingCall, IsCallDone, IsDone, IsNext, ShowsPrefix, LeavesReported, command_call, schedule_call, identifier_call}
+use Rattle.reg_office.specs.AfterStoppedCommand.{ChangingCall, IsCallDone, IsDone, IsNext, ShowsPrefix, LeavesReported, batch_call, command_call, schedule_call, identifier_call}
 use Rattle.reg_office.specs.OpenedAgain.{OpensReported, ShowsAccepted, ShowsCallDone, StandsPartlyRun}
 use Rattle.reg_office.specs.Stands.{SoundFor, Stands}
 
@@ -57,18 +57,20 @@ module _ {C : Type 0} (g : Ghosts C) (signs : Identity → List ℕ → List ℕ
     ];
   }
 
-  shows_call : (records : Records) (call : ChangingCall) → IsCallDone signs identity records call (state g again).committed.trees → ShowsCallDone g signs again identity records call
-  shows_call records (command_call now command) it = stands_done records now command it
-  shows_call records (schedule_call steps) rests = shows_again g again opens live (with_schedule records steps) rests
-  shows_call records (identifier_call octets) rests = shows_again g again opens live (with_key_identifier records octets) rests
+  shows_call : (records : Records) (call : ChangingCall) → HaveRegisterSchema (state g again).committed.trees → IsCallDone signs identity records call (state g again).committed.trees → ShowsCallDone g signs again identity records call
+  shows_call records (command_call now command) schema it = stands_done records now command it
+  shows_call records (batch_call commands) schema it =
+      (it.outcomes, record { after = it.after; run = it.run; stands = record { shown = shows_again g again opens live it.after (it.rests schema); sound = it.sound } })
+  shows_call records (schedule_call steps) schema rests = shows_again g again opens live (with_schedule records steps) rests
+  shows_call records (identifier_call octets) schema rests = shows_again g again opens live (with_key_identifier records octets) rests
 
-  pub stands_told : (records : Records) (interrupted : Option ChangingCall) → SoundFor signs identity records
+  pub stands_told : (records : Records) (interrupted : Option ChangingCall) → SoundFor signs identity records → HaveRegisterSchema (state g again).committed.trees
       → ShowsDerivedAfterStop records (state g again).committed.trees
       ⊎ IsSomeAnd interrupted (λ call. IsCallDone signs identity records call (state g again).committed.trees)
       → Stands g signs again identity records ⊎ IsSomeAnd interrupted (λ call. ShowsCallDone g signs again identity records call)
-  stands_told records interrupted sound (inl rests) = inl (record { shown = shows_again g again opens live records rests; sound = sound })
-  stands_told records (Some call) sound (inr done) = inr (shows_call records call done)
-  stands_told records None sound (inr done) = absurd done
+  stands_told records interrupted sound schema (inl rests) = inl (record { shown = shows_again g again opens live records rests; sound = sound })
+  stands_told records (Some call) sound schema (inr done) = inr (shows_call records call schema done)
+  stands_told records None sound schema (inr done) = absurd done
 
   -- a register's tables obey its schema
   pub registers_again : (state g again).committed.schema ≡ register_schema → HaveRegisterSchema (state g again).committed.trees
@@ -80,6 +82,7 @@ pub opens_told : {C : Type 0} (g : Ghosts C) (signs : Identity → List ℕ → 
     → SoundFor signs identity records → LeavesReported g signs held identity records interrupted → OpensReported g signs held identity records interrupted
 opens_told g signs held identity records interrupted sound left again opened same = ∥∥₁_map opened.found (λ may.
     let told : Stands g signs again identity records ⊎ IsSomeAnd interrupted (λ call. ShowsCallDone g signs again identity records call) =
-    stands_told g signs again identity opened.opens opened.live records interrupted sound
-    (left.leaves opened.honest (state g again).committed.trees may (registers_again g signs again identity opened.opens opened.live same)) in
+    let schema = registers_again g signs again identity opened.opens opened.live same in
+    stands_told g signs again identity opened.opens opened.live records interrupted sound schema
+    (left.leaves opened.honest (state g again).committed.trees may schema) in
     told)

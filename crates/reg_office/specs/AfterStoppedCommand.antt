@@ -34,6 +34,16 @@ Does g signs old identity now command trees =
     (records : Records) → Stands g signs old identity records
     → IsDone signs identity records now command trees
 
+-- the commands, each at its moment, had some outcomes over `records`, and the rows, if they are those of a register's tables, show the records after
+-- them, which are sound for the office's signer
+pub record IsBatchDone (signs : Signs) (identity : Identity) (records : Records) (commands : List (ℕ × Command))
+    (trees : Trees) : Type 0 where
+  pub outcomes : List (Result Reply Fault)
+  pub after : Records
+  pub run : Run (signed_by signs identity) records commands outcomes after
+  pub sound : SoundFor signs identity after
+  pub rests : HaveRegisterSchema trees → ShowsDerivedAfterStop after trees
+
 -- the rows after the issuer was given a key identifier of its own, which CRLs have from the next one on
 abbrev pub IsIdentified : {C : Type 0} → Ghosts C → Held C → List ℕ → Trees → Type 0
 IsIdentified g old octets trees =
@@ -103,16 +113,19 @@ LeavesThese g held records =
     HasCleanDisk (state g held) → (trees : Trees) → (state g held).may_leave trees
     → ShowsDerivedAfterStop records trees
 
--- a call that may change the records: a command at a moment, or the setting of a schedule or of a key identifier
+-- a call that may change the records: a command at a moment, commands in one transaction, or the setting of a schedule or of a key identifier
 pub data ChangingCall : Type 0 where
   command_call : ℕ → Command → ChangingCall
+  batch_call : List (ℕ × Command) → ChangingCall
   schedule_call : List (ℕ × ℕ) → ChangingCall
   identifier_call : List ℕ → ChangingCall
 
--- the rows show the records after the call: after an accepted command, or with this schedule or this key identifier
+-- the rows show the records after the call: after an accepted command, after a batch, or with this schedule or this key identifier
 abbrev pub IsCallDone : Signs → Identity → Records → ChangingCall → Trees → Type 0
 IsCallDone signs identity records (command_call now command) trees =
     IsDone signs identity records now command trees
+IsCallDone signs identity records (batch_call commands) trees =
+    IsBatchDone signs identity records commands trees
 IsCallDone signs identity records (schedule_call steps) trees =
     ShowsDerivedAfterStop (with_schedule records steps) trees
 IsCallDone signs identity records (identifier_call octets) trees =

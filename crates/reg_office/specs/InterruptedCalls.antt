@@ -1,5 +1,6 @@
 -- The calls that an office gets one after another, and the call that was interrupted (`LeavesReported`), if any.
-use Rattle.std.specs.Prelude.{◌≡◌, ◌⊎◌, ℕ, List, [], ◌∷◌, Option, None, Some, IfSome, IsTrue, Result, IsErr}
+use Rattle.std.specs.Prelude.{◌≡◌, ◌⊎◌, ℕ, List, [], ◌∷◌, Option, None, Some, IfSome, IsTrue, Result, IsErr, Vec}
+use Rattle.std.specs.Global.{Global}
 use Rattle.std.specs.List.{AllByRecursion}
 use Rattle.sqlite.specs.Held.{Held, state}
 use Rattle.sqlite.specs.State.{HasCleanDisk}
@@ -8,16 +9,17 @@ use Rattle.reg_core.specs.Records.{Records}
 use Rattle.reg_core.specs.declared.command.Command.{Command}
 use Rattle.reg_core.specs.declared.command.Reply.{Reply}
 use Rattle.reg_core.specs.declared.refusal.Fault.{Fault}
-use Rattle.reg_office_api.specs.CallSteps.{CommandStep, Signs}
+use Rattle.reg_office_api.specs.CallSteps.{BatchStep, CommandStep, Signs}
 use Rattle.reg_office_api.specs.Settings.{ReplacesSchedule, SetsKeyIdentifier}
 use Rattle.reg_office_api.specs.Signers.{OfficeSigners}
 use Rattle.reg_store_tables.specs.Stays.{Looked}
-use Rattle.reg_office.specs.AfterStoppedCommand.{ChangingCall, command_call, identifier_call, schedule_call}
+use Rattle.reg_office.specs.AfterStoppedCommand.{ChangingCall, batch_call, command_call, identifier_call, schedule_call}
 use Rattle.reg_office.specs.Calls.{StandsWith, StopsOver}
 
--- a call of an office and its result: a command, a schedule or a key identifier that is set, or a look-up
+-- a call of an office and its result: a command, commands in one transaction, a schedule or a key identifier that is set, or a look-up
 pub data OfficeCall : Type 0 where
   command_ran : ℕ → Command → Result Reply Fault → OfficeCall
+  batch_ran : List (ℕ × Command) → Result (Vec (Result Reply Fault) Global) Fault → OfficeCall
   schedule_set : List (ℕ × ℕ) → Result (Unit {0}) Fault → OfficeCall
   identifier_set : List ℕ → Result (Unit {0}) Fault → OfficeCall
   looked_up : OfficeCall
@@ -25,6 +27,7 @@ pub data OfficeCall : Type 0 where
 -- the call as a step of the records
 abbrev pub CallStep : Signs → OfficeCall → OfficeSigners → Records → Records → Type 0
 CallStep signs (command_ran now command outcome) = CommandStep signs now command outcome
+CallStep signs (batch_ran commands result) = BatchStep signs commands result
 CallStep signs (schedule_set steps result) = λ signers. ReplacesSchedule steps result
 CallStep signs (identifier_set octets result) = λ signers. SetsKeyIdentifier octets result
 CallStep signs looked_up = λ signers before after. after ≡ before
@@ -33,6 +36,8 @@ CallStep signs looked_up = λ signers before after. after ≡ before
 abbrev pub IsCall : {C : Type 0} → Ghosts C → Signs → Held C × OfficeSigners → OfficeCall → Held C × OfficeSigners → Type 0
 IsCall g signs old (command_ran now command outcome) new =
     StopsOver g signs (command_call now command) outcome (CommandStep signs now command outcome) old new
+IsCall g signs old (batch_ran commands result) new =
+    StopsOver g signs (batch_call commands) result (BatchStep signs commands result) old new
 IsCall g signs old (schedule_set steps result) new =
     StopsOver g signs (schedule_call steps) result (λ signers. ReplacesSchedule steps result) old new
 IsCall g signs old (identifier_set octets result) new =
@@ -55,6 +60,7 @@ AreCallSteps signs signers before (call ∷ calls) after =
 -- the call, if it may change the records
 abbrev pub changing : OfficeCall → Option ChangingCall
 changing (command_ran now command outcome) = Some (command_call now command)
+changing (batch_ran commands result) = Some (batch_call commands)
 changing (schedule_set steps result) = Some (schedule_call steps)
 changing (identifier_set octets result) = Some (identifier_call octets)
 changing looked_up = None
@@ -62,6 +68,7 @@ changing looked_up = None
 -- the call failed, or is a look-up
 abbrev pub HasNotChanged : OfficeCall → Type 0
 HasNotChanged (command_ran now command outcome) = IsErr outcome
+HasNotChanged (batch_ran commands result) = IsErr result
 HasNotChanged (schedule_set steps result) = IsErr result
 HasNotChanged (identifier_set octets result) = IsErr result
 HasNotChanged looked_up = Unit {0}

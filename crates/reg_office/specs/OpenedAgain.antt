@@ -14,8 +14,8 @@ use Rattle.reg_der.specs.Issuers.{with_key_identifier}
 use Rattle.reg_store.specs.OpenedAgain.{IsOpenedAgain}
 use Rattle.reg_store_tables.specs.Kept.{ShowsKept}
 use Rattle.reg_store_tables.specs.Schema.{register_schema}
-use Rattle.reg_office.specs.AfterStoppedCommand.{AreRunByOne, ChangingCall, Does, PartlyRun, command_call, schedule_call, identifier_call}
-use Rattle.reg_office.specs.Stands.{Stands, HasOutcome}
+use Rattle.reg_office.specs.AfterStoppedCommand.{AreRunByOne, ChangingCall, Does, PartlyRun, batch_call, command_call, schedule_call, identifier_call}
+use Rattle.reg_office.specs.Stands.{Stands, HasOutcome, HasRun}
 
 -- the command was accepted over the records, and the store shows the records after it
 pub record ShowsAccepted {C : Type 0} (g : Ghosts C) (signs : Signs) (held : Held C) (identity : Identity)
@@ -53,10 +53,12 @@ OpensAfterAPrefix {C = C} g signs =
 
 -- ---- over any calls
 
--- the store shows the records after the call: after an accepted command, or with this schedule or this key identifier
+-- the store shows the records after the call: after an accepted command, after a batch, or with this schedule or this key identifier
 abbrev pub ShowsCallDone : {C : Type 0} → Ghosts C → Signs → Held C → Identity → Records → ChangingCall → Type 0
 ShowsCallDone g signs held identity records (command_call now command) =
     ShowsAccepted g signs held identity records now command
+ShowsCallDone g signs held identity records (batch_call commands) =
+    (outcomes : List (Result Reply Fault)) × HasRun g signs held identity records commands outcomes
 ShowsCallDone g signs held identity records (schedule_call steps) =
     ShowsKept g held (with_schedule records steps)
 ShowsCallDone g signs held identity records (identifier_call octets) =

@@ -1,6 +1,7 @@
 //! The office: commands, queries, lists, CRLs and OCSP responses over a register's store, with its signers.
 #![tactic(auto)]
 
+mod batches;
 mod certificates;
 mod commands;
 mod crls;

@@ -17,7 +17,7 @@ use reg_crl::Signer;
 use reg_io::ReadyOrUnsigned;
 use reg_ocsp::Draft;
 use reg_office_api::{OcspResponse, RegisterSummary, RequestLoad};
-use reg_store::Store;
+use reg_store::{DatabaseFault, Store};
 use sqlite::Alter;
 use std::alloc::Global;
 
@@ -85,7 +85,7 @@ impl<C: Alter, S: Signer> reg_office_api::Office for Office<C, S> {
     ghost use Rattle.reg_ocsp.specs.Response.{refusal_response};
     ghost use Rattle.reg_ocsp.specs.declared.response.RefusalStatus.TheVariants.{Malformed, Internal};
     ghost use Rattle.reg_office_api.specs.Answered.{IsAnswered, IsGiven};
-    ghost use Rattle.reg_office_api.specs.CallSteps.{CommandStep, QueryStep, OcspStep, CrlStep};
+    ghost use Rattle.reg_office_api.specs.CallSteps.{BatchStep, CommandStep, QueryStep, OcspStep, CrlStep};
     ghost use Rattle.reg_office_api.specs.Drafts.{BeginStep, IsSignerFailure};
     ghost use Rattle.reg_office_api.specs.Items.{items_of};
     ghost use Rattle.reg_office_api.specs.LookUps.{HasLastMoment, HasLongest, HasOpen, HasRequestLoad, HasSummary, IsOfStore, PageStep};
@@ -94,7 +94,7 @@ impl<C: Alter, S: Signer> reg_office_api::Office for Office<C, S> {
     ghost use Rattle.reg_store_changes.specs.AfterStoppedChange.{IsScheduled};
     ghost use Rattle.reg_der.specs.Issuers.{with_key_identifier};
     ghost use Rattle.reg_store_tables.specs.Stays.{Changed, Stays};
-    ghost use Rattle.reg_office.specs.AfterStoppedCommand.{IsIdentified, command_call, identifier_call, schedule_call};
+    ghost use Rattle.reg_office.specs.AfterStoppedCommand.{IsIdentified, batch_call, command_call, identifier_call, schedule_call};
     ghost use Rattle.reg_office.specs.Answering.{SignerHasFailed};
     ghost use Rattle.reg_office.specs.Beginning.{IsBegun, RefusesRequest};
     ghost use Rattle.reg_office.specs.Calls.{OfficeLeads, OfficeLooks, OfficeStops, OfficeTells, RanIn, SignsNothing, StandsFor, StandsIn, answer_failures_in, seen};
@@ -136,6 +136,33 @@ impl<C: Alter, S: Signer> reg_office_api::Office for Office<C, S> {
                 }
                 Err(fault) => Err(fault),
             },
+        }
+    }
+
+    /// If a disk failure during the commit closes the connection, the register has all of the batch or none of it when it is opened again
+    /// (`stops`). Until then no later call changes the records.
+    fn run_batch(
+        &mut self,
+        alloc: Global,
+        commands: &[(Moment, Command)],
+    ) -> Result<Vec<Outcome>, Fault>
+        ensures runs { OfficeLeads C.Store S.Signer (BatchStep S.signs commands.now result) self.old self.new }
+        ensures stops { OfficeStops C.Store S.Signer (batch_call commands.now) result
+            (BatchStep S.signs commands.now result) self.old self.new }
+    {
+        match self.store.begin() {
+            Ok(()) => {}
+            Err(fault) => return Err(Fault::from(fault)),
+        }
+        match self.run_each(alloc, commands) {
+            Ok(outcomes) => match self.store.end(Ok(())) {
+                Ok(()) => Ok(outcomes),
+                Err(fault) => Err(Fault::from(fault)),
+            },
+            Err(fault) => {
+                let _ = self.store.end(Err(DatabaseFault::Store));
+                Err(fault)
+            }
         }
     }
 

@@ -1,5 +1,5 @@
--- The outcomes of commands, queries, OCSP requests and requests for CRLs, and the records after them.
-use Rattle.std.specs.Prelude.{◌≡◌, ℕ, List, Option, Result, Ok, Err}
+-- The outcomes of commands, batches of commands, queries, OCSP requests and requests for CRLs, and the records after them.
+use Rattle.std.specs.Prelude.{◌≡◌, ℕ, List, Option, Result, Ok, Err, Vec}
 use Rattle.reg_core.specs.Records.{Records}
 use Rattle.reg_core.specs.declared.command.Command.{Command}
 use Rattle.reg_core.specs.declared.command.Query.{Query}
@@ -7,7 +7,7 @@ use Rattle.reg_core.specs.declared.command.Reply.{Reply}
 use Rattle.reg_core.specs.declared.memory.Memory.{Memory as NoMemory}
 use Rattle.reg_core.specs.declared.refusal.Fault.{Fault}
 use Rattle.reg_crl.specs.Signing.{signed_by}
-use Rattle.reg_core_laws.specs.Run.{Happens}
+use Rattle.reg_core_laws.specs.Run.{Happens, Run}
 use Rattle.reg_office_api.specs.Answered.{IsAnswered, IsGiven}
 use Rattle.reg_office_api.specs.Ocsp.{IsOcspReply}
 use Rattle.reg_office_api.specs.Signers.{OfficeSigners}
@@ -16,6 +16,14 @@ pub use Rattle.reg_office_api.specs.Signers.{Signs}
 -- a command: its outcome by the rules (`Happens`), with CRLs by the office's signer of CRLs
 abbrev pub Runs : Signs → OfficeSigners → Records → ℕ → Command → Result Reply Fault → Records → Type 0
 Runs signs signers = Happens (signed_by signs signers.crls)
+
+-- commands in one transaction, each at its moment: one outcome each, by the rules and in their order (`Run`); or a fault, and the records stay
+abbrev pub RunsBatch
+    : {Z : Type 0} → Signs → OfficeSigners → Records → List (ℕ × Command)
+    → Result (Vec (Result Reply Fault) Z) Fault → Records → Type 0
+RunsBatch signs signers before commands (Ok outcomes) after =
+    Run (signed_by signs signers.crls) before commands outcomes.items after
+RunsBatch signs signers before commands (Err fault) after = after ≡ before
 
 -- a query: its answer; the records stay
 abbrev pub Asks : Records → ℕ → Query → Result Reply Fault → Records → Type 0
@@ -36,6 +44,12 @@ GivesCrl before number given after = IsGiven before number given × (after ≡ b
 abbrev pub CommandStep : Signs → ℕ → Command → Result Reply Fault → OfficeSigners → Records → Records → Type 0
 CommandStep signs now command outcome =
     λ signers before after. Runs signs signers before now command outcome after
+
+abbrev pub BatchStep
+    : {Z : Type 0} → Signs → List (ℕ × Command) → Result (Vec (Result Reply Fault) Z) Fault → OfficeSigners
+    → Records → Records → Type 0
+BatchStep signs commands given =
+    λ signers before after. RunsBatch signs signers before commands given after
 
 abbrev pub QueryStep : ℕ → Query → Result Reply Fault → OfficeSigners → Records → Records → Type 0
 QueryStep now query outcome = λ signers before after. Asks before now query outcome after

@@ -14,10 +14,10 @@ pub enum SignatureOutcome {
     Failed,
 }
 
-/// The effect of an exchange or a line on the store: an accepted command was written, the store failed, or neither.
+/// The effect of an exchange or a line on the store: an accepted command or a schedule was written, the store failed, or neither.
 #[derive(Clone, Copy, PartialEq, Eq)]
 pub enum StoreEffect {
-    /// The exchange or line ran no accepted command, and the store did not fail.
+    /// The exchange or line wrote no accepted command and no schedule, and the store did not fail.
     Unwritten,
     Written,
     Failed,

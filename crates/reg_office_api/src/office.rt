@@ -12,7 +12,7 @@ use std::alloc::Global;
 /// call to those after it, provided that the disk has returned what was written to it ([`Leads`](crate::specs::Leads)).
 pub trait Office {
     ghost use Rattle.std.specs.Prelude.{◌≡◌, ◌≤◌, ◌<◌, ◌↔◌, ◌^◌, ℕ, List, IfErr, IfOk, IsErrOf};
-    ghost use Rattle.reg_office_api.specs.CallSteps.{CommandStep, QueryStep, OcspStep, CrlStep};
+    ghost use Rattle.reg_office_api.specs.CallSteps.{BatchStep, CommandStep, QueryStep, OcspStep, CrlStep};
     ghost use Rattle.reg_office_api.specs.Drafts.{BeginStep, IsSignerFailure};
     ghost use Rattle.reg_office_api.specs.Items.{items_of};
     ghost use Rattle.reg_office_api.specs.Leads.{Leads, Looks};
@@ -43,6 +43,15 @@ pub trait Office {
     fn run_one(&mut self, alloc: Global, now: Moment, command: &Command) -> Outcome
         ensures runs { Leads is_clean stands (CommandStep signs now command.now result) self.old self.new }
         ensures counts { IsErrOf result Signer → failures self.old < failures self.new };
+
+    /// Runs commands in their order, each at its moment, in one transaction. A refused command changes nothing, and the next ones run. Errors, after
+    /// which no command has run: `Memory`; `Store`; `Signer` if a command issues a CRL, since a batch signs nothing.
+    fn run_batch(
+        &mut self,
+        alloc: Global,
+        commands: &[(Moment, Command)],
+    ) -> Result<Vec<Outcome>, Fault>
+        ensures { Leads is_clean stands (BatchStep signs commands.now result) self.old self.new };
 
     /// Answers a query at its moment. Errors: the first refusal that applies; `Memory`; `Store`.
     fn ask(&mut self, alloc: Global, now: Moment, query: &Query) -> Outcome

@@ -1,7 +1,10 @@
 //! The changes of a register.
 
+ghost use Rattle.std.specs.Prelude.{◌≡◌, OnOk, not, true};
 ghost use Rattle.reg_core.specs.declared.change.Change.TheVariants.{Touch, Subscriber, Order, Certificate, Request, Decline, Revocation, Crl};
+ghost use Rattle.reg_store_changes.specs.ChangeSteps.{Enters};
 ghost use Rattle.reg_store_changes.specs.MadeChanges.{MakesChange, SetsIssuer, SetsSchedule};
+ghost use Rattle.reg_store_changes.specs.WithinTransactions.{BeginsTransaction, EndsTransaction, MakesWithin, StepsWithin};
 
 use crate::store::Store;
 use reg_core::{
@@ -12,6 +15,36 @@ use reg_store_tables::DatabaseFault;
 use sqlite::Alter;
 
 impl<S: Alter> Store<S> {
+    /// BeginsTransaction a transaction, whose changes [`Store::enter`] makes and [`Store::end`] commits. Errors: those of [`reg_store_changes::begin`].
+    pub fn begin(&mut self) -> Result<(), DatabaseFault>
+        ensures { BeginsTransaction S.Store self.old self.new result }
+    {
+        reg_store_changes::begin(&mut self.tables.connection)
+    }
+
+    /// Makes a change at a moment inside the transaction that is under way. Errors: those of [`reg_store_changes::enter`].
+    pub fn enter(&mut self, now: Moment, change: &Change<'_>) -> Result<(), DatabaseFault>
+        ensures made { MakesWithin S.Store self.old self.new result (Enters now change.now) }
+        ensures stepped { StepsWithin S.Store self.old self.new }
+        ensures under_way { OnOk result (self.old.in_transaction ≡ true) }
+    {
+        reg_store_changes::enter(&mut self.tables.connection, now, change)
+    }
+
+    /// Whether no transaction is under way.
+    pub fn is_idle(&self) -> bool
+        ensures { result ≡ not self.now.in_transaction }
+    {
+        self.tables.connection.is_autocommit()
+    }
+
+    /// EndsTransaction the transaction that is under way: commits it if `made` is `Ok`, or rolls it back. Errors: those of [`reg_store_changes::end`].
+    pub fn end(&mut self, made: Result<(), DatabaseFault>) -> Result<(), DatabaseFault>
+        ensures { EndsTransaction S.Store self.old self.new made result }
+    {
+        reg_store_changes::end(&mut self.tables.connection, made)
+    }
+
     /// Makes a change at a moment, which becomes the last accepted one, in one transaction. Errors, here and of the methods up to
     /// [`Store::add_crl`]: those of [`reg_store_changes::apply`].
     pub fn apply(&mut self, now: Moment, change: &Change<'_>) -> Result<(), DatabaseFault>

@@ -1,6 +1,6 @@
 //! The store: a register in a database, with its look-ups and its changes.
 
-ghost use Rattle.std.specs.Prelude.{◌≡◌, false};
+ghost use Rattle.std.specs.Prelude.{◌≡◌};
 
 use reg_store_tables::Tables;
 use sqlite::{Alter, Connection};
@@ -9,8 +9,7 @@ use std::ops::{Deref, DerefMut};
 
 /// A register in an SQL database. Its look-ups are the methods of [`Tables`], to which it dereferences; its changes are methods of its own.
 ///
-/// Contracts see a store as its connection, which is in no transaction between the calls. So `Shows`, `ShowsKept` and other
-/// definitions for a connection apply to a store.
+/// Contracts see a store as its connection. So `Shows`, `ShowsKept` and other definitions for a connection apply to a store.
 #[derive(Drop)]
 pub struct Store<S: Alter> {
     pub(crate) tables: Tables<S>,
@@ -58,8 +57,7 @@ impl<S: Alter> DerefMut for Store<S> {
 impl<S: Alter> Store<S> {
     /// Closes the store and returns its connection. The tables don't change.
     pub fn into_connection(self) -> Connection<S>
-        ensures same { result ≡ self }
-        ensures idle { result.in_transaction ≡ false }
+        ensures { result ≡ self }
     {
         let Store { tables } = self;
         let Tables { connection } = tables;

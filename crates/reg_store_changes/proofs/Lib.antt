@@ -1,7 +1,13 @@
+pub mod Beginning
+pub mod Ending
 pub mod Law
 pub mod Letters
 pub mod Making
 pub mod Meaning
+pub mod PublicLaws
 pub mod Putting
+pub mod RollingBack
 pub mod Stages
 pub mod Sweeping
+pub mod Transactions
+pub mod Within

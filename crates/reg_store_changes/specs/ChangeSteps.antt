@@ -8,7 +8,6 @@ use Rattle.reg_core.specs.Records.{Records}
 use Rattle.reg_core.specs.Schedule.{IsSchedule}
 use Rattle.reg_core.specs.Sound.{SoundRows}
 use Rattle.reg_core.specs.declared.change.Change.{Change}
-use Rattle.reg_core.specs.declared.command.Counts.{Counts}
 use Rattle.reg_core.specs.declared.rows.RevocationRow.{RevocationRow}
 use Rattle.reg_der.specs.Issuers.{with_issuer}
 use Rattle.reg_store_tables.specs.DerivedRows.{DerivedRows}
@@ -33,9 +32,9 @@ pub record Puts (change : Change) (old new : Database) : Type 0 where
   pub one : (records : Records) (columns : DerivedRows) → AreRecordsAndDerived old records columns
       → TurnsOne change columns
 
--- over sound records that a change fits, with these stored counts, the whole change is made at a moment; `one`: see `TurnsOne`
-pub record Enters (now : ℕ) (change : Change) (counts : Counts) (old new : Database) : Type 0 where
-  pub turns : (records : Records) (columns : DerivedRows) → counts ≡ columns.counts → SoundRows records
+-- over sound records that a change fits, the whole change is made at a moment; `one`: see `TurnsOne`
+pub record Enters (now : ℕ) (change : Change) (old new : Database) : Type 0 where
+  pub turns : (records : Records) (columns : DerivedRows) → SoundRows records
       → Fits records now change → AreRecordsAndDerived old records columns
       → AreRecordsAndDerived new (changed_by records now change) (derived_after now change columns)
       × IsDatabase new

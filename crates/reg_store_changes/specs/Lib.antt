@@ -3,3 +3,4 @@ pub mod ChangeEffects
 pub mod ChangeSteps
 pub mod DerivedEffects
 pub mod MadeChanges
+pub mod WithinTransactions

@@ -1,21 +1,21 @@
 //! The steps of a change, inside its transaction.
 
-ghost use Rattle.std.specs.Prelude.{◌≡◌, ◌+◌, length, IfOk};
+ghost use Rattle.std.specs.Prelude.{◌≡◌, ◌+◌, length, IfOk, OnOk, true};
 ghost use Rattle.reg_core.specs.Changes.{touched, with_certificate, with_crl};
-ghost use Rattle.reg_store_tables.specs.Stays.{Stepped};
 ghost use Rattle.reg_store_tables.specs.DerivedRows.{with_counts};
-ghost use Rattle.reg_store_tables.specs.Steps.{Continues, Makes, MakesRows, Turns, TurnsWhere};
+ghost use Rattle.reg_store_tables.specs.Steps.{Turns, TurnsWhere};
 ghost use Rattle.reg_store_changes.specs.DerivedEffects.{with_good, with_last_listings, shifted};
 ghost use Rattle.reg_store_changes.specs.ChangeEffects.{crl_of, newly_revoked, added};
 ghost use Rattle.reg_store_changes.specs.ChangeSteps.{Enters, Puts, Revokes};
+ghost use Rattle.reg_store_changes.specs.WithinTransactions.{ContinuesWithin, MakesRowsWithin, MakesWithin, StepsWithin};
 
 use crate::statements::{
     expire_ended, mark_revoked, put_cert, put_crl, put_letter, put_listed, put_order, put_request,
-    put_revocation, put_subscriber, set_declined, set_last, set_last_listed,
+    put_revocation, put_subscriber, set_counts, set_declined, set_last, set_last_listed,
 };
 use reg_core::{CertRow, Change, Counts, CrlRow, Moment, RevocationRow};
-use reg_store_tables::{DatabaseFault, set_counts};
-use sqlite::{Alter, Transaction};
+use reg_store_tables::{DatabaseFault, stored_counts_at_last};
+use sqlite::{Alter, Connection};
 
 /// The counts after `ended` good certificates expired and the change was made. `Store` if a count goes below 0 or above 2^64 - 1.
 fn counts_after(counts: Counts, ended: usize, change: &Change<'_>) -> Result<Counts, DatabaseFault>
@@ -55,41 +55,41 @@ fn revoked_and_added(change: &Change<'_>) -> (u64, u64)
 
 /// Sets the counts and the last accepted moment.
 fn set_counts_and_last<S: Alter>(
-    tx: &mut Transaction<'_, S>,
+    conn: &mut Connection<S>,
     now: Moment,
     counts: Counts,
 ) -> Result<(), DatabaseFault>
-    ensures made { MakesRows S.Store tx.old tx.new result
+    ensures made { MakesRowsWithin S.Store conn.old conn.new result
         (Turns (λ records. touched records now) (with_counts counts)) }
-    ensures stepped { Stepped S.Store tx.old tx.new }
+    ensures stepped { StepsWithin S.Store conn.old conn.new }
 {
-    set_counts(tx, counts)?;
-    set_last(tx, now)
+    set_counts(conn, counts)?;
+    set_last(conn, now)
 }
 
 /// Adds a certificate, with the state letter `G` (good).
-fn register<S: Alter>(tx: &mut Transaction<'_, S>, row: CertRow) -> Result<(), DatabaseFault>
-    ensures made { Makes S.Store tx.old tx.new result
+fn register<S: Alter>(conn: &mut Connection<S>, row: CertRow) -> Result<(), DatabaseFault>
+    ensures made { MakesWithin S.Store conn.old conn.new result
         (Turns (λ records. with_certificate records records.last row) (with_good row.serial row.not_after)) }
-    ensures stepped { Stepped S.Store tx.old tx.new }
+    ensures stepped { StepsWithin S.Store conn.old conn.new }
 {
     let (serial, not_after) = (row.serial, row.not_after);
-    put_cert(tx, row)?;
-    put_letter(tx, serial, not_after)
+    put_cert(conn, row)?;
+    put_letter(conn, serial, not_after)
 }
 
 /// Adds a revocation and its row of `listed`, and sets its certificate's state letter to `R`. `Store` too if the letter was not `G`.
 fn revoke<S: Alter>(
-    tx: &mut Transaction<'_, S>,
+    conn: &mut Connection<S>,
     row: RevocationRow,
     not_after: Moment,
 ) -> Result<(), DatabaseFault>
-    ensures made { Makes S.Store tx.old tx.new result (Revokes row not_after) }
-    ensures stepped { Stepped S.Store tx.old tx.new }
+    ensures made { MakesWithin S.Store conn.old conn.new result (Revokes row not_after) }
+    ensures stepped { StepsWithin S.Store conn.old conn.new }
 {
-    put_revocation(tx, row)?;
-    put_listed(tx, row, not_after)?;
-    if mark_revoked(tx, row.serial)? == 1 {
+    put_revocation(conn, row)?;
+    put_listed(conn, row, not_after)?;
+    if mark_revoked(conn, row.serial)? == 1 {
         Ok(())
     } else {
         Err(DatabaseFault::Store)
@@ -97,52 +97,51 @@ fn revoke<S: Alter>(
 }
 
 /// Adds a CRL, and records it as the last CRL of each revocation that has none yet and whose notAfter is before this thisUpdate.
-fn issue<S: Alter>(
-    tx: &mut Transaction<'_, S>,
-    row: CrlRow,
-    der: &[u8],
-) -> Result<(), DatabaseFault>
-    ensures made { Makes S.Store tx.old tx.new result
+fn issue<S: Alter>(conn: &mut Connection<S>, row: CrlRow, der: &[u8]) -> Result<(), DatabaseFault>
+    ensures made { MakesWithin S.Store conn.old conn.new result
         (TurnsWhere (λ records. row.number ≡ length records.crls + 1)
         (λ records. with_crl records records.last (crl_of row der.now))
         (with_last_listings row.number row.this_update)) }
-    ensures stepped { Stepped S.Store tx.old tx.new }
+    ensures stepped { StepsWithin S.Store conn.old conn.new }
 {
     let (number, this_update) = (row.number, row.this_update);
-    put_crl(tx, row, der)?;
-    set_last_listed(tx, number, this_update)
+    put_crl(conn, row, der)?;
+    set_last_listed(conn, number, this_update)
 }
 
 /// Writes the rows of a change, and those of the derived tables except the counts, in a transaction that is under way.
-fn put<S: Alter>(tx: &mut Transaction<'_, S>, change: &Change<'_>) -> Result<(), DatabaseFault>
-    ensures made { Continues S.Store tx.old tx.new result (Puts change.now) }
-    ensures stepped { Stepped S.Store tx.old tx.new }
+fn put<S: Alter>(conn: &mut Connection<S>, change: &Change<'_>) -> Result<(), DatabaseFault>
+    ensures made { ContinuesWithin S.Store conn.old conn.new result (Puts change.now) }
+    ensures stepped { StepsWithin S.Store conn.old conn.new }
 {
     match *change {
         Change::Touch => Ok(()),
-        Change::Subscriber(row) => put_subscriber(tx, row),
-        Change::Order(row) => put_order(tx, row),
-        Change::Certificate(row) => register(tx, row),
-        Change::Request(row) => put_request(tx, row),
-        Change::Decline(id) => set_declined(tx, id),
-        Change::Revocation(row, not_after) => revoke(tx, row, not_after),
-        Change::Crl(row, der) => issue(tx, row, der),
+        Change::Subscriber(row) => put_subscriber(conn, row),
+        Change::Order(row) => put_order(conn, row),
+        Change::Certificate(row) => register(conn, row),
+        Change::Request(row) => put_request(conn, row),
+        Change::Decline(id) => set_declined(conn, id),
+        Change::Revocation(row, not_after) => revoke(conn, row, not_after),
+        Change::Crl(row, der) => issue(conn, row, der),
     }
 }
 
-/// Makes a change. It sets the letters of good certificates whose notAfter is before now to expired, and writes the rows of the change. Then
-/// it sets the counts and the last accepted moment.
-pub(crate) fn enter<S: Alter>(
-    tx: &mut Transaction<'_, S>,
+/// Makes a change at a moment, which becomes the last accepted one, inside the transaction that is under way. It sets the letters of good
+/// certificates whose notAfter is before that moment to expired, and writes the rows of the change. Then it sets the counts and the last accepted
+/// moment. Errors: `Memory`; `Store` if the database fails or refuses a row, a number is above 2^63 - 1, a count is missing or too small, the
+/// certificate to revoke is not good, or no transaction is under way. After an error, the transaction must be rolled back.
+pub fn enter<S: Alter>(
+    conn: &mut Connection<S>,
     now: Moment,
     change: &Change<'_>,
-    counts: Counts,
 ) -> Result<(), DatabaseFault>
-    ensures made { Makes S.Store tx.old tx.new result (Enters now change.now counts) }
-    ensures stepped { Stepped S.Store tx.old tx.new }
+    ensures made { MakesWithin S.Store conn.old conn.new result (Enters now change.now) }
+    ensures stepped { StepsWithin S.Store conn.old conn.new }
+    ensures under_way { OnOk result (conn.old.in_transaction ≡ true) }
 {
-    let ended = expire_ended(tx, now)?;
-    put(tx, change)?;
+    let counts = stored_counts_at_last(conn)?;
+    let ended = expire_ended(conn, now)?;
+    put(conn, change)?;
     let next = counts_after(counts, ended, change)?;
-    set_counts_and_last(tx, now, next)
+    set_counts_and_last(conn, now, next)
 }

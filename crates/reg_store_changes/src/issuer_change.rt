@@ -1,6 +1,5 @@
 //! Replaces the stored Name of the issuer, and the key identifiers that were set for it, which are stored after the Name.
 
-ghost use Rattle.std.specs.Prelude.{◌≡◌, false};
 ghost use Rattle.reg_store_tables.specs.Stays.{Stepped};
 ghost use Rattle.reg_store_changes.specs.ChangeSteps.{ReplacesIssuer};
 ghost use Rattle.reg_store_changes.specs.MadeChanges.{SetsIssuer};
@@ -24,12 +23,13 @@ fn set_name<S: Alter>(tx: &mut Transaction<'_, S>, issuer: &Issuer) -> Result<()
 
 /// Sets the issuer's Name and the key identifiers that were set for it. The issuer must have the same key as before; this is not checked. The
 /// call is no command: other records, the derived tables and the last accepted moment don't change. Errors: `Memory`; `Store` if the database
-/// fails. An error changes nothing, unless the disk failed in the commit.
+/// fails, or if a transaction is under way. An error changes nothing, unless the disk failed in the commit.
 pub fn set_issuer<S: Alter>(conn: &mut Connection<S>, issuer: &Issuer) -> Result<(), DatabaseFault>
-    requires { conn.old.in_transaction ≡ false }
-    ensures sets { SetsIssuer S.Store conn.old conn.new issuer.now result }
-    ensures idle { conn.new.in_transaction ≡ false }
+    ensures { SetsIssuer S.Store conn.old conn.new issuer.now result }
 {
+    if !conn.is_autocommit() {
+        return Err(DatabaseFault::Store);
+    }
     let mut tx = conn.transaction();
     set_name(&mut tx, issuer)?;
     commit(tx)

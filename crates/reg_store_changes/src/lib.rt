@@ -7,7 +7,10 @@ mod schedule_change;
 mod sql;
 pub mod statements;
 mod transaction;
+mod writes;
 
+pub use change_statements::enter;
 pub use issuer_change::set_issuer;
 pub use schedule_change::set_schedule;
 pub use transaction::apply;
+pub use writes::{begin, end};

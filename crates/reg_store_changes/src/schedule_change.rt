@@ -1,6 +1,5 @@
 //! Replaces the schedule of longest validities.
 
-ghost use Rattle.std.specs.Prelude.{◌≡◌, false};
 ghost use Rattle.reg_store_tables.specs.Stays.{Stepped};
 ghost use Rattle.reg_store_changes.specs.ChangeSteps.{ClearsSteps, WritesSchedule};
 ghost use Rattle.reg_store_changes.specs.MadeChanges.{SetsSchedule};
@@ -32,16 +31,17 @@ fn write_schedule<S: Alter>(
 }
 
 /// Sets the schedule of longest validities. The call is no command: other records, the derived tables, the last accepted moment and
-/// the column `days` of the office don't change. Errors: `Memory`; `Store` if the database fails. An error changes nothing, unless the
-/// disk failed in the commit.
+/// the column `days` of the office don't change. Errors: `Memory`; `Store` if the database fails, or if a transaction is under way. An error
+/// changes nothing, unless the disk failed in the commit.
 pub fn set_schedule<S: Alter>(
     conn: &mut Connection<S>,
     schedule: &Schedule,
 ) -> Result<(), DatabaseFault>
-    requires { conn.old.in_transaction ≡ false }
-    ensures sets { SetsSchedule S.Store conn.old conn.new schedule.now result }
-    ensures idle { conn.new.in_transaction ≡ false }
+    ensures { SetsSchedule S.Store conn.old conn.new schedule.now result }
 {
+    if !conn.is_autocommit() {
+        return Err(DatabaseFault::Store);
+    }
     let mut tx = conn.transaction();
     write_schedule(&mut tx, schedule)?;
     commit(tx)

@@ -1,6 +1,12 @@
 //! The SQL of the statements of a change. An UPDATE with a WHERE finds its rows by a key or an index, except `MARK_LISTED`,
 //! which scans the table `listed`.
 
+pub(crate) const BEGIN: &str = "BEGIN";
+
+pub(crate) const COMMIT: &str = "COMMIT";
+
+pub(crate) const ROLLBACK: &str = "ROLLBACK";
+
 pub(crate) const EXPIRE_ENDED: &str =
     "UPDATE standing SET state = 'X' WHERE state = 'G' AND not_after < ?1";
 
@@ -38,3 +44,5 @@ pub(crate) const MARK_LISTED: &str =
     "UPDATE listed SET last_listed = ?1 WHERE last_listed IS NULL AND not_after < ?2";
 
 pub(crate) const CLEAR_STEPS: &str = "DELETE FROM longest";
+
+pub(crate) const SET_COUNTS: &str = "UPDATE kept SET n_good = ?1, n_revoked = ?2, n_expired = ?3";

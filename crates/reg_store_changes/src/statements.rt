@@ -1,133 +1,142 @@
 //! The statements of the changes, inside a transaction. Errors: `Memory`; `Store` if the database fails or refuses a row, or for a number above
 //! 2^63 - 1.
 
-ghost use Rattle.std.specs.Prelude.{◌≡◌, ◌+◌, length};
+ghost use Rattle.std.specs.Prelude.{◌≡◌, ◌+◌, OnOk, length, true};
 ghost use Rattle.reg_core.specs.Changes.{touched, with_subscriber, with_order, with_certificate, with_request, with_declined, with_revocation, with_crl};
-ghost use Rattle.reg_store_tables.specs.Stays.{Stepped};
-ghost use Rattle.reg_store_tables.specs.Steps.{Makes, MakesRows, Turns, TurnsDerivedRows, TurnsCounted, TurnsRecords, TurnsWhere, Yields};
+ghost use Rattle.reg_store_tables.specs.Steps.{Turns, TurnsDerivedRows, TurnsCounted, TurnsRecords, TurnsWhere};
+ghost use Rattle.reg_store_tables.specs.DerivedRows.{with_counts};
 ghost use Rattle.reg_store_changes.specs.ChangeEffects.{crl_of};
+ghost use Rattle.reg_store_changes.specs.WithinTransactions.{MakesRowsWithin, MakesWithin, StepsWithin, YieldsWithin};
 ghost use Rattle.reg_store_changes.specs.DerivedEffects.{with_expired, count_ended_before, with_revoked_letter, good_at, with_good, with_unlisted, with_last_listings};
 
 use crate::sql;
+use crate::writes::write;
 use reg_core::{
-    CertRow, CrlRow, Moment, OrderRow, RequestRow, RevocationRow, Serial, SubscriberRow,
+    CertRow, Counts, CrlRow, Moment, OrderRow, RequestRow, RevocationRow, Serial, SubscriberRow,
 };
 use reg_store_tables::DatabaseFault;
 use reg_store_tables::write_statements::{
-    sql_flag, sql_ground, sql_moment, sql_number, sql_reason, write,
+    sql_flag, sql_ground, sql_moment, sql_number, sql_reason,
 };
 use sqlite::types::ValueRef;
-use sqlite::{Alter, Transaction};
+use sqlite::{Alter, Connection};
 
 /// Sets the letter of each good certificate whose notAfter is before now to expired, and returns how many there were.
-pub fn expire_ended<S: Alter>(
-    tx: &mut Transaction<'_, S>,
-    now: Moment,
-) -> Result<usize, DatabaseFault>
-    ensures made { Yields S.Store tx.old tx.new result (TurnsCounted (with_expired now) (count_ended_before now)) }
-    ensures stepped { Stepped S.Store tx.old tx.new }
+pub fn expire_ended<S: Alter>(conn: &mut Connection<S>, now: Moment) -> Result<usize, DatabaseFault>
+    ensures made { YieldsWithin S.Store conn.old conn.new result (TurnsCounted (with_expired now) (count_ended_before now)) }
+    ensures stepped { StepsWithin S.Store conn.old conn.new }
+    ensures under_way { OnOk result (conn.old.in_transaction ≡ true) }
 {
-    write(tx, sql::EXPIRE_ENDED, &[sql_moment(now)])
+    write(conn, sql::EXPIRE_ENDED, &[sql_moment(now)])
 }
 
 /// Sets the letter of the good certificate with this serial number to revoked, and returns how many such certificates there were: 0 or 1.
 pub fn mark_revoked<S: Alter>(
-    tx: &mut Transaction<'_, S>,
+    conn: &mut Connection<S>,
     serial: Serial,
 ) -> Result<usize, DatabaseFault>
-    ensures made { Yields S.Store tx.old tx.new result
+    ensures made { YieldsWithin S.Store conn.old conn.new result
         (TurnsCounted (with_revoked_letter serial) (good_at serial)) }
-    ensures stepped { Stepped S.Store tx.old tx.new }
+    ensures stepped { StepsWithin S.Store conn.old conn.new }
 {
     let bytes = serial.bytes20();
-    write(tx, sql::MARK_REVOKED, &[ValueRef::Blob(&bytes)])
+    write(conn, sql::MARK_REVOKED, &[ValueRef::Blob(&bytes)])
 }
 
 /// Records this CRL as the last one of each revocation that has no last one yet and whose certificate's notAfter is before its thisUpdate.
 pub(crate) fn set_last_listed<S: Alter>(
-    tx: &mut Transaction<'_, S>,
+    conn: &mut Connection<S>,
     number: u64,
     this_update: Moment,
 ) -> Result<(), DatabaseFault>
-    ensures made { Makes S.Store tx.old tx.new result
+    ensures made { MakesWithin S.Store conn.old conn.new result
         (TurnsDerivedRows (with_last_listings number this_update)) }
-    ensures stepped { Stepped S.Store tx.old tx.new }
+    ensures stepped { StepsWithin S.Store conn.old conn.new }
 {
     let number = sql_number(number)?;
     let this_update = sql_moment(this_update);
-    write(tx, sql::MARK_LISTED, &[number, this_update])?;
+    write(conn, sql::MARK_LISTED, &[number, this_update])?;
     Ok(())
 }
 
-pub(crate) fn set_last<S: Alter>(
-    tx: &mut Transaction<'_, S>,
-    now: Moment,
+/// Sets the counts in the table `kept`.
+pub(crate) fn set_counts<S: Alter>(
+    conn: &mut Connection<S>,
+    counts: Counts,
 ) -> Result<(), DatabaseFault>
-    ensures made { MakesRows S.Store tx.old tx.new result (TurnsRecords (λ records. touched records now)) }
-    ensures stepped { Stepped S.Store tx.old tx.new }
+    ensures made { MakesRowsWithin S.Store conn.old conn.new result (TurnsDerivedRows (with_counts counts)) }
+    ensures stepped { StepsWithin S.Store conn.old conn.new }
 {
-    write(tx, sql::SET_LAST, &[sql_moment(now)])?;
+    let good = sql_number(counts.good)?;
+    let revoked = sql_number(counts.revoked)?;
+    let expired = sql_number(counts.expired)?;
+    write(conn, sql::SET_COUNTS, &[good, revoked, expired])?;
     Ok(())
 }
 
-pub(crate) fn set_declined<S: Alter>(
-    tx: &mut Transaction<'_, S>,
-    id: u64,
-) -> Result<(), DatabaseFault>
-    ensures made { Makes S.Store tx.old tx.new result
+pub(crate) fn set_last<S: Alter>(conn: &mut Connection<S>, now: Moment) -> Result<(), DatabaseFault>
+    ensures made { MakesRowsWithin S.Store conn.old conn.new result (TurnsRecords (λ records. touched records now)) }
+    ensures stepped { StepsWithin S.Store conn.old conn.new }
+{
+    write(conn, sql::SET_LAST, &[sql_moment(now)])?;
+    Ok(())
+}
+
+pub(crate) fn set_declined<S: Alter>(conn: &mut Connection<S>, id: u64) -> Result<(), DatabaseFault>
+    ensures made { MakesWithin S.Store conn.old conn.new result
         (TurnsRecords (λ records. with_declined records records.last id)) }
-    ensures stepped { Stepped S.Store tx.old tx.new }
+    ensures stepped { StepsWithin S.Store conn.old conn.new }
 {
     let id = sql_number(id)?;
-    write(tx, sql::SET_DECLINED, &[id])?;
+    write(conn, sql::SET_DECLINED, &[id])?;
     Ok(())
 }
 
 pub(crate) fn put_subscriber<S: Alter>(
-    tx: &mut Transaction<'_, S>,
+    conn: &mut Connection<S>,
     row: SubscriberRow,
 ) -> Result<(), DatabaseFault>
-    ensures made { Makes S.Store tx.old tx.new result
+    ensures made { MakesWithin S.Store conn.old conn.new result
         (TurnsWhere (λ records. row.id ≡ length records.subscribers + 1)
         (λ records. with_subscriber records records.last row) (λ columns. columns)) }
-    ensures stepped { Stepped S.Store tx.old tx.new }
+    ensures stepped { StepsWithin S.Store conn.old conn.new }
 {
     let id = sql_number(row.id)?;
     let name = ValueRef::Text(row.name.as_bytes());
-    write(tx, sql::PUT_SUBSCRIBER, &[id, name])?;
+    write(conn, sql::PUT_SUBSCRIBER, &[id, name])?;
     Ok(())
 }
 
 pub(crate) fn put_order<S: Alter>(
-    tx: &mut Transaction<'_, S>,
+    conn: &mut Connection<S>,
     row: OrderRow,
 ) -> Result<(), DatabaseFault>
-    ensures made { Makes S.Store tx.old tx.new result
+    ensures made { MakesWithin S.Store conn.old conn.new result
         (TurnsWhere (λ records. row.id ≡ length records.orders + 1)
         (λ records. with_order records records.last row) (λ columns. columns)) }
-    ensures stepped { Stepped S.Store tx.old tx.new }
+    ensures stepped { StepsWithin S.Store conn.old conn.new }
 {
     let id = sql_number(row.id)?;
     let subscriber = sql_number(row.subscriber)?;
     let days = sql_number(row.days)?;
-    write(tx, sql::PUT_ORDER, &[id, subscriber, days])?;
+    write(conn, sql::PUT_ORDER, &[id, subscriber, days])?;
     Ok(())
 }
 
 pub(crate) fn put_cert<S: Alter>(
-    tx: &mut Transaction<'_, S>,
+    conn: &mut Connection<S>,
     row: CertRow,
 ) -> Result<(), DatabaseFault>
-    ensures made { Makes S.Store tx.old tx.new result
+    ensures made { MakesWithin S.Store conn.old conn.new result
         (TurnsRecords (λ records. with_certificate records records.last row)) }
-    ensures stepped { Stepped S.Store tx.old tx.new }
+    ensures stepped { StepsWithin S.Store conn.old conn.new }
 {
     let serial = row.serial.bytes20();
     let order = sql_number(row.order)?;
     let not_before = sql_moment(row.not_before);
     let not_after = sql_moment(row.not_after);
     write(
-        tx,
+        conn,
         sql::PUT_CERT,
         &[ValueRef::Blob(&serial), order, not_before, not_after],
     )?;
@@ -136,27 +145,27 @@ pub(crate) fn put_cert<S: Alter>(
 
 /// Adds the state letter `G` (good) of a certificate.
 pub(crate) fn put_letter<S: Alter>(
-    tx: &mut Transaction<'_, S>,
+    conn: &mut Connection<S>,
     serial: Serial,
     not_after: Moment,
 ) -> Result<(), DatabaseFault>
-    ensures made { Makes S.Store tx.old tx.new result (TurnsDerivedRows (with_good serial not_after)) }
-    ensures stepped { Stepped S.Store tx.old tx.new }
+    ensures made { MakesWithin S.Store conn.old conn.new result (TurnsDerivedRows (with_good serial not_after)) }
+    ensures stepped { StepsWithin S.Store conn.old conn.new }
 {
     let serial = serial.bytes20();
     let not_after = sql_moment(not_after);
-    write(tx, sql::PUT_LETTER, &[ValueRef::Blob(&serial), not_after])?;
+    write(conn, sql::PUT_LETTER, &[ValueRef::Blob(&serial), not_after])?;
     Ok(())
 }
 
 pub(crate) fn put_request<S: Alter>(
-    tx: &mut Transaction<'_, S>,
+    conn: &mut Connection<S>,
     row: RequestRow,
 ) -> Result<(), DatabaseFault>
-    ensures made { Makes S.Store tx.old tx.new result
+    ensures made { MakesWithin S.Store conn.old conn.new result
         (TurnsWhere (λ records. row.id ≡ length records.requests + 1)
         (λ records. with_request records records.last row) (λ columns. columns)) }
-    ensures stepped { Stepped S.Store tx.old tx.new }
+    ensures stepped { StepsWithin S.Store conn.old conn.new }
 {
     let id = sql_number(row.id)?;
     let serial = row.serial.bytes20();
@@ -164,7 +173,7 @@ pub(crate) fn put_request<S: Alter>(
     let received = sql_moment(row.received);
     let declined = sql_flag(row.declined);
     write(
-        tx,
+        conn,
         sql::PUT_REQUEST,
         &[id, ValueRef::Blob(&serial), ground, received, declined],
     )?;
@@ -172,12 +181,12 @@ pub(crate) fn put_request<S: Alter>(
 }
 
 pub(crate) fn put_revocation<S: Alter>(
-    tx: &mut Transaction<'_, S>,
+    conn: &mut Connection<S>,
     row: RevocationRow,
 ) -> Result<(), DatabaseFault>
-    ensures made { Makes S.Store tx.old tx.new result
+    ensures made { MakesWithin S.Store conn.old conn.new result
         (TurnsRecords (λ records. with_revocation records records.last row)) }
-    ensures stepped { Stepped S.Store tx.old tx.new }
+    ensures stepped { StepsWithin S.Store conn.old conn.new }
 {
     let serial = row.serial.bytes20();
     let at = sql_moment(row.at);
@@ -185,7 +194,7 @@ pub(crate) fn put_revocation<S: Alter>(
     let request = sql_number(row.request)?;
     let first = sql_number(row.first)?;
     write(
-        tx,
+        conn,
         sql::PUT_REVOCATION,
         &[ValueRef::Blob(&serial), at, reason, request, first],
     )?;
@@ -194,12 +203,12 @@ pub(crate) fn put_revocation<S: Alter>(
 
 /// Adds the row of `listed` of a revocation, without a last CRL.
 pub(crate) fn put_listed<S: Alter>(
-    tx: &mut Transaction<'_, S>,
+    conn: &mut Connection<S>,
     row: RevocationRow,
     not_after: Moment,
 ) -> Result<(), DatabaseFault>
-    ensures made { Makes S.Store tx.old tx.new result (TurnsDerivedRows (with_unlisted row not_after)) }
-    ensures stepped { Stepped S.Store tx.old tx.new }
+    ensures made { MakesWithin S.Store conn.old conn.new result (TurnsDerivedRows (with_unlisted row not_after)) }
+    ensures stepped { StepsWithin S.Store conn.old conn.new }
 {
     let serial = row.serial.bytes20();
     let at = sql_moment(row.at);
@@ -207,7 +216,7 @@ pub(crate) fn put_listed<S: Alter>(
     let first = sql_number(row.first)?;
     let not_after = sql_moment(not_after);
     write(
-        tx,
+        conn,
         sql::PUT_LISTED,
         &[ValueRef::Blob(&serial), at, reason, first, not_after],
     )?;
@@ -215,19 +224,19 @@ pub(crate) fn put_listed<S: Alter>(
 }
 
 pub(crate) fn put_crl<S: Alter>(
-    tx: &mut Transaction<'_, S>,
+    conn: &mut Connection<S>,
     row: CrlRow,
     der: &[u8],
 ) -> Result<(), DatabaseFault>
-    ensures made { Makes S.Store tx.old tx.new result
+    ensures made { MakesWithin S.Store conn.old conn.new result
         (TurnsWhere (λ records. row.number ≡ length records.crls + 1)
         (λ records. with_crl records records.last (crl_of row der.now)) (λ columns. columns)) }
-    ensures stepped { Stepped S.Store tx.old tx.new }
+    ensures stepped { StepsWithin S.Store conn.old conn.new }
 {
     let number = sql_number(row.number)?;
     let this_update = sql_moment(row.this_update);
     write(
-        tx,
+        conn,
         sql::PUT_CRL,
         &[number, this_update, ValueRef::Blob(der)],
     )?;

@@ -38,7 +38,8 @@ pub fn migrate<S: Alter>(
     last: Moment,
 ) -> Result<(), DatabaseFault>
     requires { conn.old.in_transaction ≡ false }
-    ensures { Commits S.Store conn.old conn.new result (MigratesTables version days last) }
+    ensures commits { Commits S.Store conn.old conn.new result (MigratesTables version days last) }
+    ensures idle { conn.new.in_transaction ≡ false }
 {
     let mut tx = conn.transaction();
     migrate_tables(&mut tx, version, days, last)?;

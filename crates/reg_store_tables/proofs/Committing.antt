@@ -76,7 +76,7 @@ module _ {S : Type 0} (g : Ghosts S) (was ended : Held S) (begun entered : Trans
   pub commits : {E : Type 0} (back : Held S) (r : Result (Unit {0}) E) → Ends g entered.conn.now ended r → ended ≡ back → Commits g was back r Leads
   commits back r ends same =
       let P : Held S → Type 0 = λ h. Commits g was h r Leads in
-      subst P same (record { made = made_by r ends; stays = stays_by r ends; survives = survives_by r ends; idle = ends.idle })
+      subst P same (record { made = made_by r ends; stays = stays_by r ends; survives = survives_by r ends })
 
 -- what a transaction does to what is known of the tables before it
 module _ {S T E : Type 0} {g : Ghosts S} {old new : Held S} {r : Result T E} {Leads : Database → Database → Type 0} (commits : Commits g old new r Leads) where

@@ -11,14 +11,14 @@ use Rattle.reg_core.specs.Records.{Records}
 use Rattle.reg_store_tables.specs.Failing.{HasFailed, FailsOnlyByLimit, ShowsWritten}
 use Rattle.reg_store_tables.specs.LookUps.{Finds, FindsIf, Queries, ReadsBy, ReadsOne, ReadsRow}
 use Rattle.reg_store_tables.specs.ReadStatements.{Answers}
-use Rattle.reg_store_tables.specs.Shows.{IsShownBy, Shows}
+use Rattle.reg_store_tables.specs.Shows.{IsShownBy, ShowsUntil}
 use Rattle.reg_store_tables.specs.Stays.{Looked}
 use Rattle.reg_store_tables.specs.Tables.{rows_of}
 use Rattle.reg_store_tables.specs.declared.fault.DatabaseFault.{DatabaseFault}
 use Rattle.reg_store_tables.specs.declared.fault.DatabaseFault.TheVariants.{Store}
 use Rattle.reg_store_tables.specs.declared.sizes.Table.{Table}
 use Rattle.reg_store_tables.proofs.FailingLemmas.{failed_then, looked_written, made_of, the_row, written_register, written_shows}
-use Rattle.reg_store_tables.proofs.Staying.{looked_shows, looked_then, ok_both, ok_if, ok_then, shows_register, some_then}
+use Rattle.reg_store_tables.proofs.Staying.{looked_then, ok_both, ok_if, ok_then, shown_first, shown_second, shows_until, some_then, until_schema}
 
 pub was_clean : (old new : State) → doubt old.is_clean ≤ doubt new.is_clean → HasCleanDisk new → HasCleanDisk old
 was_clean old new forgets clean = omega arith
@@ -51,38 +51,38 @@ module _ {C T W : Type 0} {g : Ghosts C} {old new : Held C} {text : List ℕ} {g
 
   -- where what is wanted stands in the tables under a condition
   pub by_statement_if : {May : Records → Type 0} (Given : Records → Type 0)
-      → ((records : Records) → Shows g old records → Given records → HasCleanDisk (state g old) → Shown (state g old) text params (wanted records))
+      → ((records : Records) → ShowsUntil g old new records → Given records → HasCleanDisk (state g old) → Shown (state g old) text params (wanted records))
       → FindsIf May g old new result (λ records found. Given records → view found ≡ wanted records)
   by_statement_if Given shown = record {
     looked = reads.looked;
-    found = λ records shows clean. ok_if (Given records) _ result (λ holds. it.found (wanted records) (shows_register g old records shows) clean (shown records shows holds (old_clean clean)));
-    fails = λ records may written clean. it.fails (wanted records) asked (written_register g old records written) (well records written (old_clean clean)) clean;
+    found = λ records shows clean. ok_if (Given records) _ result (λ holds. it.found (wanted records) (until_schema g old new records shows) clean (shown records shows holds (old_clean clean)));
+    fails = λ records may written clean. it.fails (wanted records) asked (written_register g old records written).now (well records written (old_clean clean)) clean;
   }
 
   -- and without one
-  pub by_statement : {May : Records → Type 0} → ((records : Records) → Shows g old records → HasCleanDisk (state g old) → Shown (state g old) text params (wanted records))
+  pub by_statement : {May : Records → Type 0} → ((records : Records) → ShowsUntil g old new records → HasCleanDisk (state g old) → Shown (state g old) text params (wanted records))
       → FindsIf May g old new result (λ records found. view found ≡ wanted records)
   by_statement shown = record {
     looked = reads.looked;
-    found = λ records shows clean. it.found (wanted records) (shows_register g old records shows) clean (shown records shows (old_clean clean));
-    fails = λ records may written clean. it.fails (wanted records) asked (written_register g old records written) (well records written (old_clean clean)) clean;
+    found = λ records shows clean. it.found (wanted records) (until_schema g old new records shows) clean (shown records shows (old_clean clean));
+    fails = λ records may written clean. it.fails (wanted records) asked (written_register g old records written).now (well records written (old_clean clean)) clean;
   }
 
 -- what is made of the rows of a query's answer
 pub by_rows : {C T U : Type 0} {g : Ghosts C} {old new : Held C} {text : List ℕ} {given params : Row} {rows : T} {view : T → List Row} {May : Records → Type 0} {IsSo : Records → U → Type 0}
     → Queries g old new text given (Ok rows) view → given ≡ params → (result : Result U DatabaseFault)
-    → ((records : Records) → Shows g old records → HasCleanDisk (state g old) → Answers (state g old) text params (view rows) → IfOk result (IsSo records))
+    → ((records : Records) → ShowsUntil g old new records → HasCleanDisk (state g old) → Answers (state g old) text params (view rows) → IfOk result (IsSo records))
     → ((records : Records) → May records → ShowsWritten g old records → HasCleanDisk (state g old) → Answers (state g old) text params (view rows) → IfErr result (λ fault. fault ≡ Store → ⊥))
     → FindsIf May g old new result IsSo
 by_rows {g = g} {old = old} {new = new} {text = text} {rows = rows} {view = view} asked is result so not_store = record {
   looked = asked.looked;
   found = λ records shows clean.
       so records shows (was_clean (state g old) (state g new) asked.looked.survives.clean clean)
-      (subst (λ (p : Row). Answers (state g old) text p (view rows)) is (asked.rows (shows_register g old records shows) clean));
+      (subst (λ (p : Row). Answers (state g old) text p (view rows)) is (asked.rows (until_schema g old new records shows) clean));
   fails = λ records may written clean.
       no_failure _ result
       (not_store records may written (was_clean (state g old) (state g new) asked.looked.survives.clean clean)
-      (subst (λ (p : Row). Answers (state g old) text p (view rows)) is (asked.rows (written_register g old records written) clean)));
+      (subst (λ (p : Row). Answers (state g old) text p (view rows)) is (asked.rows (written_register g old records written).now clean)));
 }
 
 -- ---- where nothing is asked
@@ -91,6 +91,8 @@ by_rows {g = g} {old = old} {new = new} {text = text} {rows = rows} {view = view
 pub looked_none : {C : Type 0} {g : Ghosts C} {a : Held C} → Looked g a a
 looked_none = record {
   same = λ register. record { was_open = λ clean up. up; now = λ clean up. inl refl; committed = λ clean up. refl };
+  within = λ schema clean up under. record { was_open = up; now = refl; committed = refl };
+  live = λ clean under up. up;
   survives = record { clean = omega arith; shield = λ shielded. shielded; counts = omega arith; limit = refl; closes = λ clean up. inl up; crash = λ clean trees may. inl may };
   idle = λ idle. idle;
 }
@@ -156,7 +158,7 @@ pub unasked : {C T U : Type 0} {g : Ghosts C} {a b : Held C} {text : List ℕ} {
 unasked {g = g} {a = a} {text = text} fault result told asked is may_ask = record {
   looked = asked.looked;
   found = λ records shows clean. no_result _ result fault told;
-  fails = λ records may written clean. same_failure result fault told (asked.fails (subst (λ (p : Row). FailsOnlyByLimit text p) (sym is) may_ask) (written_register g a records written) clean);
+  fails = λ records may written clean. same_failure result fault told (asked.fails (subst (λ (p : Row). FailsOnlyByLimit text p) (sym is) may_ask) (written_register g a records written).now clean);
 }
 
 -- and one that is to show a row, where it shows one at most
@@ -181,7 +183,7 @@ not_asked result told never = record {
 
 -- what is found is so in other words
 pub finds_so : {C T : Type 0} {g : Ghosts C} {a b : Held C} {result : Result T DatabaseFault} {May Might : Records → Type 0} {WasSo IsSo : Records → T → Type 0} → FindsIf Might g a b result WasSo → ((records : Records) → May records → Might records)
-    → ((records : Records) → Shows g a records → HasCleanDisk (state g a) → (found : T) → WasSo records found → IsSo records found) → FindsIf May g a b result IsSo
+    → ((records : Records) → ShowsUntil g a b records → HasCleanDisk (state g a) → (found : T) → WasSo records found → IsSo records found) → FindsIf May g a b result IsSo
 finds_so {g = g} {a = a} {b = b} {result = result} finds might so = record {
   looked = finds.looked;
   found = λ records shows clean. ok_then result (finds.found records shows clean) (so records shows (was_clean (state g a) (state g b) finds.looked.survives.clean clean));
@@ -198,15 +200,15 @@ past_rows table many finds wanted none = finds_so finds (λ records may. many) (
 -- and the connection was open
 pub with_open : {C T W : Type 0} {g : Ghosts C} {a b : Held C} {text : List ℕ} {params : Row} {result : Result T DatabaseFault} {view : T → W} {Shown ShownWell : State → List ℕ → Row → W → Type 0} {May : Records → Type 0} {IsSo : Records → T → Type 0}
     → ReadsBy g a b text params result view Shown ShownWell → FindsIf May g a b result IsSo → FindsIf May g a b result (λ records found. IsTrue (state g a).is_open × IsSo records found)
-with_open {g = g} {a = a} {result = result} reads finds = record {
+with_open {g = g} {a = a} {b = b} {result = result} reads finds = record {
   looked = finds.looked;
-  found = λ records shows clean. ok_both _ _ result (reads.live (shows_register g a records shows) clean) (finds.found records shows clean);
+  found = λ records shows clean. ok_both _ _ result (reads.live (until_schema g a b records shows) clean) (finds.found records shows clean);
   fails = finds.fails;
 }
 
 -- and something else comes of it
 pub finds_ok : {C T U : Type 0} {g : Ghosts C} {a b : Held C} {x : T} {y : U} {May Might : Records → Type 0} {WasSo : Records → T → Type 0} {IsSo : Records → U → Type 0} → FindsIf Might g a b (Ok x) WasSo
-    → ((records : Records) → Shows g a records → WasSo records x → IsSo records y) → FindsIf May g a b (Ok y) IsSo
+    → ((records : Records) → ShowsUntil g a b records → WasSo records x → IsSo records y) → FindsIf May g a b (Ok y) IsSo
 finds_ok finds so = record {
   looked = finds.looked;
   found = λ records shows clean. so records shows (finds.found records shows clean);
@@ -217,25 +219,25 @@ finds_ok finds so = record {
 
 pub finds_then : {C T U : Type 0} {g : Ghosts C} {a b c : Held C} {x : T} {result : Result U DatabaseFault} {May First Second : Records → Type 0} {WasSo : Records → T → Type 0} {NextSo IsSo : Records → U → Type 0}
     → FindsIf First g a b (Ok x) WasSo → FindsIf Second g b c result NextSo → ((records : Records) → ShowsWritten g a records → WasSo records x → May records → Second records)
-    → ((records : Records) → Shows g a records → HasCleanDisk (state g b) → WasSo records x → (found : U) → NextSo records found → IsSo records found) → FindsIf May g a c result IsSo
+    → ((records : Records) → ShowsUntil g a c records → HasCleanDisk (state g b) → WasSo records x → (found : U) → NextSo records found → IsSo records found) → FindsIf May g a c result IsSo
 finds_then {g = g} {a = a} {b = b} {c = c} {result = result} first second may so = record {
   looked = looked_then first.looked second.looked;
   found = λ records shows clean.
       let mid_clean = was_clean (state g b) (state g c) second.looked.survives.clean clean in
-      ok_then result (second.found records (looked_shows first.looked records shows) clean) (so records shows mid_clean (first.found records shows mid_clean));
+      ok_then result (second.found records (shown_second first.looked second.looked records shows) clean) (so records shows mid_clean (first.found records (shown_first first.looked second.looked records shows) mid_clean));
   fails = λ records asked written clean.
       let mid_clean = was_clean (state g b) (state g c) second.looked.survives.clean clean in
-      let was = first.found records (written_shows g a records written) mid_clean in
+      let was = first.found records (shows_until b (written_shows g a records written)) mid_clean in
       later_failure result first.looked second.looked clean (second.fails records (may records written was asked) (looked_written first.looked records written) clean);
 }
 
 -- which both find something
 pub finds_next : {C T U V : Type 0} {g : Ghosts C} {a b c : Held C} {x : T} {y : U} {z : V} {May First Second : Records → Type 0} {WasSo : Records → T → Type 0} {NextSo : Records → U → Type 0} {IsSo : Records → V → Type 0}
-    → FindsIf First g a b (Ok x) WasSo → FindsIf Second g b c (Ok y) NextSo → ((records : Records) → Shows g a records → WasSo records x → NextSo records y → IsSo records z) → FindsIf May g a c (Ok z) IsSo
+    → FindsIf First g a b (Ok x) WasSo → FindsIf Second g b c (Ok y) NextSo → ((records : Records) → ShowsUntil g a c records → WasSo records x → NextSo records y → IsSo records z) → FindsIf May g a c (Ok z) IsSo
 finds_next {g = g} {b = b} {c = c} first second so = record {
   looked = looked_then first.looked second.looked;
   found = λ records shows clean.
-      so records shows (first.found records shows (was_clean (state g b) (state g c) second.looked.survives.clean clean)) (second.found records (looked_shows first.looked records shows) clean);
+      so records shows (first.found records (shown_first first.looked second.looked records shows) (was_clean (state g b) (state g c) second.looked.survives.clean clean)) (second.found records (shown_second first.looked second.looked records shows) clean);
   fails = λ records may written clean. tt;
 }
 
@@ -246,10 +248,10 @@ finds_pair first second = finds_next first second (λ records shows was so. (was
 -- what was found can't be so
 pub unfound : {C T U : Type 0} {g : Ghosts C} {a b : Held C} {x : T} {May Might : Records → Type 0} {WasSo : Records → T → Type 0} {IsSo : Records → U → Type 0} (result : Result U DatabaseFault) → IsErr result → FindsIf Might g a b (Ok x) WasSo
     → ((records : Records) → May records → ShowsWritten g a records → WasSo records x → ⊥) → FindsIf May g a b result IsSo
-unfound {g = g} {a = a} result told finds never = record {
+unfound {g = g} {a = a} {b = b} result told finds never = record {
   looked = finds.looked;
   found = λ records shows clean. gives_none _ result told;
-  fails = λ records may written clean. absurd (never records may written (finds.found records (written_shows g a records written) clean));
+  fails = λ records may written clean. absurd (never records may written (finds.found records (shows_until b (written_shows g a records written)) clean));
 }
 
 -- and what is found after it holds beside it
@@ -261,8 +263,8 @@ finds_both first second = finds_then first second (λ records written was may. m
 pub finds_made : {C T U : Type 0} {g : Ghosts C} {a b : Held C} {x : T} {May : Records → Type 0} {WasSo : Records → T → Type 0} {IsSo : Records → U → Type 0} {P : U → Type 0}
     → FindsIf May g a b (Ok x) WasSo → (result : Result U DatabaseFault) (made : Option U) (fault : DatabaseFault) → result ≡ ok_or made fault → IfSome made P
     → ((records : Records) → WasSo records x → (it : U) → P it → IsSo records it) → ((records : Records) → ShowsWritten g a records → WasSo records x → IsSome made) → FindsIf May g a b result IsSo
-finds_made {g = g} {a = a} finds result made fault is has so some = record {
+finds_made {g = g} {a = a} {b = b} finds result made fault is has so some = record {
   looked = finds.looked;
   found = λ records shows clean. some_then result made fault is has (so records (finds.found records shows clean));
-  fails = λ records may written clean. made_of _ result made fault is (some records written (finds.found records (written_shows g a records written) clean));
+  fails = λ records may written clean. made_of _ result made fault is (some records written (finds.found records (shows_until b (written_shows g a records written)) clean));
 }

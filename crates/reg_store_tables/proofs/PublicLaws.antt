@@ -12,7 +12,8 @@ pub use Rattle.reg_store_tables.proofs.Greatest.{numbered_rises}
 pub use Rattle.reg_store_tables.proofs.Keeping.{deletes_keep, deletes_rows, inserts_rows, updates_rows, writes_on}
 pub use Rattle.reg_store_tables.proofs.Letters.{counts_stand, found_each, map_same, same_counts}
 pub use Rattle.reg_store_tables.proofs.LookingUp.{on_err}
-pub use Rattle.reg_store_tables.proofs.Meaning.{IsWriting, deletes, inserts, updates}
+pub use Rattle.reg_store_tables.proofs.Meaning.{IsWriting, deletes, inserts, set_counts_means, updates}
+pub use Rattle.reg_store_tables.proofs.Stages.{sets_counts}
 pub use Rattle.reg_store_tables.proofs.Moving.{asked_moves, here, leading, may_move, moves, moves_as, moves_on, ok_if, stays_here, stepped_clean, then_moves, unchanged_before, under_way, was_clean as moving-was_clean}
 pub use Rattle.reg_store_tables.proofs.OverdueLemmas.{not_good}
 pub use Rattle.reg_store_tables.proofs.PageLemmas.{crl_out}
@@ -26,7 +27,8 @@ pub use Rattle.reg_store_tables.proofs.ScheduleLemmas.{ascends_rises, moment_of,
 pub use Rattle.reg_store_tables.proofs.Selecting.{select_never, select_planned, selected}
 pub use Rattle.reg_store_tables.proofs.Sorting.{Rises, ascending_key, ascends, sorted_same}
 pub use Rattle.reg_store_tables.proofs.Spared.{Counted, Numbered, both_after, derived_after, rows_after}
-pub use Rattle.reg_store_tables.proofs.Staying.{both_shows, both_then, fails_remains, fails_stays, looked_both, reads_nothing, rows_same, shown_answers, shown_stays, shows_register, some_then, stays_both, stays_holds, stays_kept, stays_register, stays_shows, stays_then, stepped_then}
+pub use Rattle.reg_store_tables.proofs.Staying.{Remains, not_run_remains, ran_remains, remains_committed, remains_open}
+pub use Rattle.reg_store_tables.proofs.Staying.{both_shows, both_then, fails_remains, fails_stays, looked_both, reads_nothing, remains_opens, rows_same, shown_opens, shown_answers, stays_by, shown_stays, shows_register, some_then, stays_both, stays_holds, stays_kept, stays_register, stays_shows, stays_then, stepped_then, under_before}
 pub use Rattle.reg_store_tables.proofs.Turning.{IsKeyed, behind_keyed, behind_passing, behind_table, behind_turned, stored_keyed, stored_table, stored_turned}
 pub use Rattle.reg_store_tables.proofs.Written.{received_early, revocations_have, updated_early}
 use Rattle.std.specs.Prelude.{IsErr}
@@ -36,15 +38,15 @@ use Rattle.sqlite_trees.specs.declared.store.Store.{Ghosts}
 use Rattle.sqlite.specs.Held.{Held, state}
 use Rattle.reg_core.specs.Records.{Records}
 use Rattle.reg_core.specs.Sound.{SoundRows}
-use Rattle.reg_store_tables.specs.Kept.{ShowsKept}
+use Rattle.reg_store_tables.specs.Kept.{ShowsKept, ShowsKeptNow, ShowsKeptUntil}
 use Rattle.reg_store_tables.specs.LookUps.{FindsIf, LooksUp}
 use Rattle.reg_store_tables.specs.Shows.{Shows}
 use Rattle.reg_store_tables.specs.Stays.{IsRegister, Looked, Stays}
 use Rattle.reg_store_tables.specs.declared.fault.DatabaseFault.{DatabaseFault}
 use Rattle.reg_store_tables.proofs.LookingUp.{gives_none, was_clean}
-use Rattle.reg_store_tables.proofs.Staying.{kept_shows, looked_then, ok_then, shows_register, stays_kept, stays_shows}
+use Rattle.reg_store_tables.proofs.Staying.{kept_first, kept_second, kept_shows, kept_shows_until, looked_then, ok_then, shows_register, stays_kept, stays_shows}
 pub use Rattle.reg_store_tables.proofs.LookingUp.{gives_none, looked_none, was_clean}
-pub use Rattle.reg_store_tables.proofs.Staying.{kept_shows, looked_shows, looked_then, ok_then}
+pub use Rattle.reg_store_tables.proofs.Staying.{fails_within, kept_shows, kept_until, looked_shows, shows_until, shown_within, looked_then, ok_then}
 
 -- ---- what stays shown
 
@@ -75,17 +77,17 @@ shown_on g old new records forgets same shown =
 module _ {C : Type 0} {g : Ghosts C} {a b : Held C} where
   -- what a look-up finds
   pub by_finding : {T : Type 0} {May : Records → Type 0} {result : Result T DatabaseFault} {IsSo : Records → T → Type 0} → FindsIf May g a b result IsSo → LooksUp g a b (λ records. IfOk result (IsSo records))
-  by_finding finds = record { looked = finds.looked; found = λ records kept sound clean. finds.found records (kept_shows g a records kept) clean }
+  by_finding finds = record { looked = finds.looked; found = λ records kept sound clean. finds.found records (kept_shows_until g a b records kept) clean }
 
   -- and one over what is kept beside the records
-  pub by_finding_kept : {T : Type 0} {May : Records → Type 0} {result : Result T DatabaseFault} {IsSo : Records → T → Type 0} → FindsIf May g a b result (λ records found. ShowsKept g a records → IsSo records found)
+  pub by_finding_kept : {T : Type 0} {May : Records → Type 0} {result : Result T DatabaseFault} {IsSo : Records → T → Type 0} → FindsIf May g a b result (λ records found. ShowsKeptNow (state g a) records → IsSo records found)
       → LooksUp g a b (λ records. IfOk result (IsSo records))
-  by_finding_kept {result = result} finds = record { looked = finds.looked; found = λ records kept sound clean. ok_then result (finds.found records (kept_shows g a records kept) clean) (λ found so. so kept) }
+  by_finding_kept {result = result} finds = record { looked = finds.looked; found = λ records kept sound clean. ok_then result (finds.found records (kept_shows_until g a b records kept) clean) (λ found so. so (kept.0, kept.1.tables, kept.2)) }
 
   -- and one over sound records
   pub by_finding_sound : {T : Type 0} {May : Records → Type 0} {result : Result T DatabaseFault} {IsSo : Records → T → Type 0} → FindsIf May g a b result (λ records found. SoundRows records → IsSo records found)
       → LooksUp g a b (λ records. IfOk result (IsSo records))
-  by_finding_sound {result = result} finds = record { looked = finds.looked; found = λ records kept sound clean. ok_then result (finds.found records (kept_shows g a records kept) clean) (λ found so. so sound) }
+  by_finding_sound {result = result} finds = record { looked = finds.looked; found = λ records kept sound clean. ok_then result (finds.found records (kept_shows_until g a b records kept) clean) (λ found so. so sound) }
 
   -- what holds anyway
   pub by_none : {Tells : Records → Type 0} → Looked g a b → ((records : Records) → Tells records) → LooksUp g a b Tells
@@ -100,8 +102,8 @@ module _ {C : Type 0} {g : Ghosts C} {a b : Held C} where
   and_so {c = c} first second = record {
     looked = looked_then first.looked second.looked;
     found = λ records kept sound clean. (
-      first.found records kept sound (was_clean (state g b) (state g c) second.looked.survives.clean clean),
-      second.found records (after_looked first.looked records kept) sound clean,
+      first.found records (kept_first first.looked second.looked records kept) sound (was_clean (state g b) (state g c) second.looked.survives.clean clean),
+      second.found records (kept_second first.looked second.looked records kept) sound clean,
     );
   }
 

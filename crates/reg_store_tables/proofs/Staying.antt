@@ -1,7 +1,8 @@
 -- What a query leaves: nothing has changed, or a failure has undone a transaction.
 use Rattle.std.specs.Prelude.{OnOk}
 use Rattle.std.specs.Option.{ok_or, IfSome}
-use Rattle.std.proofs.Common.{◌≡◌, ◌≤◌, ◌⊎◌, inl, inr, ℕ, List, Option, None, Some, Ok, Err, IfOk, Result, IsTrue, refl, sym, ap, subst, ◌∙◌, arith}
+use Rattle.std.proofs.Common.{◌≡◌, ◌≤◌, ◌⊎◌, inl, inr, true, false, ℕ, List, Option, None, Some, Ok, Err, IfOk, Result, IsTrue, refl, sym, ap, subst, ◌∙◌, arith}
+use Rattle.std.proofs.lemmas.Bool.{cases_Bool, false≢true}
 use Rattle.sqlite_value.specs.Order.{Row}
 use Rattle.sqlite_trees.specs.Tree.{Trees}
 use Rattle.sqlite_trees.specs.View.{doubt}
@@ -21,14 +22,14 @@ use Rattle.reg_store_tables.specs.Schema.{register_schema}
 use Rattle.reg_store_tables.specs.ReadStatements.{Answers, IsReading, NeverReturns, command_of}
 use Rattle.reg_core.specs.Records.{Records}
 use Rattle.reg_store_tables.specs.DerivedRows.{DerivedRows}
-use Rattle.reg_store_tables.specs.Shows.{Holds, Shows, ShowsBoth, IsShownBy, AreRecordsAndDerived}
-use Rattle.reg_store_tables.specs.Kept.{ShowsKept}
-use Rattle.reg_store_tables.specs.Stays.{IsRegister, Stays, LeavesNothing, Looked, Stepped}
+use Rattle.reg_store_tables.specs.Shows.{Holds, HoldsUntil, Shows, ShowsBoth, ShowsBothNow, ShowsUntil, IsShownBy, AreRecordsAndDerived}
+use Rattle.reg_store_tables.specs.Kept.{ShowsKept, ShowsKeptUntil}
+use Rattle.reg_store_tables.specs.Stays.{HasSchema, IsRegister, IsSame, Stays, LeavesNothing, Looked, Stepped}
 
-abbrev Remains : State → State → Type 0
+abbrev pub Remains : State → State → Type 0
 Remains old new = IsUnchanged old new ⊎ IsRolledBack old new
 
-remains_open : (old new : State) → Remains old new → IsTrue new.is_open → IsTrue old.is_open
+pub remains_open : (old new : State) → Remains old new → IsTrue new.is_open → IsTrue old.is_open
 remains_open old new (inl same) open_new = same.0.was_open
 remains_open old new (inr back) open_new = back.was_open open_new
 
@@ -36,23 +37,23 @@ remains_now : (old new : State) → Remains old new → IsTrue new.is_open → (
 remains_now old new (inl same) open_new = inl same.0.now_is
 remains_now old new (inr back) open_new = inr (back.undone open_new).0
 
-remains_committed : (old new : State) → Remains old new → IsTrue new.is_open → new.committed ≡ old.committed
+pub remains_committed : (old new : State) → Remains old new → IsTrue new.is_open → new.committed ≡ old.committed
 remains_committed old new (inl same) open_new = same.0.committed_is
 remains_committed old new (inr back) open_new = (back.undone open_new).1
 
-stays_by : (old new : State) → (HasCleanDisk new → Remains old new) → Stays old new
+pub stays_by : (old new : State) → (HasCleanDisk new → Remains old new) → Stays old new
 stays_by old new remains = record {
   was_open = λ clean up. remains_open old new (remains clean) up;
   now = λ clean up. remains_now old new (remains clean) up;
   committed = λ clean up. remains_committed old new (remains clean) up;
 }
 
-not_run_remains : (old new : State) (sql : List ℕ) (params : Row) (e : Error) → IsNotRun old new sql params e → Remains old new
+pub not_run_remains : (old new : State) (sql : List ℕ) (params : Row) (e : Error) → IsNotRun old new sql params e → Remains old new
 unfolding IsNotRun
 not_run_remains old new sql params e (inl h) = inl h.1
 not_run_remains old new sql params e (inr h) = inr h.3
 
-ran_remains : (old new : State) (sql : List ℕ) (c : Compiled) (params : Row) (e : Error) → RunsCommand old new sql c params (Err e) → Remains old new
+pub ran_remains : (old new : State) (sql : List ℕ) (c : Compiled) (params : Row) (e : Error) → RunsCommand old new sql c params (Err e) → Remains old new
 ran_remains old new sql c params e (inl h) = inl h.1
 ran_remains old new sql c params e (inr h) = inr h.3
 
@@ -88,18 +89,47 @@ shown_same old new sql params rows plain h = rows_same old new sql h.0 _ rows _ 
 was_clean : (old new : State) → doubt old.is_clean ≤ doubt new.is_clean → HasCleanDisk new → HasCleanDisk old
 was_clean old new forgets clean = omega arith
 
-schema_was : (old new : State) → doubt old.is_clean ≤ doubt new.is_clean → IsRegister old → (sql : List ℕ) (params : Row) (rows : List Row) → HasCleanDisk new → Shown sql params old new rows → old.now.schema ≡ register_schema
-schema_was old new forgets register sql params rows clean shown = register.now (was_clean old new forgets clean) (shown_open old new sql params rows shown)
+schema_was : (old new : State) → doubt old.is_clean ≤ doubt new.is_clean → HasSchema old → (sql : List ℕ) (params : Row) (rows : List Row) → HasCleanDisk new → Shown sql params old new rows → old.now.schema ≡ register_schema
+schema_was old new forgets schema sql params rows clean shown = schema (was_clean old new forgets clean) (shown_open old new sql params rows shown)
+
+shown_unchanged : (old new : State) → doubt old.is_clean ≤ doubt new.is_clean → HasSchema old → (sql : List ℕ) (params : Row) (rows : List Row) → IsReading sql → HasCleanDisk new → Shown sql params old new rows → IsUnchanged old new
+shown_unchanged old new forgets is sql params rows reading clean shown =
+    let schema : old.now.schema ≡ register_schema = schema_was old new forgets is sql params rows clean shown in
+    shown_same old new sql params rows (subst (λ s. IsPlain (understood s sql)) (sym schema) reading.plain) shown
 
 pub shown_stays : (old new : State) → doubt old.is_clean ≤ doubt new.is_clean → IsRegister old → (sql : List ℕ) (params : Row) (rows : List Row) → IsReading sql → (HasCleanDisk new → Shown sql params old new rows) → Stays old new
-shown_stays old new forgets register sql params rows reading shown = stays_by old new (λ clean.
-    let schema : old.now.schema ≡ register_schema = schema_was old new forgets register sql params rows clean (shown clean) in
-    inl (shown_same old new sql params rows (subst (λ s. IsPlain (understood s sql)) (sym schema) reading.plain) (shown clean)))
+shown_stays old new forgets register sql params rows reading shown = stays_by old new (λ clean. inl (shown_unchanged old new forgets register.now sql params rows reading clean (shown clean)))
 
-pub shown_answers : (old new : State) → doubt old.is_clean ≤ doubt new.is_clean → IsRegister old → (sql : List ℕ) (params : Row) (rows : List Row) → IsReading sql → HasCleanDisk new → Shown sql params old new rows
+-- in a transaction that is still under way, nothing has changed
+remains_within : (old new : State) → Remains old new → new.in_transaction ≡ true → IsSame old new
+remains_within old new (inl same) under = record { was_open = same.0.was_open; now = same.0.now_is; committed = same.0.committed_is }
+remains_within old new (inr back) under = absurd (false≢true (sym back.autocommit ∙ under))
+
+-- and the connection is open
+pub remains_opens : (old new : State) → Remains old new → new.in_transaction ≡ true → IsTrue new.is_open
+remains_opens old new (inl same) under = same.0.is_open
+remains_opens old new (inr back) under = absurd (false≢true (sym back.autocommit ∙ under))
+
+rows_opens : (old new : State) (sql : List ℕ) (c : Compiled) (params : Row) (rows : List Row) (returning : Option Returning) → ShowsRows old new sql c params rows returning → IsTrue new.is_open
+rows_opens old new sql c params rows None h = h.3.0.is_open
+rows_opens old new sql c params rows (Some what) h = h.1.shown.is_open
+
+pub shown_opens : (old new : State) (sql : List ℕ) (params : Row) (rows : List Row) → Shown sql params old new rows → IsTrue new.is_open
+unfolding Shown
+shown_opens old new sql params rows h = rows_opens old new sql h.0 _ rows _ h.2
+
+pub fails_within : (old new : State) (sql : List ℕ) (params : Row) (e : Error) → FailsToQuery sql params old new e → new.in_transaction ≡ true → IsSame old new
+fails_within old new sql params e fails = remains_within old new (fails_remains old new sql params e fails)
+
+pub shown_within : (old new : State) → doubt old.is_clean ≤ doubt new.is_clean → HasSchema old → (sql : List ℕ) (params : Row) (rows : List Row) → IsReading sql → HasCleanDisk new → Shown sql params old new rows → IsSame old new
+shown_within old new forgets is sql params rows reading clean shown =
+    let same = shown_unchanged old new forgets is sql params rows reading clean shown in
+    record { was_open = same.0.was_open; now = same.0.now_is; committed = same.0.committed_is }
+
+pub shown_answers : (old new : State) → doubt old.is_clean ≤ doubt new.is_clean → HasSchema old → (sql : List ℕ) (params : Row) (rows : List Row) → IsReading sql → HasCleanDisk new → Shown sql params old new rows
     → Answers old sql params rows
-shown_answers old new forgets register sql params rows reading clean shown =
-    let schema : old.now.schema ≡ register_schema = schema_was old new forgets register sql params rows clean shown in
+shown_answers old new forgets is sql params rows reading clean shown =
+    let schema : old.now.schema ≡ register_schema = schema_was old new forgets is sql params rows clean shown in
     record {
       is_open = shown_open old new sql params rows shown;
       reads = reads_as sql params old new register_schema schema (command_of (understood register_schema sql)) refl reading.plain reading.unlisted rows shown;
@@ -221,6 +251,21 @@ reads_nothing old new sql params never = survives_weaker old new (CommitsShowing
 pub leaves_then : (a b c : State) → LeavesNothing a b → LeavesNothing b c → LeavesNothing a c
 leaves_then a b c = survives_then a b c (λ _. ⊥) (λ _. ⊥) (λ _. ⊥) (λ clean db none. none) (λ clean db none. none)
 
+-- a transaction that is under way after a look-up was so before it
+pub under_before : {S : Type 0} {g : Ghosts S} {a b : Held S} → Looked g a b → b.in_transaction ≡ true → a.in_transaction ≡ true
+under_before {a = a} looked under = elim (cases_Bool a.in_transaction) [
+  | inl was ↦ was
+  | inr idle ↦ absurd (false≢true (sym (looked.idle idle) ∙ under))
+]
+
+same_then : (a b c : State) → IsSame a b → IsSame b c → IsSame a c
+same_then a b c first second = record { was_open = first.was_open; now = second.now ∙ first.now; committed = second.committed ∙ first.committed }
+
+same_schema : {S : Type 0} (g : Ghosts S) (a b : Held S) → Looked g a b → HasSchema (state g a) → b.in_transaction ≡ true → HasSchema (state g b)
+same_schema g a b looked schema under = λ clean up.
+    let same = looked.within schema clean up under in
+    ap (λ (db : Database). db.schema) same.now ∙ schema (was_clean (state g a) (state g b) looked.survives.clean clean) same.was_open
+
 -- one look-up after another is one
 pub looked_then : {S : Type 0} {g : Ghosts S} {a b c : Held S} → Looked g a b → Looked g b c → Looked g a c
 looked_then {g = g} {a = a} {b = b} {c = c} first second = record {
@@ -228,6 +273,12 @@ looked_then {g = g} {a = a} {b = b} {c = c} first second = record {
       let was = first.same register in
       stays_then (state g a) (state g b) (state g c) second.survives.clean was (second.same (stays_register (state g a) (state g b) first.survives.clean was register));
   survives = leaves_then (state g a) (state g b) (state g c) first.survives second.survives;
+  within = λ schema clean up under.
+      let was = was_clean (state g b) (state g c) second.survives.clean clean in
+      let mid = under_before second under in
+      let then = second.within (same_schema g a b first schema mid) clean up under in
+      same_then (state g a) (state g b) (state g c) (first.within schema was then.was_open mid) then;
+  live = λ clean under up. second.live clean under (first.live (was_clean (state g b) (state g c) second.survives.clean clean) (under_before second under) up);
   idle = λ was. second.idle (first.idle was);
 }
 
@@ -239,6 +290,80 @@ looked_shows {g = g} {old = old} {new = new} looked records shows = stays_shows 
 pub looked_both : {S : Type 0} {g : Ghosts S} {old new : Held S} → Looked g old new → (records : Records) (columns : DerivedRows) → ShowsBoth g old records columns → ShowsBoth g new records columns
 looked_both {g = g} {old = old} {new = new} looked records columns both =
     stays_both g old new records columns looked.survives.clean (looked.same (shows_register g old records (both_shows g old records columns both))) both
+
+-- ---- what is shown until a call's end
+
+-- what holds, with all committed, holds until then
+pub holds_until : {S : Type 0} {g : Ghosts S} {old : Held S} {P : Database → Type 0} (new : Held S) → Holds g old P → HoldsUntil g old new P
+holds_until new holds = record { saved = λ idle. holds.saved; tables = holds.tables }
+
+pub shows_until : {S : Type 0} {g : Ghosts S} {old : Held S} {records : Records} (new : Held S) → Shows g old records → ShowsUntil g old new records
+shows_until new = holds_until new
+
+pub kept_until : {S : Type 0} {g : Ghosts S} {old : Held S} {records : Records} (new : Held S) → ShowsKept g old records → ShowsKeptUntil g old new records
+kept_until new kept = (kept.0, holds_until new kept.1, kept.2)
+
+pub kept_shows_until : {S : Type 0} (g : Ghosts S) (old new : Held S) (records : Records) → ShowsKeptUntil g old new records → ShowsUntil g old new records
+kept_shows_until g old new records kept = record { saved = kept.1.saved; tables = λ clean up. (kept.1.tables clean up).shown }
+
+pub until_schema : {S : Type 0} (g : Ghosts S) (old new : Held S) (records : Records) → ShowsUntil g old new records → HasSchema (state g old)
+until_schema g old new records shows = λ clean up. (shows.tables clean up).schema
+
+module _ {S : Type 0} {g : Ghosts S} {a b c : Held S} (first : Looked g a b) (second : Looked g b c) (P : Database → Type 0) (of_register : (db : Database) → P db → db.schema ≡ register_schema) (until : HoldsUntil g a c P) where
+  -- until the end of the first look-up
+  pub until_first : HoldsUntil g a b P
+  until_first = record { saved = λ idle. until.saved (second.idle idle); tables = until.tables }
+
+  was_saved : b.in_transaction ≡ false → HasCleanDisk (state g b) → IsTrue (state g b).is_open → (IsTrue (state g a).is_open) × ((state g b).now ≡ (state g a).now) × ((state g b).committed ≡ (state g a).committed)
+  was_saved idle clean up =
+      let was = was_clean (state g a) (state g b) first.survives.clean clean in
+      let saved = until.saved (second.idle idle) was in
+      let stays = first.same (record {
+        now = λ clean up. of_register (state g a).now (until.tables clean up);
+        committed = λ clean up. subst (λ (db : Database). db.schema ≡ register_schema) (until.saved (second.idle idle) clean up) (of_register (state g a).now (until.tables clean up));
+      }) in
+      let was_up = stays.was_open clean up in
+      (was_up, from_either (λ db. db ≡ (state g a).now) (state g a) (state g b) (saved was_up) (stays.now clean up) refl, stays.committed clean up)
+
+  -- the first one changed nothing
+  pub unchanged_first : HasCleanDisk (state g b) → IsTrue (state g b).is_open → (IsTrue (state g a).is_open) × ((state g b).now ≡ (state g a).now) × ((state g b).committed ≡ (state g a).committed)
+  unchanged_first clean up = elim (cases_Bool b.in_transaction) [
+    | inl under ↦
+        let same = first.within (λ clean up. of_register (state g a).now (until.tables clean up)) clean up under in
+        (same.was_open, same.now, same.committed)
+    | inr idle ↦ was_saved idle clean up
+  ]
+
+  -- so what held before it holds until the end of the second
+  pub until_second : HoldsUntil g b c P
+  until_second = record {
+    saved = λ idle clean up.
+        let same = unchanged_first clean up in
+        same.1 ∙ until.saved idle (was_clean (state g a) (state g b) first.survives.clean clean) same.0 ∙ sym same.2;
+    tables = λ clean up.
+        let same = unchanged_first clean up in
+        subst P (sym same.1) (until.tables (was_clean (state g a) (state g b) first.survives.clean clean) same.0);
+  }
+
+module _ {S : Type 0} {g : Ghosts S} {a b c : Held S} (first : Looked g a b) (second : Looked g b c) (records : Records) (shows : ShowsUntil g a c records) where
+  pub shown_first : ShowsUntil g a b records
+  shown_first = until_first first second (λ db. IsShownBy db records) (λ db it. it.schema) shows
+
+  pub shown_second : ShowsUntil g b c records
+  shown_second = until_second first second (λ db. IsShownBy db records) (λ db it. it.schema) shows
+
+  -- and the derived tables have the rows that they had
+  pub both_second : (columns : DerivedRows) → ShowsBothNow (state g a) records columns → ShowsBothNow (state g b) records columns
+  both_second columns both = λ clean up.
+      let same = unchanged_first first second (λ db. IsShownBy db records) (λ db it. it.schema) shows clean up in
+      subst (λ db. AreRecordsAndDerived db records columns) (sym same.1) (both (was_clean (state g a) (state g b) first.survives.clean clean) same.0)
+
+module _ {S : Type 0} {g : Ghosts S} {a b c : Held S} (first : Looked g a b) (second : Looked g b c) (records : Records) (kept : ShowsKeptUntil g a c records) where
+  pub kept_first : ShowsKeptUntil g a b records
+  kept_first = (kept.0, until_first first second (λ db. AreRecordsAndDerived db records kept.0) (λ db it. it.shown.schema) kept.1, kept.2)
+
+  pub kept_second : ShowsKeptUntil g b c records
+  kept_second = (kept.0, until_second first second (λ db. AreRecordsAndDerived db records kept.0) (λ db it. it.shown.schema) kept.1, kept.2)
 
 -- one step after another is one
 pub stepped_then : {S : Type 0} {g : Ghosts S} {a b c : Transaction S} → Stepped g a b → Stepped g b c → Stepped g a c

@@ -38,4 +38,3 @@ pub record Commits {S T E : Type 0} (g : Ghosts S) (old new : Held S) (result : 
   pub stays : OnErr result (Stays (state g old) (state g new))
   -- a stop leaves what it would have left before, or the whole transaction
   pub survives : Survives (state g old) (state g new) (AreLed (state g old) Leads)
-  pub idle : new.in_transaction ≡ false

@@ -2,6 +2,7 @@
 use Rattle.std.specs.Prelude.{◌≡◌, ℕ, map, unwrap_or, option_map, IsPermutation}
 use Rattle.sqlite_trees.specs.declared.store.Store.{Ghosts}
 use Rattle.sqlite.specs.Held.{Held}
+use Rattle.sqlite.specs.State.{State}
 use Rattle.reg_core.specs.Records.{Records, certificate_in}
 use Rattle.reg_core.specs.Status.{status, counts}
 use Rattle.reg_core.specs.Crls.{last_listing}
@@ -10,7 +11,7 @@ use Rattle.reg_core.specs.declared.rows.RevocationRow.{RevocationRow}
 use Rattle.reg_core.specs.declared.command.Status.{Status}
 use Rattle.reg_core.specs.declared.command.Status.TheVariants.{Unknown, Good, Expired, Revoked}
 use Rattle.reg_store_tables.specs.DerivedRows.{Letter, good, revoked, expired, Standing, Listed, DerivedRows}
-use Rattle.reg_store_tables.specs.Shows.{ShowsBoth}
+use Rattle.reg_store_tables.specs.Shows.{AreRecordsAndDerived, HoldsUntil, ShowsBoth, ShowsBothNow}
 
 -- the letter of a status; a registered certificate never has the status unknown
 abbrev pub letter_of : Status → Letter
@@ -53,3 +54,13 @@ pub record Kept (columns : DerivedRows) (records : Records) : Type 0 where
 -- the tables show the records, with derived tables that match them
 abbrev pub ShowsKept : {S : Type 0} → Ghosts S → Held S → Records → Type 0
 ShowsKept g h records = (columns : DerivedRows) × ShowsBoth g h records columns × Kept columns records
+
+-- the same before a call, under the conditions of `HoldsUntil`
+abbrev pub ShowsKeptUntil : {S : Type 0} → Ghosts S → Held S → Held S → Records → Type 0
+ShowsKeptUntil g old new records =
+    (columns : DerivedRows) × HoldsUntil g old new (λ db. AreRecordsAndDerived db records columns)
+    × Kept columns records
+
+-- the same under the conditions of `ShowsBothNow`
+abbrev pub ShowsKeptNow : State → Records → Type 0
+ShowsKeptNow s records = (columns : DerivedRows) × ShowsBothNow s records columns × Kept columns records

@@ -7,11 +7,11 @@ use Rattle.sqlite.specs.State.{State, HasCleanDisk}
 use Rattle.reg_core.specs.Records.{Records}
 use Rattle.reg_core.specs.Sound.{SoundRows}
 use Rattle.reg_store_tables.specs.Failing.{FailsWith, FailsOnlyByLimit, ShowsWritten}
-use Rattle.reg_store_tables.specs.Kept.{ShowsKept}
+use Rattle.reg_store_tables.specs.Kept.{ShowsKeptUntil}
 use Rattle.reg_store_tables.specs.ReadStatements.{Answers}
 use Rattle.reg_store_tables.specs.ShownRows.{ShowsRow, ShowsOneRow, ShowsOnly}
-use Rattle.reg_store_tables.specs.Shows.{Shows}
-use Rattle.reg_store_tables.specs.Stays.{IsRegister, Looked}
+use Rattle.reg_store_tables.specs.Shows.{ShowsUntil}
+use Rattle.reg_store_tables.specs.Stays.{HasSchema, Looked}
 use Rattle.reg_store_tables.specs.declared.fault.DatabaseFault.{DatabaseFault}
 use Rattle.reg_store_tables.specs.declared.fault.DatabaseFault.TheVariants.{Store}
 
@@ -21,9 +21,9 @@ use Rattle.reg_store_tables.specs.declared.fault.DatabaseFault.TheVariants.{Stor
 pub record Queries {C T : Type 0} (g : Ghosts C) (old new : Held C) (text : List ℕ) (params : Row)
     (result : Result T DatabaseFault) (view : T → List Row) : Type 0 where
   pub looked : Looked g old new
-  pub rows : IsRegister (state g old) → HasCleanDisk (state g new)
+  pub rows : HasSchema (state g old) → HasCleanDisk (state g new)
       → IfOk result (λ found. Answers (state g old) text params (view found))
-  pub fails : FailsOnlyByLimit text params → IsRegister (state g old)
+  pub fails : FailsOnlyByLimit text params → HasSchema (state g old)
       → FailsWith Store (state g old) (state g new) result
 
 -- A statement that reads: it changes nothing, and `view` of its result is the value that its rows show (`Shown`). If they show one by
@@ -32,12 +32,12 @@ pub record ReadsBy {C T W : Type 0} (g : Ghosts C) (old new : Held C) (text : Li
     (result : Result T DatabaseFault)
     (view : T → W) (Shown ShownWell : State → List ℕ → Row → W → Type 0) : Type 0 where
   pub looked : Looked g old new
-  pub live : IsRegister (state g old) → HasCleanDisk (state g new)
+  pub live : HasSchema (state g old) → HasCleanDisk (state g new)
       → OnOk result (IsTrue (state g old).is_open)
-  pub found : (wanted : W) → IsRegister (state g old) → HasCleanDisk (state g new)
+  pub found : (wanted : W) → HasSchema (state g old) → HasCleanDisk (state g new)
       → Shown (state g old) text params wanted
       → IfOk result (λ found. view found ≡ wanted)
-  pub fails : (wanted : W) → FailsOnlyByLimit text params → IsRegister (state g old)
+  pub fails : (wanted : W) → FailsOnlyByLimit text params → HasSchema (state g old)
       → ShownWell (state g old) text params wanted
       → FailsWith Store (state g old) (state g new) result
 
@@ -63,7 +63,7 @@ module _ {C R : Type 0} (has_valid_serial has_values : R → Type 0) (shown : R 
 pub record FindsIf {C T : Type 0} (MayBeAsked : Records → Type 0) (g : Ghosts C) (old new : Held C)
     (result : Result T DatabaseFault) (IsSo : Records → T → Type 0) : Type 0 where
   pub looked : Looked g old new
-  pub found : (records : Records) → Shows g old records → HasCleanDisk (state g new)
+  pub found : (records : Records) → ShowsUntil g old new records → HasCleanDisk (state g new)
       → IfOk result (IsSo records)
   pub fails : (records : Records) → MayBeAsked records → ShowsWritten g old records
       → FailsWith Store (state g old) (state g new) result
@@ -78,7 +78,7 @@ Finds g old new result IsSo = FindsIf (λ records. Unit {0}) g old new result Is
 -- The look-ups change nothing. If the tables show sound records, with derived tables that match them, `Tells` holds of the records.
 pub record LooksUp {C : Type 0} (g : Ghosts C) (old new : Held C) (Tells : Records → Type 0) : Type 0 where
   pub looked : Looked g old new
-  pub found : (records : Records) → ShowsKept g old records → SoundRows records
+  pub found : (records : Records) → ShowsKeptUntil g old new records → SoundRows records
       → HasCleanDisk (state g new) → Tells records
 
 -- `LooksUp`: if the look-ups succeed, `IsSo` holds of the records and of the result

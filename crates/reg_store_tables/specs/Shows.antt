@@ -1,5 +1,5 @@
 -- The records that the tables of a connection show.
-use Rattle.std.specs.Prelude.{◌≡◌, ℕ, ℤ, List, [], ◌∷◌, map, IsTrue}
+use Rattle.std.specs.Prelude.{◌≡◌, ℕ, ℤ, false, List, [], ◌∷◌, map, IsTrue}
 use Rattle.std.specs.List.{AllByRecursion}
 use Rattle.reg_core.specs.Serial.{IsSerial}
 use Rattle.sqlite_value.specs.declared.value.Value.TheVariants.{Int}
@@ -7,7 +7,7 @@ use Rattle.sqlite_trees.specs.Tree.{Trees}
 use Rattle.sqlite_trees.specs.declared.store.Store.{Ghosts}
 use Rattle.sqlite.specs.Effect.{Database}
 use Rattle.sqlite.specs.Held.{Held, state}
-use Rattle.sqlite.specs.State.{HasCleanDisk}
+use Rattle.sqlite.specs.State.{State, HasCleanDisk}
 use Rattle.reg_core.specs.Records.{Records}
 use Rattle.reg_core.specs.Policy.{IsPolicy}
 use Rattle.reg_core.specs.Sound.{NumberedFrom}
@@ -65,6 +65,13 @@ pub record Holds {S : Type 0} (g : Ghosts S) (h : Held S) (P : Database → Type
   pub saved : HasCleanDisk (state g h) → IsTrue (state g h).is_open → (state g h).now ≡ (state g h).committed
   pub tables : HasCleanDisk (state g h) → IsTrue (state g h).is_open → P (state g h).now
 
+-- The property holds of the database before a call, if the disk returned what was written and the connection is open. All of the database is
+-- committed, unless a transaction is under way after the call: a failure of the call would have rolled it back.
+pub record HoldsUntil {S : Type 0} (g : Ghosts S) (old new : Held S) (P : Database → Type 0) : Type 0 where
+  pub saved : new.in_transaction ≡ false → HasCleanDisk (state g old) → IsTrue (state g old).is_open
+      → (state g old).now ≡ (state g old).committed
+  pub tables : HasCleanDisk (state g old) → IsTrue (state g old).is_open → P (state g old).now
+
 -- the tables show the records, under the conditions of `Holds`
 abbrev pub Shows : {S : Type 0} → Ghosts S → Held S → Records → Type 0
 Shows g h records = Holds g h (λ db. IsShownBy db records)
@@ -72,6 +79,14 @@ Shows g h records = Holds g h (λ db. IsShownBy db records)
 -- the tables show the records, and the derived tables have these rows
 abbrev pub ShowsBoth : {S : Type 0} → Ghosts S → Held S → Records → DerivedRows → Type 0
 ShowsBoth g h records columns = Holds g h (λ db. AreRecordsAndDerived db records columns)
+
+-- the tables show the records before a call, under the conditions of `HoldsUntil`
+abbrev pub ShowsUntil : {S : Type 0} → Ghosts S → Held S → Held S → Records → Type 0
+ShowsUntil g old new records = HoldsUntil g old new (λ db. IsShownBy db records)
+
+-- the tables show the records, and the derived tables have these rows, if the disk returned what was written and the connection is open
+abbrev pub ShowsBothNow : State → Records → DerivedRows → Type 0
+ShowsBothNow s records columns = HasCleanDisk s → IsTrue s.is_open → AreRecordsAndDerived s.now records columns
 
 -- the office's row has these days
 abbrev pub HasOfficeDays : {S : Type 0} → Ghosts S → Held S → ℕ → Type 0

@@ -16,6 +16,16 @@ pub record IsRegister (s : State) : Type 0 where
   pub now : HasCleanDisk s → IsTrue s.is_open → s.now.schema ≡ register_schema
   pub committed : HasCleanDisk s → IsTrue s.is_open → s.committed.schema ≡ register_schema
 
+-- if the disk returned what was written, and the connection is open, its schema is a register's
+abbrev pub HasSchema : State → Type 0
+HasSchema s = HasCleanDisk s → IsTrue s.is_open → s.now.schema ≡ register_schema
+
+-- the connection was open, and its tables are as they were, also as last committed
+pub record IsSame (old new : State) : Type 0 where
+  pub was_open : IsTrue old.is_open
+  pub now : new.now ≡ old.now
+  pub committed : new.committed ≡ old.committed
+
 -- nothing has changed, if the disk returned what was written and the connection is open: it was open, its tables are as they were or as last
 -- committed, and the committed tables are the same
 pub record Stays (old new : State) : Type 0 where
@@ -29,9 +39,13 @@ abbrev pub LeavesNothing : State → State → Type 0
 LeavesNothing old new = Survives old new (λ _. ⊥)
 
 -- A look-up: it leaves the tables of a register as they are, and commits nothing. If no transaction was under way before, none is
--- afterwards.
+-- afterwards. If one is still under way afterwards, nothing that it wrote is lost, and an open connection is open.
 pub record Looked {S : Type 0} (g : Ghosts S) (old new : Held S) : Type 0 where
   pub same : IsRegister (state g old) → Stays (state g old) (state g new)
+  pub within : HasSchema (state g old) → HasCleanDisk (state g new) → IsTrue (state g new).is_open
+      → new.in_transaction ≡ true → IsSame (state g old) (state g new)
+  pub live : HasCleanDisk (state g new) → new.in_transaction ≡ true → IsTrue (state g old).is_open
+      → IsTrue (state g new).is_open
   pub survives : LeavesNothing (state g old) (state g new)
   pub idle : old.in_transaction ≡ false → new.in_transaction ≡ false
 

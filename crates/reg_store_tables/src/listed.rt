@@ -2,10 +2,11 @@
 
 ghost use Rattle.std.specs.Prelude.{◌≡◌, ◌<◌, ◌≤◌, ◌^◌, ◌↔◌, List, map, length, IsTrue, IfOk, IfErr};
 ghost use Rattle.std.specs.List.{AllByRecursion};
+ghost use Rattle.sqlite.specs.Held.{state};
 ghost use Rattle.reg_core.specs.Crls.{EntriesAscend, entries};
 ghost use Rattle.reg_core.specs.Queries.{listing};
 ghost use Rattle.reg_core.specs.Serial.{IsSerial};
-ghost use Rattle.reg_store_tables.specs.Kept.{ShowsKept};
+ghost use Rattle.reg_store_tables.specs.Kept.{ShowsKeptNow};
 ghost use Rattle.reg_store_tables.specs.LookUps.{Finds, FindsIf};
 ghost use Rattle.reg_store_tables.specs.ReadStatements.{shown_entry};
 ghost use Rattle.reg_store_tables.specs.RecordValues.{AreMomentAndReason};
@@ -54,7 +55,7 @@ impl<S: Alter> Tables<S> {
     /// `Store` too if there are more, and for a number above 2^63 - 1. The call scans the table `listed`.
     pub fn entries(&mut self, number: u64) -> Result<Vec<Entry>, DatabaseFault>
         ensures finds { FindsIf (λ _. number < 2 ^ 63) S.Store self.old self.new result (λ records found.
-            ShowsKept S.Store self.old records → found.items ≡ entries records number) }
+            ShowsKeptNow (state S.Store self.old) records → found.items ≡ entries records number) }
         ensures ascending { IfOk result (λ found. EntriesAscend found.items) }
         ensures at_most { IfOk result (λ found. length found.items ≤ 1000000) }
     {
@@ -67,7 +68,7 @@ impl<S: Alter> Tables<S> {
     /// issued. `None` if the serial number is not revoked.
     pub fn listing(&mut self, serial: Serial) -> Result<Option<Listing>, DatabaseFault>
         ensures { Finds S.Store self.old self.new result (λ records found.
-            ShowsKept S.Store self.old records → found ≡ listing records serial) }
+            ShowsKeptNow (state S.Store self.old) records → found ≡ listing records serial) }
     {
         look_up::<S, Listing>(
             &mut self.connection,

@@ -4,7 +4,7 @@ ghost use Rattle.std.specs.Prelude.{◌≡◌, ◌<◌, ◌≤◌, ◌^◌, None
 ghost use Rattle.sqlite.specs.Held.{state};
 ghost use Rattle.sqlite.specs.State.{HasCleanDisk};
 ghost use Rattle.reg_store_tables.specs.LookUps.{Finds, FindsIf};
-ghost use Rattle.reg_store_tables.specs.Stays.{IsRegister};
+ghost use Rattle.reg_store_tables.specs.Stays.{HasSchema};
 ghost use Rattle.reg_store_tables.specs.Tables.{rows_of, text_of_last};
 
 use crate::fault::DatabaseFault;
@@ -48,7 +48,7 @@ impl<S: Alter> Tables<S> {
 
 pub(crate) fn held<S: Alter>(conn: &mut Connection<S>, table: Table) -> Result<u64, DatabaseFault>
     ensures finds { Finds S.Store conn.old conn.new result (λ records rows. rows ≡ rows_of records table) }
-    ensures live { IsRegister (state S.Store conn.old) → HasCleanDisk (state S.Store conn.new)
+    ensures live { HasSchema (state S.Store conn.old) → HasCleanDisk (state S.Store conn.new)
         → OnOk result (IsTrue (state S.Store conn.old).is_open) }
 {
     let last = look_up::<S, Number>(conn, last_row(table), &[])?;

@@ -5,9 +5,9 @@ ghost use Rattle.sqlite.specs.Held.{state};
 ghost use Rattle.reg_core.specs.Sound.{SoundRows};
 ghost use Rattle.reg_core.specs.Status as status;
 ghost use Rattle.reg_store_tables.specs.DerivedRows.{DerivedRows, ends_before};
-ghost use Rattle.reg_store_tables.specs.Kept.{ShowsKept};
+ghost use Rattle.reg_store_tables.specs.Kept.{ShowsKeptNow};
 ghost use Rattle.reg_store_tables.specs.LookUps.{Finds};
-ghost use Rattle.reg_store_tables.specs.Shows.{ShowsBoth};
+ghost use Rattle.reg_store_tables.specs.Shows.{ShowsBothNow};
 
 use crate::fault::DatabaseFault;
 use crate::read_statements::look_up_one;
@@ -22,7 +22,7 @@ impl<S: Alter> Tables<S> {
     /// How many registered certificates are good, revoked and expired at a moment; unspecified for a moment before the last accepted one.
     pub fn counts(&mut self, now: Moment) -> Result<Counts, DatabaseFault>
         ensures { Finds S.Store self.old self.new result (λ records found.
-            ShowsKept S.Store self.old records → SoundRows records → records.last ≤ now
+            ShowsKeptNow (state S.Store self.old) records → SoundRows records → records.last ≤ now
             → found ≡ status.counts records now) }
     {
         let kept = stored_counts_at_last(&mut self.connection)?;
@@ -38,7 +38,7 @@ impl<S: Alter> Tables<S> {
 /// The counts in the table `kept`, as of the last accepted moment. The call reads one row. Errors: those of the methods of [`Tables`].
 pub fn stored_counts_at_last<S: Alter>(conn: &mut Connection<S>) -> Result<Counts, DatabaseFault>
     ensures { Finds S.Store conn.old conn.new result (λ records counts.
-        (kept : DerivedRows) → ShowsBoth S.Store conn.old records kept → counts ≡ kept.counts) }
+        (kept : DerivedRows) → ShowsBothNow (state S.Store conn.old) records kept → counts ≡ kept.counts) }
 {
     look_up_one::<S, Counts>(conn, COUNTS, &[])
 }
@@ -46,7 +46,7 @@ pub fn stored_counts_at_last<S: Alter>(conn: &mut Connection<S>) -> Result<Count
 /// How many certificates with the letter `G` are past notAfter at a moment.
 fn ended_before<S: Alter>(conn: &mut Connection<S>, now: Moment) -> Result<u64, DatabaseFault>
     ensures { Finds S.Store conn.old conn.new result (λ records ended.
-        (kept : DerivedRows) → ShowsBoth S.Store conn.old records kept
+        (kept : DerivedRows) → ShowsBothNow (state S.Store conn.old) records kept
         → IsTrue (state S.Store conn.old).is_open
         × (length kept.letters ≤ 1000000 → ended ≡ length (filter (ends_before now) kept.letters))) }
 {

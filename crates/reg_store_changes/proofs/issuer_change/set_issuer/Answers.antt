@@ -9,8 +9,8 @@ use Rattle.reg_store_changes.proofs.Making.{issuer_not_set, same_days}
 use Rattle.reg_store_changes.proofs.Stages.{kept_issuer}
 use Rattle.reg_store_changes.proofs.issuer_change.set_issuer.Goals as goal
 
-pub returns-clause-sets : goal.returns-clause-sets
-returns-clause-sets g c =
+pub returns : goal.returns
+returns g c =
     let old = c.args.conn.now in
     let issuer = c.args.issuer.now in
     let done =
@@ -28,5 +28,5 @@ returns-clause-sets g c =
       err = done.stays;
     }
 
-pub returns-in_err-set_name-clause-sets : goal.returns-in_err-set_name-clause-sets
-returns-in_err-set_name-clause-sets g c = issuer_not_set _ c.from_residual.ensures.0 (search rules) (search rules)
+pub returns-in_err-set_name : goal.returns-in_err-set_name
+returns-in_err-set_name g c = issuer_not_set _ c.from_residual.ensures.0 (search rules) (search rules)

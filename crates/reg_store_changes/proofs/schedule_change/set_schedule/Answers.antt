@@ -9,8 +9,8 @@ use Rattle.reg_store_changes.proofs.Making.{schedule_not_set}
 use Rattle.reg_store_changes.proofs.Stages.{staged_first, staged_shows, staged_both, kept_schedule}
 use Rattle.reg_store_changes.proofs.schedule_change.set_schedule.Goals as goal
 
-pub returns-clause-sets : goal.returns-clause-sets
-returns-clause-sets g c =
+pub returns : goal.returns
+returns g c =
     let old = c.args.conn.now in
     let steps = c.args.schedule.now in
     let done =
@@ -30,5 +30,5 @@ returns-clause-sets g c =
       err = done.stays;
     }
 
-pub returns-in_err-write_schedule-clause-sets : goal.returns-in_err-write_schedule-clause-sets
-returns-in_err-write_schedule-clause-sets g c = schedule_not_set _ c.from_residual.ensures.0 (search rules) (search rules)
+pub returns-in_err-write_schedule : goal.returns-in_err-write_schedule
+returns-in_err-write_schedule g c = schedule_not_set _ c.from_residual.ensures.0 (search rules) (search rules)

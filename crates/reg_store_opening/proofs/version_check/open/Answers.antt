@@ -45,7 +45,7 @@ returns-in_err-migrate-in-Some-clause-unopened g c =
     let new = c.migrate.new.conn in
     let older = c.in-Some.older in
     let found = c.in_ok-found.ensures in
-    let done = c.in_err-migrate-in-Some.ensures in
+    let done = c.in_err-migrate-in-Some.ensures.commits in
     let fault = c.from_residual-in_err-migrate-in-Some in
     err_as (IsFailedOpen s old new) _ fault.result fault.ensures.1 (λ why is.
     fails_to_open s old new why is.1 (stays_then (state s old) (state s mid) (state s new) done.survives.clean c.examine.ensures.same done.stays)
@@ -75,4 +75,4 @@ returns-in_ok-migrate-in-Some-clause-opens g c =
     (λ clean. older_said old.now c.in-Ok.tables c.in-Ok.ensures.tables c.in_ok-found.found c.in_ok-check_schema.ensures.ok older c.in-Some.is (found.ok clean))
     (λ version records shows clean. subst (IsFoundOf version records) c.in-Some.is (found.shown version records shows clean))
     (record { saved = c.examine.ensures.saved; tables = same_schema old mid c.examine.ensures.same c.schema_version.ensures.settled (older_schema older.version) schema })
-    c.in_ok-migrate-in-Some.ensures
+    c.in_ok-migrate-in-Some.ensures.commits

@@ -7,7 +7,7 @@ use Rattle.reg_store_tables.specs.Faults.{database_fault_of}
 use Rattle.reg_store_tables.specs.declared.fault.DatabaseFault.TheVariants.{Store}
 use Rattle.reg_store_tables.proofs.FailingLemmas.{fails_by}
 use Rattle.reg_store_tables.proofs.LookingUp.{gives_none}
-use Rattle.reg_store_tables.proofs.Staying.{fails_stays, shown_stays, shown_answers, reads_nothing}
+use Rattle.reg_store_tables.proofs.Staying.{fails_remains, fails_stays, fails_within, remains_opens, shown_opens, shown_stays, shown_answers, shown_within, reads_nothing}
 use Rattle.reg_store_tables.proofs.read_statements.read.Goals as goal
 
 pub returns-in_err-query_all-clause-reads : goal.returns-in_err-query_all-clause-reads
@@ -17,6 +17,8 @@ returns-in_err-query_all-clause-reads g c reading =
     record {
       looked = record {
         same = λ register. fails_stays old new c.args.sql.now (bound c.args.params.now) _ c.in_err-query_all.ensures.err;
+        within = λ schema clean up under. fails_within old new c.args.sql.now (bound c.args.params.now) _ (c.in_err-query_all.ensures.err clean) under;
+        live = λ clean under up. remains_opens old new (fails_remains old new c.args.sql.now (bound c.args.params.now) _ (c.in_err-query_all.ensures.err clean)) under;
         survives = reads_nothing old new c.args.sql.now (bound c.args.params.now) reading.never c.query_all.ensures.survives;
         idle = c.query_all.ensures.mode;
       };
@@ -24,7 +26,7 @@ returns-in_err-query_all-clause-reads g c reading =
       fails = λ asked register clean.
           let before : HasCleanDisk (state g.S.Store c.args.conn.now) = omega (arith, c.query_all.ensures.survives.clean) in
           let told : database_fault_of c.in_err-query_all.field-0.0 ≡ Store → HasFailed (state g.S.Store c.args.conn.now) (state g.S.Store c.query_all.new.self) =
-          λ store. fails_by c.args.sql.now (bound c.args.params.now) reading asked old new _ (register.now before) store (c.in_err-query_all.ensures.err clean) in
+          λ store. fails_by c.args.sql.now (bound c.args.params.now) reading asked old new _ (register before) store (c.in_err-query_all.ensures.err clean) in
           search rules;
     }
 
@@ -35,6 +37,8 @@ returns-clause-reads g c reading =
     record {
       looked = record {
         same = λ register. shown_stays old new c.query_all.ensures.survives.clean register c.args.sql.now (bound c.args.params.now) _ reading c.in_ok-query_all.ensures.ok;
+        within = λ schema clean up under. shown_within old new c.query_all.ensures.survives.clean schema c.args.sql.now (bound c.args.params.now) _ reading clean (c.in_ok-query_all.ensures.ok clean);
+        live = λ clean under up. shown_opens old new c.args.sql.now (bound c.args.params.now) _ (c.in_ok-query_all.ensures.ok clean);
         survives = reads_nothing old new c.args.sql.now (bound c.args.params.now) reading.never c.query_all.ensures.survives;
         idle = c.query_all.ensures.mode;
       };

@@ -1,6 +1,6 @@
 use Rattle.std.proofs.Common.{refl, arith, rules}
 use Rattle.reg_store_tables.proofs.LookingUp.{passed_on, unfound}
-use Rattle.reg_store_tables.proofs.Staying.{shows_register}
+use Rattle.reg_store_tables.proofs.Staying.{until_schema}
 use Rattle.reg_store_tables.proofs.Written.{rows_few}
 use Rattle.reg_store_tables.proofs.sizes.none_above_range.Goals as goal
 
@@ -12,7 +12,7 @@ returns-then-rows-number g c = record {
   looked = c.held.ensures.finds.looked;
   found = λ records shows clean.
       let held = c.in_ok-rows.ensures.finds.found records shows clean in
-      (refl, c.in_ok-rows.ensures.live (shows_register g.S.Store c.args.conn.now records shows) clean, omega arith);
+      (refl, c.in_ok-rows.ensures.live (until_schema g.S.Store c.args.conn.now _ records shows) clean, omega arith);
   fails = λ records past written clean. tt;
 }
 

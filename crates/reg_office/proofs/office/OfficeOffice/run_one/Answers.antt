@@ -12,6 +12,7 @@ use Rattle.reg_office.proofs.CommandsRun.{carried_out, fault_happens, may_change
 use Rattle.reg_office.proofs.Leading.{ran_leads, ran_stops}
 use Rattle.reg_office.proofs.Leaving.{by_refusal}
 use Rattle.reg_office.proofs.Looking.{lent}
+use Rattle.reg_store_tables.proofs.PublicLaws.{kept_until}
 use Rattle.reg_office.proofs.RegisterSummary.{never_signer, office_fault}
 use Rattle.reg_office.proofs.office.OfficeOffice.run_one.Goals as goal
 
@@ -44,7 +45,7 @@ returns-in-Err-clause-ran g c =
     let looks = lent c.deref_mut.ensures.shows decides.looks in
     not_run g.C.Store signers.signs signers.identity signers.failure_count c.args.self.now.store c.args.self.now.signer c.args.now c.args.command.now
     _ fault refl refl looks.looked
-    (λ records kept sound clean. fault_happens (IsAcceptance c.args.now c.args.command.now records) (signed_by signers.signs (signers.identity c.args.self.now.signer)) records c.args.now c.args.command.now fault below decides.faults (looks.found records kept sound clean))
+    (λ records kept sound clean. fault_happens (IsAcceptance c.args.now c.args.command.now records) (signed_by signers.signs (signers.identity c.args.self.now.signer)) records c.args.now c.args.command.now fault below decides.faults (looks.found records (kept_until _ kept) sound clean))
     (office_fault fault decides.faults) (never_signer fault decides.faults)
 
 pub returns-in-Err-clause-stops : goal.returns-in-Err-clause-stops
@@ -64,7 +65,7 @@ returns-in_err-apply-in-Ok-clause-ran g c =
     let decided : Reply × Change = (c.in-Ok.reply, c.in-Ok.change) in
     not_carried_out g.C.Store signers.signs signers.identity signers.failure_count c.args.self.now.store c.args.self.now.signer c.args.now c.args.command.now
     _ _ _ decided.0 decided.1 refl looks.looked
-    (λ records kept sound clean. may_change records c.args.now c.args.command.now decided c.in_default.not-Crl (looks.found records kept sound clean))
+    (λ records kept sound clean. may_change records c.args.now c.args.command.now decided c.in_default.not-Crl (looks.found records (kept_until _ kept) sound clean))
     c.apply.ensures.changed.survives.clean
     c.from_residual.result c.in_err-apply-in-Ok.field-0.0 c.from_residual.ensures.1 below c.in_err-apply-in-Ok.ensures.changed
 
@@ -84,7 +85,7 @@ returns-in_ok-apply-in-Ok-clause-ran g c =
     let decided : Reply × Change = (c.in-Ok.reply, c.in-Ok.change) in
     carried_out g.C.Store signers.signs signers.identity signers.failure_count c.args.self.now.store c.args.self.now.signer c.args.now c.args.command.now
     _ _ _ decided.0 decided.1 refl looks.looked
-    (λ records kept sound clean. may_change records c.args.now c.args.command.now decided c.in_default.not-Crl (looks.found records kept sound clean))
+    (λ records kept sound clean. may_change records c.args.now c.args.command.now decided c.in_default.not-Crl (looks.found records (kept_until _ kept) sound clean))
     c.apply.ensures.changed.survives.clean c.in_ok-apply-in-Ok.ensures.ok c.in_ok-apply-in-Ok.ensures.changed
 
 pub returns-in_ok-apply-in-Ok-clause-stops : goal.returns-in_ok-apply-in-Ok-clause-stops

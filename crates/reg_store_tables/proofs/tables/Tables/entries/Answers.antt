@@ -19,7 +19,7 @@ returns-clause-finds g c =
     let rows = c.in_ok-found.found.items in
     rw (← c.self.view_is) (by_rows (c.in_ok-found.ensures.reads entries_text.reading) (rw (c.params-to_sql.ensures, c.in_ok-value.ensures.value) refl) c.entries_of.result
     (λ records shows clean answers. ok_if _ _ c.entries_of.result (λ kept.
-    let both = kept.1.tables clean answers.is_open in
+    let both = kept.1 clean answers.is_open in
     let it = entries_lists _ records kept.0 both kept.2 c.args.number rows answers.reads in
     let found = found_entries _ records kept.0 both kept.2 c.args.number rows answers.reads in
     ok_also c.entries_of.result (c.entries_of.ensures.read found it.serials it.shown) c.entries_of.ensures.ascending

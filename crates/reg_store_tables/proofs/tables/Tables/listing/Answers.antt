@@ -1,7 +1,8 @@
 use Rattle.std.proofs.Common.{refl}
+use Rattle.sqlite.specs.Held.{state}
 use Rattle.reg_core.specs.Queries.{listing}
 use Rattle.reg_core.specs.declared.command.Listing.{Listing}
-use Rattle.reg_store_tables.specs.Kept.{ShowsKept}
+use Rattle.reg_store_tables.specs.Kept.{ShowsKeptNow}
 use Rattle.reg_store_tables.proofs.ListingLemmas.{listed_text, listed_row, listed_few}
 use Rattle.reg_store_tables.proofs.LookingUp.{by_statement_if}
 use Rattle.reg_store_tables.proofs.tables.Tables.listing.Goals as goal
@@ -15,6 +16,6 @@ returns g c =
       listed_row _ records kept.0 both kept.2 c.args.serial c.bytes20.ensures.in_range rows answers.reads (λ (it : Listing). Unit {0} × Unit {0}) (λ it. (tt, tt)),
       listed_few _ records kept.0 both kept.2 c.args.serial c.bytes20.ensures.in_range rows answers.reads written.sound.revocations.serials_differ,
     ))
-    (ShowsKept g.S.Store _)
+    (ShowsKeptNow (state g.S.Store c.self.inside.connection))
     (λ records shows kept clean rows answers.
-    listed_row _ records kept.0 (kept.1.tables clean answers.is_open) kept.2 c.args.serial c.bytes20.ensures.in_range rows answers.reads (λ (it : Listing). Unit {0}) (λ it. tt)))
+    listed_row _ records kept.0 (kept.1 clean answers.is_open) kept.2 c.args.serial c.bytes20.ensures.in_range rows answers.reads (λ (it : Listing). Unit {0}) (λ it. tt)))

@@ -1,0 +1,80 @@
+#!/usr/bin/env python3
+"""Measures how many lines a second an open desk answers at the control socket: an `order` and a `register` line for each certificate.
+
+With a window of 256, so many lines are in flight, and the desk runs them in one transaction; with a window of 1, each line waits for the reply to the
+line before. With --sync-ms N, each sync of the disk takes N milliseconds longer.
+
+Usage: bench/control.py [--window N] [--sync-ms N] CERTIFICATES        DESK=PROGRAM measures another program than ./desk
+"""
+import argparse
+import os
+import socket
+import subprocess
+import tempfile
+import time
+from pathlib import Path
+
+TOP = Path(__file__).resolve().parent.parent
+SLOW = """
+#define _GNU_SOURCE
+#include <dlfcn.h>
+#include <unistd.h>
+int fsync(int file) { usleep(MICROS); return ((int (*)(int))dlsym(RTLD_NEXT, "fsync"))(file); }
+int fdatasync(int file) { usleep(MICROS); return ((int (*)(int))dlsym(RTLD_NEXT, "fdatasync"))(file); }
+"""
+
+
+def slow_syncs(room, millis):
+    """The environment in which each sync takes this much longer."""
+    if not millis:
+        return dict(os.environ)
+    words = ["cc", "-shared", "-fPIC", "-O2", f"-DMICROS={millis * 1000}", "-x", "c", "-", "-o", f"{os.path.abspath(room)}/slow.so", "-ldl"]
+    subprocess.run(words, input=SLOW.encode(), check=True)
+    return dict(os.environ, LD_PRELOAD=f"{os.path.abspath(room)}/slow.so")
+
+
+def free_port():
+    with socket.create_server(("127.0.0.1", 0)) as it:
+        return str(it.getsockname()[1])
+
+
+def exchange(path, lines, window):
+    """Sends the lines with at most `window` in flight; returns the seconds, and the last refusal, if any."""
+    with socket.socket(socket.AF_UNIX) as peer:
+        peer.connect(path)
+        replies, sent, refusal = peer.makefile("rb"), 0, None
+        begun = time.monotonic()
+        while sent < len(lines):
+            piece = lines[sent:sent + window]
+            peer.sendall("".join(piece).encode())
+            for _ in piece:
+                reply = replies.readline()
+                refusal = reply if reply[:1] in (b"E", b"F", b"") else refusal
+            sent += len(piece)
+        return time.monotonic() - begun, refusal
+
+
+def main():
+    parser = argparse.ArgumentParser(usage=__doc__.partition("Usage: ")[2])
+    parser.add_argument("--window", type=int, default=256)
+    parser.add_argument("--sync-ms", type=int, default=0)
+    parser.add_argument("certificates", type=int)
+    given = parser.parse_args()
+    desk = os.environ.get("DESK", str(TOP / "desk"))
+    begins, ends = (time.strftime("%Y-%m-%dT00:00:00Z", time.gmtime(time.time() + days * 86_400)) for days in (0, 90))
+    lines = ["subscriber acme\n"]
+    for order in range(1, given.certificates + 1):
+        lines += ["order 1 398\n", f"register {order} {order:08x} {begins} {ends}\n"]
+    with tempfile.TemporaryDirectory(dir=".") as room:
+        init = [desk, "init", "ca.db", "--name", "300D310B300906035504030C024341", "--key", "616263", "--cap", "1000000"]
+        subprocess.run(init, cwd=room, check=True, stdout=subprocess.DEVNULL)
+        words = [desk, "open", "ca.db", "--control", "control", "--port", free_port(), "--unsigned"]
+        opened = subprocess.Popen(words, cwd=room, env=slow_syncs(room, given.sync_ms), stdout=subprocess.PIPE, stderr=subprocess.DEVNULL)
+        opened.stdout.readline()
+        seconds, refusal = exchange(f"{room}/control", lines, given.window)
+        opened.kill()
+        opened.wait()
+    print(f"{len(lines)} lines in {seconds:.2f} s: {len(lines) / seconds:.0f} a second" + (f", refused: {refusal!r}" if refusal else ""))
+
+
+main()

@@ -1,0 +1,73 @@
+//! Runs commands in one transaction.
+
+ghost use Rattle.std.specs.Prelude.{IfErr, IfOk};
+ghost use Rattle.reg_office.specs.Batches.{HappensWithin, RunsWithin, StopsBatch};
+ghost use Rattle.reg_office.specs.Calls.{SignsNothing};
+ghost use Rattle.reg_store_changes.specs.WithinTransactions.{StepsWithin};
+
+use crate::commands::decide;
+use crate::office::Office;
+use reg_core::{Command, Fault, Moment, Outcome, Refusal};
+use reg_crl::Signer;
+use sqlite::Alter;
+use std::alloc::Global;
+
+impl<C: Alter, S: Signer> Office<C, S> {
+    /// Runs commands inside the transaction that is under way, and returns one outcome for each. Errors, after which the transaction must be rolled
+    /// back: `Memory`; `Store`; `Signer` if a command issues a CRL.
+    pub(crate) fn run_each(
+        &mut self,
+        alloc: Global,
+        commands: &[(Moment, Command)],
+    ) -> Result<Vec<Outcome>, Fault>
+        ensures ran { IfOk result (λ outcomes. RunsWithin C.Store S.signs (S.identity self.old.signer)
+            self.old.store self.new.store commands.now outcomes.items) }
+        ensures stepped { StepsWithin C.Store self.old.store self.new.store }
+        ensures untouched { SignsNothing self.old self.new }
+        ensures faults { IfErr result StopsBatch }
+    {
+        let Ok(mut outcomes) = Vec::with_capacity(alloc, commands.len()) else {
+            return Err(Fault::Memory);
+        };
+        for (now, command) in commands {
+            let outcome = match self.run_within(*now, command) {
+                Ok(outcome) => outcome,
+                Err(fault) => return Err(fault),
+            };
+            let Ok(()) = outcomes.push(outcome) else {
+                return Err(Fault::Memory);
+            };
+        }
+        Ok(outcomes)
+    }
+
+    /// Runs a command inside the transaction that is under way. A refusal is an outcome too, and so is a fault that leaves the transaction under way. The errors
+    /// are those of [`Office::run_each`].
+    fn run_within(&mut self, now: Moment, command: &Command) -> Result<Outcome, Fault>
+        ensures ran { IfOk result (HappensWithin C.Store S.signs (S.identity self.old.signer)
+            self.old.store self.new.store now command.now) }
+        ensures stepped { StepsWithin C.Store self.old.store self.new.store }
+        ensures untouched { SignsNothing self.old self.new }
+        ensures faults { IfErr result StopsBatch }
+    {
+        if now >= Moment::CLOCK_END {
+            return Ok(Err(Fault::Refused(Refusal::ClockEnd)));
+        }
+        match *command {
+            Command::Crl => Err(Fault::Signer),
+            _ => match decide(&mut self.store, now, command) {
+                Ok((reply, change)) => match self.store.enter(now, &change) {
+                    Ok(()) => Ok(Ok(reply)),
+                    Err(_) => Err(Fault::Store),
+                },
+                Err(fault) => {
+                    // A failure of the database has ended the transaction.
+                    if self.store.is_idle() {
+                        return Err(Fault::Store);
+                    }
+                    Ok(Err(fault))
+                }
+            },
+        }
+    }
+}

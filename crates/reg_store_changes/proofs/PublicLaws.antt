@@ -1,0 +1,4 @@
+-- Lemmas of this crate that others use.
+pub use Rattle.reg_store_changes.proofs.Law.{kept_change}
+pub use Rattle.reg_store_changes.proofs.Transactions.{LeadOver, begun_within, commits_all, lives, stops}
+pub use Rattle.reg_store_changes.proofs.Within.{is_under_way, looked_step, no_step, steps_clean, steps_then}

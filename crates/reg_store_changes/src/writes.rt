@@ -1,0 +1,84 @@
+//! Statements that write inside a transaction, on a connection that look-ups use as well. (The `Transaction` of the crate `sqlite` lends its
+//! connection to nobody.)
+
+ghost use Rattle.std.specs.Prelude.{◌≡◌, IfOk, OnOk, true};
+ghost use Rattle.sqlite.specs.Held.{state};
+ghost use Rattle.sqlite.specs.State.{HasCleanDisk};
+ghost use Rattle.sqlite.specs.Values.{bound};
+ghost use Rattle.reg_store_tables.specs.Stays.{Ran};
+ghost use Rattle.reg_store_changes.specs.WithinTransactions.{BeginsTransaction, CommitsWithin, EndsTransaction, IsInTransaction, IsWritingText, RollsBack, StepsWithin};
+
+use crate::sql;
+use reg_store_tables::DatabaseFault;
+use sqlite::types::ValueRef;
+use sqlite::{Alter, Connection};
+
+/// Runs a statement inside the transaction, and returns how many rows it wrote. Errors: `Memory`; `Store` if the database fails or refuses a row, or
+/// if a failure has ended the transaction.
+pub(crate) fn write<S: Alter>(
+    conn: &mut Connection<S>,
+    sql: &str,
+    params: &[ValueRef<'_>],
+) -> Result<usize, DatabaseFault>
+    ensures ran { IsWritingText sql.now → IsInTransaction (state S.Store conn.old) → HasCleanDisk (state S.Store conn.new)
+        → IfOk result (Ran sql.now (bound params.now) (state S.Store conn.old) (state S.Store conn.new)) }
+    ensures stepped { IsWritingText sql.now → StepsWithin S.Store conn.old conn.new }
+    ensures under_way { OnOk result (conn.old.in_transaction ≡ true) }
+{
+    if conn.is_autocommit() {
+        return Err(DatabaseFault::Store);
+    }
+    Ok(conn.execute(sql, params)?)
+}
+
+/// BeginsTransaction a transaction. `Store` too if one is under way.
+pub fn begin<S: Alter>(conn: &mut Connection<S>) -> Result<(), DatabaseFault>
+    ensures { BeginsTransaction S.Store conn.old conn.new result }
+{
+    if !conn.is_autocommit() {
+        return Err(DatabaseFault::Store);
+    }
+    conn.execute(sql::BEGIN, &[])?;
+    Ok(())
+}
+
+/// EndsTransaction the transaction that is under way: commits it if `made` is `Ok`, or rolls it back and returns the error. Errors of the commit: `Memory`;
+/// `Store` if the database fails, or if a failure has ended the transaction. Then it is rolled back, unless the disk failed.
+pub fn end<S: Alter>(
+    conn: &mut Connection<S>,
+    made: Result<(), DatabaseFault>,
+) -> Result<(), DatabaseFault>
+    ensures { EndsTransaction S.Store conn.old conn.new made result }
+{
+    match made {
+        Ok(()) => commit(conn),
+        Err(fault) => {
+            roll_back(conn);
+            Err(fault)
+        }
+    }
+}
+
+fn commit<S: Alter>(conn: &mut Connection<S>) -> Result<(), DatabaseFault>
+    ensures { CommitsWithin S.Store conn.old conn.new result }
+{
+    if conn.is_autocommit() {
+        return Err(DatabaseFault::Store);
+    }
+    match conn.execute(sql::COMMIT, &[]) {
+        Ok(_) => Ok(()),
+        Err(error) => {
+            roll_back(conn);
+            Err(DatabaseFault::from(error))
+        }
+    }
+}
+
+/// Rolls back the transaction that is under way, if one is.
+fn roll_back<S: Alter>(conn: &mut Connection<S>)
+    ensures { RollsBack S.Store conn.old conn.new }
+{
+    if !conn.is_autocommit() {
+        let _ = conn.execute(sql::ROLLBACK, &[]);
+    }
+}

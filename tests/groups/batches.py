@@ -1,0 +1,134 @@
+"""Commands that have arrived together at the control socket run in one transaction. Each reply is what it is if the lines come one by one."""
+
+import contextlib
+import os
+import random
+import signal
+
+from lib import faults, program
+from lib.program import Control
+from lib.trial import each, test
+
+DAY = "2026-01-01T00:00:00Z"
+END = "2026-12-31T00:00:00Z"
+LATER = "2026-01-02T00:00:00Z"
+
+
+def send_together(desk, control, lines):
+    """Sends lines to a desk that is stopped meanwhile, so that it finds all of them at once. Returns a reply for each, up to the end of the connection."""
+    os.kill(desk.process.pid, signal.SIGSTOP)
+    try:
+        control.peer.sendall("".join(f"{line}\n" for line in lines).encode())
+    finally:
+        os.kill(desk.process.pid, signal.SIGCONT)
+    return read_replies(control, len(lines))
+
+
+def read_replies(control, count):
+    replies = []
+    with contextlib.suppress(ConnectionResetError):
+        while len(replies) < count and (reply := control.file.readline()):
+            replies.append(reply.decode("latin-1").rstrip("\n"))
+    return replies
+
+
+def mixed_lines(count):
+    """Commands that are accepted or refused, and now and then another line."""
+    chosen, lines = random.Random(count), []
+    for at in range(count):
+        serial = f"{chosen.randrange(1, 40):02x}"
+        lines.append(chosen.choice([
+            f"subscriber name{at}", "subscriber name0", "order 1 398", "order 77 398", f"register {at + 1} {serial} {DAY} {END}",
+            f"register 1 {serial} {DAY} {END}", f"request {serial} superseded", f"revoke {chosen.randrange(1, 9)}", f"decline {chosen.randrange(1, 9)}",
+            f"revoke 1 {serial}",
+        ] + ["counts", "why", f"status {serial}", "not a line", "", "crl"][at % 6:at % 6 + 1]))
+    return lines
+
+
+def contents(t, file):
+    return [t.done("list", file, word) for word in ("subscribers", "orders", "certificates", "requests", "revoked")]
+
+
+@each({str(count): count for count in (1, 2, 10, 255, 256, 257, 300, 700)}, seconds=2)
+def replies_are_those_of_lines_one_by_one(t, count):
+    lines = mixed_lines(count)
+    told = {}
+    for name in ("together", "alone"):
+        t.register(f"{name}.db", f"{DAY} subscriber acme\n{DAY} order 1 398\n{DAY} register 1 01 {DAY} {END}\n{DAY} request 01 misuse\n")
+        t.clock(LATER)
+        desk = t.open(f"{name}.db", "--control", name, "--log-file", f"{name}.log")
+        with t.control(name) as control:
+            told[name] = send_together(desk, control, lines) if name == "together" else [control.ask(line) for line in lines]
+        desk.end()
+    t.same(told["together"], told["alone"], "the replies")
+    t.same(contents(t, "together.db"), contents(t, "alone.db"), "the records")
+    logs = [[line.split('"')[1::2] for line in (t.room / f"{name}.log").read_text().splitlines()] for name in ("together", "alone")]
+    t.same(logs[0], logs[1], "the lines in the log")
+    t.same(t.desk("audit", "together.db").status, 0, "status of an audit")
+
+
+def subscribers(count):
+    return [f"subscriber name{at}" for at in range(count)]
+
+
+@test(seconds=2)
+def two_hundred_and_fifty_six_commands_are_synced_once(t):
+    t.register()
+    t.clock(DAY)
+    desk = t.open("ca.db", faults=faults.environment(count=t.room / "count"))
+    with t.control() as control:
+        t.same(control.ask("subscriber first"), "subscriber 1", "the line before them")
+        before = faults.counted(t.room / "count")["sync"]
+        t.same(control.ask("subscriber second"), "subscriber 2", "one line alone")
+        once = faults.counted(t.room / "count")["sync"] - before
+        t.true(once > 0, "a line alone was not synced")
+        before = faults.counted(t.room / "count")["sync"]
+        t.same(send_together(desk, control, subscribers(256)), [f"subscriber {at + 3}" for at in range(256)], "the replies")
+        t.same(faults.counted(t.room / "count")["sync"] - before, once, "syncs for 256 lines")
+        before = faults.counted(t.room / "count")["sync"]
+        send_together(desk, control, [f"subscriber more{at}" for at in range(512)])
+        t.same(faults.counted(t.room / "count")["sync"] - before, 2 * once, "syncs for 512 lines")
+
+
+@test(seconds=2)
+def none_has_happened_if_the_commit_fails(t):
+    t.register()
+    t.clock(DAY)
+    desk = t.open("ca.db", faults=faults.environment(count=t.room / "usual"))
+    with t.control() as control:
+        control.ask("counts")
+        before = faults.counted(t.room / "usual")["sync"]
+    desk.end()
+    desk = t.open("ca.db", "--control", "second", faults=faults.environment(count=t.room / "count", fail=f"sync:{before + 1}+"))
+    with t.control("second") as control:
+        t.same(send_together(desk, control, subscribers(20)), ["F2 store"] * 20, "the replies")
+    t.true(faults.counted(t.room / "count")["met"] > 0, "no sync failed")
+    desk.end(signal.SIGKILL)
+    t.same(t.done("list", "ca.db", "subscribers").splitlines()[1:], [], "the subscribers after a restart")
+    t.same(t.desk("audit", "ca.db").status, 0, "status of an audit")
+
+
+@test(seconds=20)
+def a_stop_leaves_all_of_them_or_none(t):
+    """The desk is killed in place of each of its steps. If a reply has come, all commands of the transaction are in the register."""
+    base = t.register("base.db")
+    found = set()
+    for stop in range(1, 1000):
+        faults.copy(base, t.room / "ca.db")
+        env = faults.environment(count=t.room / "count", stop=stop, lose=stop)
+        with program.Opened(["open", "ca.db", "--control", "counter", "--unsigned"], cwd=t.room, faults=env, clock=DAY) as desk:
+            replies = []
+            if desk.listens:
+                with contextlib.suppress(ConnectionError, FileNotFoundError), Control(t.room / "counter") as control:
+                    with contextlib.suppress(ProcessLookupError, BrokenPipeError):
+                        replies = send_together(desk, control, subscribers(10))
+            is_stopped = desk.process.poll() is not None or len(replies) < 10
+            desk.process.kill()
+        with contextlib.suppress(FileNotFoundError):
+            os.remove(t.room / "counter")
+        kept = len(t.done("list", "ca.db", "subscribers").splitlines()[1:])
+        t.true(kept in (0, 10) and kept >= len(replies), f"step {stop}: {kept} subscribers are in the register after {len(replies)} replies")
+        found.add((kept, len(replies)))
+        if not is_stopped:
+            break
+    t.true((0, 0) in found and (10, 10) in found, f"the stops left only {found}")
