@@ -39,6 +39,7 @@ import signal
 import socket
 import stat
 import sys
+import time
 
 from cryptography.exceptions import InvalidSignature
 from cryptography.hazmat.primitives import hashes
@@ -51,7 +52,7 @@ from cryptography.hazmat.primitives.serialization import (
 sys.dont_write_bytecode = True
 from only_ours import LONGEST, Refused, check, read_certificate  # noqa: E402
 
-# How many seconds a read may wait: the desk waits as long for a signature.
+# How many seconds a client has for its message: the desk waits as long for a signature.
 PATIENCE = 10
 # The first descriptor that systemd hands over (sd_listen_fds(3)).
 HANDED_OVER = 3
@@ -189,13 +190,16 @@ def soon(call, at, patience, meanwhile):
 
 
 def message_of(connection):
-    """The message that the client writes, up to its end; None if it is too long."""
+    """The message that the client writes, up to its end; None if it is too long. TimeoutError if it is not whole in time."""
+    last = time.monotonic() + PATIENCE
     parts, length = [], 0
-    while part := soon(lambda: os.read(connection, 65536), [connection], PATIENCE, nothing):
+    while part := soon(lambda: os.read(connection, 65536), [connection], max(0, last - time.monotonic()), nothing):
         parts.append(part)
         length += len(part)
         if length > LONGEST:
             return None
+        if time.monotonic() > last:
+            raise TimeoutError("the message was not whole in time")
     return parts[0] if len(parts) == 1 else b"".join(parts)
 
 
@@ -272,10 +276,13 @@ def serve(listener, sign, draw):
 
 def share(count):
     """Forks until there are so many processes, which all end with the first; returns whether this is the first."""
+    first = os.getpid()
     for _ in range(count - 1):
         if os.fork() == 0:
-            # PR_SET_PDEATHSIG (prctl(2)).
+            # PR_SET_PDEATHSIG (prctl(2)). No signal comes if the first has ended already.
             ctypes.CDLL(None).prctl(1, signal.SIGTERM)
+            if os.getppid() != first:
+                sys.exit(0)
             return False
     return True
 

@@ -1,11 +1,13 @@
 """A signer that signs only the desk's messages for one issuer: examples/signer.py --only-ours, and examples/only_ours.py in front of openssl.
 The accepted messages come from the program itself; the refused ones come from openssl, or are made by hand."""
 
+import contextlib
 import random
 import signal
 import socket
 import subprocess
 import sys
+import threading
 import time
 
 from lib import authority, native, program
@@ -507,6 +509,36 @@ def a_socket_that_is_handed_over(t):
     t.same((ran.returncode, b"no socket was handed over" in ran.stderr), (1, True), "status, and whether the cause is reported, without a socket")
     ran = t.tried(*words, "ca.sign")
     t.same(ran.returncode, 2, "status with a path as well")
+
+
+@test(seconds=4)
+def a_client_that_writes_slowly_holds_nobody_up_for_long(t):
+    """A client has ten seconds for its whole message. Here it has one, and sends an octet every tenth of a second."""
+    authority.need_cryptography(t)
+    it = Authority(t)
+    (t.room / "only_ours.py").write_bytes((EXAMPLES / "only_ours.py").read_bytes())
+    text = (EXAMPLES / "signer.py").read_text()
+    t.true("\nPATIENCE = 10\n" in text, "signer.py has no line PATIENCE = 10")
+    (t.room / "signer.py").write_text(text.replace("\nPATIENCE = 10\n", "\nPATIENCE = 1\n"))
+    authority.started(t, ["python3", t.room / "signer.py", it.key, "ca.sign"], t.room / "ca.sign")
+    with socket.socket(socket.AF_UNIX) as slow:
+        slow.connect(str(t.room / "ca.sign"))
+        is_over = threading.Event()
+
+        def write_slowly():
+            with contextlib.suppress(OSError):
+                while not is_over.wait(0.1):
+                    slow.sendall(b"x")
+
+        writer = threading.Thread(target=write_slowly)
+        writer.start()
+        try:
+            begun = time.monotonic()
+            t.true(signature(t.room / "ca.sign", b"a message") != b"", "the signer gave the second client no signature")
+            t.true(time.monotonic() - begun < 20 * program.PATIENCE, f"the second client waited {time.monotonic() - begun:.1f} s")
+        finally:
+            is_over.set()
+            writer.join()
 
 
 @test(seconds=2)

@@ -262,6 +262,9 @@ def a_unit_that_fails_does_not_fail_the_package(t):
     """Otherwise dpkg would leave the package half-configured, or refuse to remove it. The script says what to look at."""
     told = "durshavon: not every service was restarted: systemctl --failed 'desk*' names the others\n"
     maintained(t, "postinst", "configure", "1", fails="try-restart", reports=told)
+    told = "durshavon: systemd has not read its units again: systemctl daemon-reload\n"
+    maintained(t, "postinst", "configure", "1", fails="daemon-reload", reports=told)
+    maintained(t, "postrm", "remove", fails="daemon-reload", reports=told)
     told = "durshavon: units of a register may still be enabled, in /etc/systemd/system\n"
     maintained(t, "prerm", "remove", fails="disable", reports=told)
 
