@@ -563,20 +563,7 @@ def two_hundred_clients_at_once(t, count):
 def clients_connect_while_it_is_busy(t):
     """A signer that is stopped accepts nobody for a while. Meanwhile the queue of its socket takes sixty clients, who all get their signatures afterwards."""
     it = Authority(t)
-    process = started(t, it.key)
-    t.callback(process.send_signal, signal.SIGCONT)
-    process.send_signal(signal.SIGSTOP)
-    clients = []
-    for at in range(60):
-        client = t.enter_context(socket.socket(socket.AF_UNIX))
-        client.setblocking(False)
-        t.same(client.connect_ex(str(t.room / "ca.sign")), 0, f"the error of connect(2) for client {at}")
-        client.settimeout(program.LONGEST)
-        client.sendall(b"a message")
-        client.shutdown(socket.SHUT_WR)
-        clients.append(client)
-    process.send_signal(signal.SIGCONT)
-    t.same([at for at, client in enumerate(clients) if not program.read_all(client)], [], "clients without a signature")
+    t.same(authority.unserved_behind(t, started(t, it.key), t.room / "ca.sign", 60), 0, "clients without a signature")
 
 
 @test(seconds=3)

@@ -187,20 +187,8 @@ def examples_signer_py_has_a_queue_for_all_requests_of_a_desk(t):
     authority.need_cryptography(t)
     it = Authority(t)
     process = authority.started(t, ["python3", authority.EXAMPLES / "signer.py", it.key, "ca.sign"], t.room / "ca.sign")
-    t.callback(process.send_signal, signal.SIGCONT)
     t.true(signature(t.room / "ca.sign", b"a message") != b"", "the signer does not sign")
-    process.send_signal(signal.SIGSTOP)
-    clients = []
-    for at in range(32):
-        client = t.enter_context(socket.socket(socket.AF_UNIX))
-        client.setblocking(False)
-        t.same(client.connect_ex(str(t.room / "ca.sign")), 0, f"the error of connect(2) for client {at}")
-        client.settimeout(program.LONGEST)
-        client.sendall(b"a message")
-        client.shutdown(socket.SHUT_WR)
-        clients.append(client)
-    process.send_signal(signal.SIGCONT)
-    t.same([at for at, client in enumerate(clients) if not program.read_all(client)], [], "clients without a signature")
+    t.same(authority.unserved_behind(t, process, t.room / "ca.sign", 32), 0, "clients without a signature")
 
 
 @test(seconds=5)

@@ -6,6 +6,7 @@ import contextlib
 import datetime
 import os
 import re
+import signal
 import socket
 import subprocess
 import tempfile
@@ -288,6 +289,23 @@ def started(t, words, made):
     if process.poll() is not None:
         raise Failed(f"{words[0]} ended: {process.stderr.read()!r}")
     return process
+
+
+def unserved_behind(t, process, path, count):
+    """How many of these clients get no signature, if they connect and send a message while the signer is stopped."""
+    t.callback(process.send_signal, signal.SIGCONT)
+    process.send_signal(signal.SIGSTOP)
+    clients = []
+    for at in range(count):
+        client = t.enter_context(socket.socket(socket.AF_UNIX))
+        client.setblocking(False)
+        t.same(client.connect_ex(str(path)), 0, f"the error of connect(2) for client {at}")
+        client.settimeout(program.LONGEST)
+        client.sendall(b"a message")
+        client.shutdown(socket.SHUT_WR)
+        clients.append(client)
+    process.send_signal(signal.SIGCONT)
+    return sum(not program.read_all(client) for client in clients)
 
 
 def end(process):
