@@ -2,12 +2,12 @@
 # Measures OCSP answers a second over a register of 100,000 certificates, with one connection for each request. `desk open` and `openssl ocsp -port`
 # with a P-256 issuer get the same requests from the same client, in turns: from one client and from 32 at once, for eight certificates and for
 # 4,096, and `desk open` also beside 200 idle connections. Prints the median latency, and that which one in a hundred exceeds. Then wrk, if it is
-# installed, requests the eight certificates, with the servers and the signer on one, two and four processors. Then commands a second at the control
-# socket, and with `desk script`.
+# installed, requests the eight certificates, with the servers and the signer on one, two and four processors, and prints their processor time for
+# each answer. Then commands a second at the control socket, and with `desk script`.
 # The desk uses a placeholder digest, which costs next to nothing. With --signed it uses the same P-256 key as openssl. The program SIGNER
-# (signer/desk-signer, or examples/signer.py if that is not built) holds the key, in SIGNERS processes (2: with more of them, on four cores, an idle
-# process that polls takes time from the client). --signed also measures a signer that takes 5 ms, one answer after the other and 32 at once, and how
-# long other requests wait while a signer hangs.
+# (signer/desk-signer, with persistent connections, or examples/signer.py if that is not built) holds the key, in SIGNERS processes (2: with more of
+# them, on four cores, an idle process that polls takes time from the client). --signed also measures a signer that takes 5 ms, one answer after the
+# other and 32 at once, and how long other requests wait while a signer hangs.
 #
 # Usage, from the repository's root: bench/ocsp.sh [--signed] [NUMBER OF CERTIFICATES [NUMBER OF REQUESTS A ROUND]]     (100000 10000)
 # It needs openssl and python3; with --signed and examples/signer.py also python3's package cryptography.
@@ -48,7 +48,10 @@ openssl ocsp -index index.txt -port 8091 -rsigner ca.pem -rkey ca.key -CA ca.pem
 theirs=$!
 set -- open ca.db --port 8092 --control ca.control
 if [ -n "$signed" ]; then
-    "$signer" --processes "${SIGNERS:-2}" ca.key ca.sign >/dev/null &
+    persistent=
+    [ "$(basename "$signer")" != desk-signer ] || persistent=--persistent
+    # shellcheck disable=SC2086 # an empty one adds no word
+    "$signer" $persistent --processes "${SIGNERS:-2}" ca.key ca.sign >/dev/null &
     holder=$!
     sleep 2
     set -- "$@" --signer ca.sign --algorithm ecdsa-sha256
@@ -61,6 +64,11 @@ fi
 ours=$!
 sleep 3
 python3 "$client" ask "$requests" 8091 8092 ./*.der
+# ticks "PID ..": the processor time of these processes, in hundredths of a second.
+ticks() {
+    # shellcheck disable=SC2046,SC2086 # the words are meant to be split
+    awk '{ sum += $14 + $15 } END { print sum }' $(printf '/proc/%s/stat ' $1)
+}
 if command -v wrk >/dev/null; then
     for processors in 0 0,1 0-3; do
         for process in "$theirs" "$ours" $holder $(pgrep -P "${holder:-$$}" -f sign || true); do
@@ -68,8 +76,12 @@ if command -v wrk >/dev/null; then
         done
         for clients in 1 32; do
             for port in 8091 8092; do
-                printf 'wrk, %s clients, %s on processors %s: ' "$clients" "$([ $port = 8091 ] && echo openssl || echo desk)" "$processors"
-                OCSP_REQUESTS=$(echo ./*.der) wrk -t 1 -c "$clients" -d 3s -s "$bench/ocsp.lua" "http://127.0.0.1:$port/ocsp" | tail -n 1
+                servers="$ours $holder $(pgrep -P "${holder:-$$}" -f sign || true)"
+                [ $port = 8092 ] || servers=$theirs
+                before=$(ticks "$servers")
+                line=$(OCSP_REQUESTS=$(echo ./*.der) wrk -t 1 -c "$clients" -d 3s -s "$bench/ocsp.lua" "http://127.0.0.1:$port/ocsp" | tail -n 1)
+                each=$(((($(ticks "$servers") - before) * 10000) / (${line%% *} * 3)))
+                echo "wrk, $clients clients, $([ $port = 8091 ] && echo openssl || echo desk) on processors $processors: $line; processor time each: $each us"
             done
         done
     done

@@ -24,6 +24,8 @@ from only_ours import OCTETS, SEQUENCE, is_verified, read_certificate  # noqa: E
 
 # The desk waits this many seconds for a signature, and accepts at most this many octets.
 PATIENCE, LONGEST_SIGNATURE = 10, 4096
+# The octets before the signature of a signer that has persistent connections (signer/README.md).
+ANNOUNCEMENT = b"desk-signer/1 \r\n"
 MOMENT = b"\x18\x0F19700101000000Z"
 
 
@@ -50,14 +52,14 @@ def signature_of(message, path):
         peer.connect(path)
         peer.sendall(message)
         peer.shutdown(socket.SHUT_WR)
-        signature = b""
-        while len(signature) <= LONGEST_SIGNATURE:
+        answer = b""
+        while len(answer) <= len(ANNOUNCEMENT) + LONGEST_SIGNATURE:
             # A read may not wait for 0 seconds: that would mean not to block.
             peer.settimeout(max(deadline - time.monotonic(), 0.001))
             if not (part := peer.recv(LONGEST_SIGNATURE)):
                 break
-            signature += part
-        return signature
+            answer += part
+        return answer.removeprefix(ANNOUNCEMENT)
 
 
 def check(path, signer, certificate):

@@ -31,12 +31,17 @@
 
 /* At most CONNECTIONS are open at once, each with room for SMALL octets; HANDED_OVER is the descriptor that systemd passes (sd_listen_fds(3)). */
 enum { CONNECTIONS = 256, MOST_PROCESSES = 256, SMALL = 1024, HANDED_OVER = 3, HEAP = 1 << 17, STACK = 1 << 16 };
+/* With --persistent a signature begins with the announcement. On a persistent connection, each message and signature begins with its length. */
+enum { LENGTH = 4, ANNOUNCED = 16 };
+static const unsigned char announcement[ANNOUNCED + 1] = "desk-signer/1 \r\n";
 /* The buffers of larger messages have at most MOST_BUFFERED octets together; about ROUND octets of a message are read before the others' turn. */
 static const size_t LONGEST_MESSAGE = (size_t)64 << 20, MOST_BUFFERED = (size_t)512 << 20, ROUND = (size_t)1 << 20;
 static const long long SECOND = 1000000000, PATIENCE = 10 * SECOND;
 /* For so many nanoseconds a process polls for the message of a new client, or for the next client, before it sleeps: waking up takes time. */
 static const long long MESSAGE_DUE = 50000;
 static long long client_due = 300000;
+/* For so many nanoseconds a process leaves a new client to those with fewer persistent connections. */
+static const long long LEFT_TO_OTHERS = 10000000;
 
 static const char usage[] =
     "Usage: desk-signer [OPTION ..] KEY SOCKET        signs at a Unix socket, which it creates with mode 0600\n"
@@ -50,19 +55,27 @@ static const char usage[] =
     "  --rate N                 at most N signatures a second by all processes, evenly spaced; further clients wait\n"
     "  --user NAME              once the socket is created, give it to this user, and become this user\n"
     "  --allow-swap             go on if the memory can't be locked\n"
-    "  --fresh-nonces           draw no nonces ahead, since this machine's memory may be copied\n";
+    "  --fresh-nonces           draw no nonces ahead, since this machine's memory may be copied\n"
+    "  --persistent             announce persistent connections in each signature, and serve them\n";
+
+/* The state of a connection's message. While IDLE, a persistent connection, or one on which no octet has come, waits for its next message. */
+enum state { IDLE, INCOMPLETE, COMPLETE };
 
 struct connection {
     int socket;
-    bool is_complete;
+    enum state state;
+    /* With --persistent, a connection is new until its first octet comes, and persistent if that is 0. A new one counts as persistent. */
+    bool is_new, is_persistent;
+    /* When its message began to come, or when it became idle. */
     long long arrived;
     size_t length, room;
     unsigned char *message, small[SMALL];
 };
 
 /* The options of the command line. `options` has the value of each, "" for a flag, and NULL if it was not given. The flags begin at FLAGS. */
-enum { ONLY_OURS, RESPONDER, PASSPHRASE_FILE, USER, PROCESSES, RATE, FLAGS, INHERITED = FLAGS, ALLOW_SWAP, FRESH_NONCES, OPTIONS };
-static const char *const names[OPTIONS] = {"only-ours", "responder", "passphrase-file", "user", "processes", "rate", "inherited", "allow-swap", "fresh-nonces"};
+enum { ONLY_OURS, RESPONDER, PASSPHRASE_FILE, USER, PROCESSES, RATE, FLAGS, INHERITED = FLAGS, ALLOW_SWAP, FRESH_NONCES, PERSISTENT, OPTIONS };
+static const char *const names[OPTIONS] = {"only-ours", "responder",  "passphrase-file", "user",      "processes",
+                                           "rate",      "inherited", "allow-swap", "fresh-nonces", "persistent"};
 static const char *options[OPTIONS], *key_name, *path;
 static long processes = 1, rate;
 
@@ -72,17 +85,23 @@ static char passphrase[1024];
 static int listener = -1;
 static pid_t first, others[MOST_PROCESSES];
 static bool is_first = true;
+/* The index of this process: 0 in the first one. */
+static long process_index;
 /* The socket at `path`, if it was created: its descriptor (O_PATH, else -1), and its device and inode. */
 static int created = -1;
 static struct stat socket_file;
 /* The first `count` of `open_ones` are open. */
 static struct connection connections[CONNECTIONS], *open_ones[CONNECTIONS];
 static size_t count, buffered;
-/* When this process last accepted a connection, when it last ended one, and how long before the last arrival any of the processes had ended one. */
+/* When a connection or a message last came to this process, when it last ended or answered one, and how long before the last arrival any of the
+ * processes had done so. */
 static long long last_arrival, last_end, last_gap = PATIENCE;
-/* For all processes: when the next signature may be made, and when a connection last ended. */
+/* Until when this process leaves the client that waits to the others; 0 if it leaves them none. */
+static long long left_until;
+/* For all processes: when the next signature may be made, when a connection last ended or was answered, and how many persistent ones each has. */
 static struct shared {
     _Atomic long long next_signature, last_end;
+    atomic_long persistent[MOST_PROCESSES];
 } *shared;
 static volatile sig_atomic_t ended;
 
@@ -101,19 +120,43 @@ static long long nanoseconds(void) {
 
 /* The connections */
 
+static void be_persistent(struct connection *it, bool is_persistent) {
+    it->is_persistent = is_persistent;
+    atomic_fetch_add(&shared->persistent[process_index], is_persistent ? 1 : -1);
+}
+
+static void note_arrival(struct connection *it) {
+    it->state = INCOMPLETE;
+    it->arrived = last_arrival = nanoseconds();
+    last_gap = last_arrival - atomic_load(&shared->last_end);
+}
+
+static void note_end(void) {
+    last_end = nanoseconds();
+    atomic_store(&shared->last_end, last_end);
+}
+
+/* Frees the mapping of a large message. */
+static void shrink(struct connection *it) {
+    if (it->message == it->small)
+        return;
+    (void)munmap(it->message, it->room);
+    buffered -= it->room;
+    it->message = it->small;
+    it->room = SMALL;
+}
+
 static void end_connection(struct connection *it) {
     size_t at = 0;
     while (open_ones[at] != it)
         at++;
     (void)close(it->socket);
-    if (it->message != it->small) {
-        (void)munmap(it->message, it->room);
-        buffered -= it->room;
-    }
+    shrink(it);
+    if (it->is_persistent)
+        be_persistent(it, false);
     open_ones[at] = open_ones[--count];
     open_ones[count] = it;
-    last_end = nanoseconds();
-    atomic_store(&shared->last_end, last_end);
+    note_end();
 }
 
 static void fail(struct connection *it, const char *why) {
@@ -138,38 +181,101 @@ static bool grow(struct connection *it) {
     return true;
 }
 
-/* Called when the client has shut down its sending side: with --only-ours, refuses a message that is not the issuer's. */
-static void complete(struct connection *it) {
-    char why[REASON];
-    it->is_complete = true;
-    if (options[ONLY_OURS] == NULL || is_ours((struct octets){it->message, it->length}, &issuer, options[RESPONDER] ? &responder : NULL, why))
-        return;
-    warnx("refused to sign %zu bytes: %s", it->length, why);
-    end_connection(it);
+/* Where in its buffer a message ends, if that is known: on a persistent connection, once its length has come. */
+static size_t end_of(const struct connection *it) {
+    const unsigned char *at = it->message;
+    return it->is_persistent && it->length >= LENGTH ? LENGTH + ((size_t)at[1] << 16 | (size_t)at[2] << 8 | at[3]) : SIZE_MAX;
 }
 
+/* The message of a connection, which has come whole. */
+static struct octets message_of(const struct connection *it) {
+    return it->is_persistent ? (struct octets){it->message + LENGTH, end_of(it) - LENGTH} : (struct octets){it->message, it->length};
+}
+
+/* Called when a message has come whole. With --only-ours, returns false if it is not the issuer's. */
+static bool complete(struct connection *it) {
+    char why[REASON];
+    it->state = COMPLETE;
+    if (options[ONLY_OURS] == NULL || is_ours(message_of(it), &issuer, options[RESPONDER] ? &responder : NULL, why))
+        return true;
+    warnx("refused to sign %zu bytes: %s", message_of(it).length, why);
+    return false;
+}
+
+/* Sends the signature of a message, or that there is none if `length` is 0. The memory has room for ANNOUNCED octets before `signature`. Then a
+ * persistent connection is idle, with the octets behind the message in `small`; any other one ends. Returns whether the connection is open. */
+static bool reply(struct connection *it, unsigned char *signature, size_t length) {
+    const unsigned char octets[LENGTH] = {0, 0, (unsigned char)(length >> 8), (unsigned char)length};
+    size_t head = it->is_persistent ? LENGTH : options[PERSISTENT] && length > 0 ? ANNOUNCED : 0, end = end_of(it);
+    memcpy(signature - head, it->is_persistent ? octets : announcement, head);
+    bool is_sent = head + length == 0 || send(it->socket, signature - head, head + length, MSG_NOSIGNAL | MSG_DONTWAIT) == (ssize_t)(head + length);
+    if (!is_sent)
+        warn("a connection failed");
+    if (!is_sent || !it->is_persistent) {
+        end_connection(it);
+        return false;
+    }
+    it->length -= end;
+    memmove(it->small, it->message + end, it->length);
+    shrink(it);
+    note_end();
+    it->state = IDLE;
+    it->arrived = last_end;
+    return true;
+}
+
+/* Completes the message of a persistent connection, if it has come whole. If that is refused, completes the next one. */
+static void proceed(struct connection *it) {
+    unsigned char nothing[ANNOUNCED];
+    while (it->length > 0) {
+        if (it->state == IDLE)
+            note_arrival(it);
+        if (it->message[0] != 0)
+            return fail(it, "its message is longer than 16,777,215 bytes");
+        if (it->length < end_of(it) || complete(it) || !reply(it, nothing + ANNOUNCED, 0))
+            return;
+    }
+}
+
+/* Called when the client has shut down its sending side, or has disconnected. */
+static void end_input(struct connection *it) {
+    if (it->is_persistent && it->state == INCOMPLETE)
+        fail(it, "its message is incomplete");
+    else if (it->is_persistent || !complete(it))
+        end_connection(it);
+}
+
+/* On a persistent connection, reads no further than the end of a message whose length has come: so the octets behind a message fit into `small`. */
 static void receive(struct connection *it) {
     for (size_t got = 0; got < ROUND;) {
         if (it->length == it->room && !grow(it))
             return fail(it, "out of memory for its message");
-        ssize_t read = recv(it->socket, it->message + it->length, it->room - it->length, 0);
+        size_t end = end_of(it) < it->room ? end_of(it) : it->room;
+        ssize_t read = recv(it->socket, it->message + it->length, end - it->length, 0);
         if (read == 0)
-            return complete(it);
+            return end_input(it);
         if (read < 0 && (errno == EAGAIN || errno == EINTR))
             return;
         if (read < 0)
             return fail(it, strerror(errno));
+        if (it->is_new && it->message[0] != 0) {
+            be_persistent(it, false);
+            note_arrival(it);
+        }
+        it->is_new = false;
         it->length += (size_t)read;
         got += (size_t)read;
         if (it->length > LONGEST_MESSAGE)
             return fail(it, "its message is longer than 64 MiB");
+        if (it->is_persistent)
+            return proceed(it);
     }
 }
 
-static struct connection *oldest(bool is_complete) {
+static struct connection *oldest(enum state state) {
     struct connection *found = NULL;
     for (size_t i = 0; i < count; i++)
-        if (open_ones[i]->is_complete == is_complete && (!found || open_ones[i]->arrived < found->arrived))
+        if (open_ones[i]->state == state && (!found || open_ones[i]->arrived < found->arrived))
             found = open_ones[i];
     return found;
 }
@@ -177,20 +283,38 @@ static struct connection *oldest(bool is_complete) {
 static void open_connection(int socket) {
     struct connection *it = open_ones[count++];
     it->socket = socket;
-    it->is_complete = false;
-    it->arrived = last_arrival = nanoseconds();
-    last_gap = last_arrival - atomic_load(&shared->last_end);
+    it->is_persistent = false;
+    it->is_new = options[PERSISTENT] != NULL;
+    note_arrival(it);
+    if (it->is_new) {
+        be_persistent(it, true);
+        it->state = IDLE;
+    }
     it->message = it->small;
     it->length = 0;
     it->room = SMALL;
     receive(it);
 }
 
-/* Accepts one connection: another process may accept the next one. If CONNECTIONS are open, closes the oldest one whose message is incomplete. */
+/* Whether this process has more persistent connections than the average of all processes. */
+static bool has_more_than_others(void) {
+    long all = 0;
+    for (long i = 0; i < processes; i++)
+        all += atomic_load(&shared->persistent[i]);
+    return atomic_load(&shared->persistent[process_index]) * processes > all;
+}
+
+/* Accepts one connection: another process may accept the next one. If CONNECTIONS are open, closes the one that is idle for longest, else the oldest
+ * one whose message is incomplete. */
 static void accept_connection(void) {
-    struct connection *slowest = oldest(false);
-    if (count == CONNECTIONS && slowest == NULL)
+    struct connection *idle = oldest(IDLE), *slowest = oldest(INCOMPLETE);
+    if (count == CONNECTIONS && idle == NULL && slowest == NULL)
         return;
+    if (left_until == 0 && has_more_than_others()) {
+        left_until = nanoseconds() + LEFT_TO_OTHERS;
+        return;
+    }
+    left_until = 0;
     int socket = accept4(listener, NULL, NULL, SOCK_NONBLOCK | SOCK_CLOEXEC);
     if (socket < 0 && (errno == EAGAIN || errno == EINTR || errno == ECONNABORTED))
         return;
@@ -199,7 +323,9 @@ static void accept_connection(void) {
         (void)poll(NULL, 0, 100);
         return;
     }
-    if (count == CONNECTIONS)
+    if (count == CONNECTIONS && idle)
+        end_connection(idle);
+    else if (count == CONNECTIONS)
         fail(slowest, "it is the slowest of 256, and another one waits");
     open_connection(socket);
 }
@@ -213,26 +339,28 @@ static bool take_turn(long long now) {
 }
 
 static void answer(struct connection *it) {
-    unsigned char signature[LONGEST_SIGNATURE];
+    unsigned char octets[ANNOUNCED + LONGEST_SIGNATURE], *signature = octets + ANNOUNCED;
     char why[REASON];
-    size_t length = sign_message(&signer, (struct octets){it->message, it->length}, signature, why);
+    size_t length = sign_message(&signer, message_of(it), signature, why);
     if (length == 0)
-        warnx("refused to sign %zu bytes: %s", it->length, why);
-    else if (send(it->socket, signature, length, MSG_NOSIGNAL | MSG_DONTWAIT) != (ssize_t)length)
-        warn("a connection failed");
-    end_connection(it);
+        warnx("refused to sign %zu bytes: %s", message_of(it).length, why);
+    if (reply(it, signature, length))
+        proceed(it);
     /* After a token was removed, its session stays lost. */
     if (length == 0 && is_token(key_name))
         errx(1, "the token gives no more signatures");
 }
 
-/* How many nanoseconds to wait for clients: up to the next signature, to the end of a client's time, or until nonces are forgotten. */
+/* How many nanoseconds to wait for clients: up to the next signature, to the end of a client's time, until nonces are forgotten, or while the
+ * next client is left to others. */
 static long long wait_time(long long now, const struct connection *slow) {
     long long at = slow ? slow->arrived + PATIENCE : now + PATIENCE, forgets = last_end + SECOND;
-    if (oldest(true) && atomic_load(&shared->next_signature) < at)
+    if (oldest(COMPLETE) && atomic_load(&shared->next_signature) < at)
         at = atomic_load(&shared->next_signature);
     if (signer.drawn > 0 && forgets < at)
         at = forgets;
+    if (left_until > now && left_until < at)
+        at = left_until;
     return at > now ? at - now : 0;
 }
 
@@ -246,26 +374,30 @@ static void handle_signals(const sigset_t *while_waiting) {
 /* Waits for clients. A client whose signature must wait only ends the wait when it disconnects. */
 static void wait_for_clients(const sigset_t *signals) {
     struct pollfd polled[CONNECTIONS + 1];
-    const struct connection *slow = oldest(false);
+    const struct connection *slow = oldest(INCOMPLETE);
     long long now = nanoseconds();
     bool is_message_due = slow && now - last_arrival < MESSAGE_DUE, is_client_due = last_gap < client_due && now - last_end < client_due;
     bool draws = !is_message_due && wants_nonce(&signer) && now - last_end < SECOND;
     long long wait = is_message_due || is_client_due || draws ? 0 : wait_time(now, slow);
     struct timespec timeout = {wait / SECOND, wait % SECOND};
     size_t polled_count = count;
-    polled[count] = (struct pollfd){count < CONNECTIONS || slow ? listener : -1, POLLIN, 0};
+    bool accepts = left_until <= now && (count < CONNECTIONS || slow || oldest(IDLE));
+    polled[count] = (struct pollfd){accepts ? listener : -1, POLLIN, 0};
     for (size_t i = 0; i < count; i++)
-        polled[i] = (struct pollfd){open_ones[i]->socket, open_ones[i]->is_complete ? 0 : POLLIN, 0};
+        polled[i] = (struct pollfd){open_ones[i]->socket, open_ones[i]->state == COMPLETE ? 0 : POLLIN, 0};
     int ready = ppoll(polled, polled_count + 1, &timeout, signals);
     if (ready == 0 && draws)
         draw_nonce(&signer);
     else if (ready == 0 && now - last_end >= SECOND)
         forget_nonces(&signer);
+    /* Another process has accepted the client that was left to it. */
+    if (accepts && !polled[polled_count].revents)
+        left_until = 0;
     if (ready <= 0)
         return;
     handle_signals(signals);
     for (size_t i = polled_count; i-- > 0;) {
-        if (polled[i].revents && open_ones[i]->is_complete)
+        if (polled[i].revents && open_ones[i]->state == COMPLETE)
             end_connection(open_ones[i]);
         else if (polled[i].revents)
             receive(open_ones[i]);
@@ -293,9 +425,10 @@ static void serve(const sigset_t *signals) {
     for (size_t i = 0; i < CONNECTIONS; i++)
         open_ones[i] = &connections[i];
     while (!ended) {
-        while ((it = oldest(true)) != NULL && take_turn(nanoseconds()))
+        /* At most one signature for each connection: then it is the turn of signals and of other messages. */
+        for (size_t most = count; most > 0 && (it = oldest(COMPLETE)) != NULL && take_turn(nanoseconds()); most--)
             answer(it);
-        while ((it = oldest(false)) != NULL && it->arrived + PATIENCE <= nanoseconds())
+        while ((it = oldest(INCOMPLETE)) != NULL && it->arrived + PATIENCE <= nanoseconds())
             fail(it, "its message took longer than ten seconds");
         wait_for_clients(signals);
         if (ended == SIGCHLD && !has_other_ended())
@@ -489,6 +622,7 @@ static void start_processes(bool reads_each) {
         is_first = child > 0;
         others[i] = child;
         if (!is_first) {
+            process_index = i;
             settle(reads_each);
             if (write(ready[1], &octet, 1) != 1)
                 exit(1);

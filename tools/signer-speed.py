@@ -1,7 +1,8 @@
 #!/usr/bin/env python3
-"""Measures signers with requests like the desk's: a connection for each signature, a message as long as that of an OCSP answer, one by one or N at once.
+"""Measures signers with requests like the desk's: a message as long as that of an OCSP answer, one by one or N at once. A signer that announces
+persistent connections gets all messages over N of them, and any other one gets a connection for each.
 
-    tools/signer-speed.py 'signer/desk-signer ca.key' 'examples/signer.py ca.key'
+    tools/signer-speed.py 'signer/desk-signer --persistent ca.key' 'signer/desk-signer ca.key' 'examples/signer.py ca.key'
 
 Each COMMAND is started with a socket's path as its last word. The commands take turns, --runs times; each median is printed: signatures a second, and
 the processor time that the signer takes for one, in µs. With --only-ours the message is an OCSP answer of that CA, which a guarded signer accepts. A
@@ -27,8 +28,9 @@ sys.dont_write_bytecode = True
 sys.path.insert(0, str(Path(__file__).resolve().parent.parent / "examples"))
 from only_ours import OCTETS, SEQUENCE, read_certificate  # noqa: E402
 
+ANNOUNCEMENT = b"desk-signer/1 \r\n"
 # About as long as the signed part of an OCSP answer for one certificate.
-MESSAGE = bytes(150)
+MESSAGE = b"0" * 150
 MOMENT = b"\x18\x0F20260101000000Z"
 
 
@@ -53,7 +55,7 @@ def asked(path, message):
 
 
 def signatures(path, message, count):
-    """Requests `count` signatures, and only then reads the first."""
+    """Requests `count` signatures, and only then reads the first. Returns the last one."""
     for peer in [asked(path, message) for _ in range(count)]:
         with peer:
             answer = b""
@@ -61,6 +63,25 @@ def signatures(path, message, count):
                 answer += part
             if not answer:
                 sys.exit(f"{path}: no signature")
+    return answer
+
+
+def persistent_signatures(peers, message):
+    """Requests a signature over each persistent connection, and only then reads the first."""
+    for peer in peers:
+        peer.sendall(message)
+    for peer in peers:
+        answer = peer.recv(8192)
+        while answer and len(answer) < 4 + int.from_bytes(answer[:4], "big"):
+            answer += peer.recv(8192)
+        if len(answer) < 5:
+            sys.exit("no signature on a persistent connection")
+
+
+def connected(path, stack):
+    peer = stack.enter_context(socket.socket(socket.AF_UNIX))
+    peer.connect(path)
+    return peer
 
 
 def processor_time(process):
@@ -71,12 +92,20 @@ def processor_time(process):
 
 def measured(path, message, words, process=None):
     """Signatures a second, and the signer's µs for one."""
-    signatures(path, message, words.at_once)
-    count, start, before = 0, time.perf_counter(), processor_time(process) if process else 0
-    while time.perf_counter() - start < words.seconds:
-        signatures(path, message, words.at_once)
-        count += words.at_once
-    taken = time.perf_counter() - start
+    with contextlib.ExitStack() as stack:
+        request = lambda: signatures(path, message, words.at_once)
+        if request().startswith(ANNOUNCEMENT):
+            peers, framed = [], len(message).to_bytes(4, "big") + message
+            for _ in range(words.at_once):
+                peers.append(connected(path, stack))
+                # The signer's processes share the connections evenly, if each one's first message comes before the next one.
+                persistent_signatures(peers[-1:], framed)
+            request = lambda: persistent_signatures(peers, framed)
+        count, start, before = 0, time.perf_counter(), processor_time(process) if process else 0
+        while time.perf_counter() - start < words.seconds:
+            request()
+            count += words.at_once
+        taken = time.perf_counter() - start
     return count / taken, (processor_time(process) - before) / count / 1000 if process else float("nan")
 
 

@@ -15,15 +15,16 @@ import struct
 import subprocess
 import sys
 import time
+from concurrent.futures import ThreadPoolExecutor
 from pathlib import Path
 
 from groups.only_ours import forms_of_answer, handed, other_crls, to_be_signed
 from lib import authority, native, program
 from lib.authority import EXAMPLES, KEYS, Authority, values_of
-from lib.native import NAME, connected, ended, signature, started
+from lib.native import ANNOUNCEMENT, NAME, answer, asked, connected, ended, frame, signature, started
 from lib.program import TESTS
 from lib.registers import tlv
-from lib.trial import Skipped, each, need, test
+from lib.trial import Failed, Skipped, each, need, test
 
 ALGORITHMS = {it: it for it in KEYS}
 INTEGER, OCTETS, SEQUENCE, UTC, GENERAL = 0x02, 0x04, 0x30, 0x17, 0x18
@@ -750,6 +751,389 @@ def no_client_of_256_is_lost_for_one_that_can_not_be_accepted(t):
     t.true(program.read_all(clients[0]) != b"", "the oldest client gets no signature")
 
 
+# Persistent connections
+
+
+def persistent(t, path="ca.sign"):
+    """A connection that is persistent once its first message is sent."""
+    return t.enter_context(connected(t.room / path))
+
+
+def announced(t, got):
+    """The signature in what a signer with --persistent has sent over a connection that isn't persistent."""
+    t.same(got[:16], ANNOUNCEMENT, "the announcement")
+    return got[16:]
+
+
+def verifier(t, it):
+    """A function that verifies a signature by the package cryptography: openssl would take seconds for a thousand of them."""
+    authority.need_cryptography(t)
+    from cryptography.exceptions import InvalidSignature
+    from cryptography.hazmat.primitives import hashes
+    from cryptography.hazmat.primitives.asymmetric import ec, padding
+    from cryptography.hazmat.primitives.serialization import load_pem_private_key
+
+    public = load_pem_private_key(it.key.read_bytes(), None).public_key()
+    words = {"ecdsa-sha256": (ec.ECDSA(hashes.SHA256()),), "ecdsa-sha384": (ec.ECDSA(hashes.SHA384()),),
+             "rsa-sha256": (padding.PKCS1v15(), hashes.SHA256()), "ed25519": ()}[it.algorithm]
+
+    def check(signed, message):
+        try:
+            public.verify(signed, message, *words)
+        except InvalidSignature:
+            raise Failed(f"{signed.hex()} is no signature of {message[:40]!r}, which has {len(message)} bytes") from None
+
+    return check
+
+
+@test(seconds=2)
+def one_message_over_a_connection_to_a_persistent_signer(t):
+    """The signature comes behind the announcement. A refused message gets nothing, and neither does a connection without any octet. A message whose
+    first octet is not 0 ends with its connection."""
+    it = Authority(t)
+    message, path = answer_by_hand(filter_module().issuer_of(it.pem)), t.room / "ca.sign"
+    process = started(t, "--persistent", "--only-ours", it.pem, it.key)
+    verifies(t, it, message, announced(t, signature(path, message)))
+    t.same([signature(path, it) for it in (b"", b"hello", message[1:])], [b"", b"", b""], "the replies to messages that are refused")
+    told = [line.split(":")[1] for line in ended(process)[1]]
+    t.same(told, [f" refused to sign {it} bytes" for it in (5, len(message) - 1)], "standard error")
+    started(t, "--persistent", it.key)
+    t.same(signature(path, b""), b"", "the reply to no octet")
+    for message in (b"\x01", b"\x01\0\0\0", b"a" + bytes(5_000_000)):
+        verifies(t, it, message, announced(t, signature(path, message)))
+    t.same(t.tool(sys.executable, EXAMPLES / "check-signer.py", it.pem, *it.signing()), b"", "the test message of check-signer.py")
+
+
+@test(seconds=2)
+def without_the_option_no_connection_is_persistent(t):
+    """A message may begin with 0, and its signature has no announcement."""
+    it = Authority(t)
+    started(t, it.key)
+    for message in (frame(b"a message"), b"\0", frame(b"a message") * 2):
+        verifies(t, it, message, signature(t.room / "ca.sign", message))
+    client = persistent(t)
+    client.sendall(frame(b"a message"))
+    client.settimeout(0.5)
+    try:
+        t.same(client.recv(1), "no octet", "before the end of the message")
+    except socket.timeout:
+        pass
+
+
+@test(seconds=2)
+def each_answer_is_one_send(t):
+    """A client gets an announcement or a length together with its signature. In this test each send is a packet."""
+    it = Authority(t)
+    message = answer_by_hand(filter_module().issuer_of(it.pem))
+    with socket.socket(socket.AF_UNIX, socket.SOCK_SEQPACKET) as listener:
+        listener.bind(str(t.room / "ca.sign"))
+        listener.listen(8)
+        process = handed([str(native.signer()), "--persistent", "--only-ours", str(it.pem), str(it.key), "--inherited"], listener)
+        t.callback(authority.end, process)
+        with socket.socket(socket.AF_UNIX, socket.SOCK_SEQPACKET) as client:
+            client.settimeout(program.LONGEST)
+            client.connect(str(t.room / "ca.sign"))
+            client.send(message)
+            client.shutdown(socket.SHUT_WR)
+            verifies(t, it, message, announced(t, client.recv(8192)))
+        with socket.socket(socket.AF_UNIX, socket.SOCK_SEQPACKET) as client:
+            client.settimeout(program.LONGEST)
+            client.connect(str(t.room / "ca.sign"))
+            for sent in (message, b"hello", message):
+                client.send(frame(sent))
+                got = client.recv(8192)
+                t.same(got[:4], struct.pack(">I", len(got) - 4), "the length before an answer")
+                t.same(len(got) == 4, sent == b"hello", f"whether it refuses {sent!r}")
+            verifies(t, it, message, got[4:])
+
+
+@each(ALGORITHMS, seconds=5)
+def a_thousand_messages_over_one_connection(t, algorithm):
+    """Each answer is the signature of its message. The messages have many lengths, in all orders."""
+    it, dice = Authority(t, algorithm), random.Random(72)
+    check, process = verifier(t, it), started(t, "--persistent", it.key)
+    client = persistent(t)
+    for at in range(1000):
+        message = b"%d" % at + dice.randbytes(dice.choice((0, 9, 150, 1015, 1016, 1017, 1018, 1024, 5000, 70_000)))
+        check(asked(client, message), message)
+    t.same(ended(process), (0, []), "status and standard error")
+
+
+@test(seconds=4)
+def the_longest_and_the_shortest_message(t):
+    """A persistent connection takes messages of 0 and of 16,777,215 octets, and ends at a longer one. With --only-ours, a message of 0 is refused."""
+    it = Authority(t)
+    process = started(t, "--persistent", it.key)
+    client, other = persistent(t), persistent(t)
+    for message in (b"", bytes((1 << 24) - 1), b"", random.Random(3).randbytes((1 << 24) - 1), b"a message"):
+        verifies(t, it, message, asked(client, message), f"{len(message)} octets")
+    verifies(t, it, b"a message", asked(other, b"a message"))
+    other.sendall(b"\x01\0\0\0")
+    t.same(answer(other), None, "the answer to a longer message")
+    verifies(t, it, b"a message", asked(client, b"a message"))
+    told = "its message is longer than 16,777,215 bytes"
+    t.same(ended(process), (0, [f"{NAME}a connection failed: {told}"]), "standard error")
+    process = started(t, "--persistent", "--only-ours", it.pem, it.key)
+    t.same(asked(persistent(t), b""), b"", "the answer to a message of 0 octets")
+    t.same([line.split(":")[1] for line in ended(process)[1]], [" refused to sign 0 bytes"], "standard error")
+
+
+@test(seconds=5)
+def messages_in_pieces_of_any_size(t):
+    """Some messages come together and others in single octets. Each gets the answer that it also gets alone, in their order. With Ed25519, a message
+    always has the same signature."""
+    it = Authority(t, "ed25519")
+    issuer = filter_module().issuer_of(it.pem)
+    started(t, "--only-ours", it.pem, it.key, path="other.sign")
+    long = crl_by_hand(issuer, [(2**150 + at).to_bytes(19, "big") for at in range(200)])
+    messages = [*dict.fromkeys([*random.Random(4).sample([*named_messages(issuer).values()], 20), *ours(issuer), b"", bytes(1020), long])]
+    answers = {message: signature(t.room / "other.sign", message) for message in messages}
+    t.true(sum(map(bool, answers.values())) > 5, "too few messages are signed")
+    process = started(t, "--persistent", "--only-ours", it.pem, it.key)
+    for seed in range(24):
+        dice, client = random.Random(seed), persistent(t)
+        chosen = [dice.choice(messages) for _ in range(20)]
+        octets = b"".join(map(frame, chosen))
+        sizes = (1,) if seed == 0 else (len(octets),) if seed == 1 else (1, 3, 4, 5, 200, 1024, 3000)
+        while octets:
+            size = dice.choice(sizes)
+            client.sendall(octets[:size])
+            octets = octets[size:]
+            # Time in which the signer reads this piece alone.
+            time.sleep(dice.choice((0, 0, 0.0003)))
+        got = [answer(client) for _ in chosen]
+        t.same([at for at in range(20) if got[at] != answers[chosen[at]]], [], f"seed {seed}: the messages with other answers")
+        client.shutdown(socket.SHUT_WR)
+        t.same(answer(client), None, "an answer too many")
+    status, told = ended(process)
+    t.same((status, [line for line in told if "refused to sign" not in line]), (0, []), "status, and other lines on standard error")
+
+
+@test(seconds=2)
+def many_messages_behind_a_long_one(t):
+    """They come in one write, and have more octets than the buffer of a connection without a long message. Another connection goes on."""
+    it = Authority(t)
+    check = verifier(t, it)
+    process = started(t, "--persistent", it.key)
+    clients = [persistent(t) for _ in range(3)]
+    messages = [bytes(70_000), *(b"message %d" % at + bytes(300) for at in range(100))]
+    for client in clients:
+        check(asked(client, b"a message"), b"a message")
+    for client in clients:
+        client.sendall(b"".join(map(frame, messages)))
+        for message in messages:
+            check(answer(client), message)
+    t.same(ended(process), (0, []), "status and standard error")
+
+
+@test(seconds=2)
+def the_end_of_a_persistent_connection(t):
+    """A client that ends between two messages causes no line on standard error, and one that ends within a message causes one. A message that came
+    whole before the end gets its answer."""
+    it = Authority(t)
+    process = started(t, "--persistent", it.key)
+    one = frame(b"a message")
+    for octets, answers in ((one, 1), (one[:-1], 0), (one + one[:3], 1), (b"\0", 0), (one * 3, 3)):
+        client = persistent(t)
+        client.sendall(octets)
+        client.shutdown(socket.SHUT_WR)
+        for _ in range(answers):
+            t.true(answer(client), f"no signature for a message in {octets!r}")
+        t.same(answer(client), None, f"one more answer to {octets!r}")
+    client = persistent(t)
+    t.true(asked(client, b"a message"), "no signature")
+    client.close()
+    verifies(t, it, b"a message", asked(persistent(t), b"a message"))
+    t.same(ended(process), (0, [f"{NAME}a connection failed: its message is incomplete"] * 3), "standard error")
+
+
+@test(seconds=2)
+def a_client_that_reads_no_answers(t):
+    """A hundred answers may wait for the client. The signer ends a connection whose socket takes no more answers, and serves the others."""
+    it = Authority(t)
+    process = started(t, "--persistent", it.key)
+    client = persistent(t)
+    client.sendall(frame(b"a message") * 100)
+    authority.until(lambda: program.is_read(client), "the signer to read a hundred messages")
+    t.same([at for at in range(100) if not answer(client)], [], "messages without an answer")
+    client.settimeout(20)
+    try:
+        for _ in range(100_000):
+            client.sendall(frame(b"a message"))
+    except (BrokenPipeError, ConnectionResetError):
+        pass
+    else:
+        raise Failed("the signer takes a hundred thousand messages whose answers nobody reads")
+    verifies(t, it, b"a message", asked(persistent(t), b"a message"))
+    t.same(ended(process), (0, [f"{NAME}a connection failed: Resource temporarily unavailable"]), "standard error")
+
+
+@test(seconds=13)
+def an_idle_connection_has_no_time_limit(t):
+    """A client is idle for twelve seconds. Another one is idle for eight, and needs four for its message. A third one's message takes too long."""
+    it = Authority(t)
+    process = started(t, "--persistent", it.key)
+    idle, later, slow = (persistent(t) for _ in range(3))
+    for client in (idle, later, slow):
+        verifies(t, it, b"a message", asked(client, b"a message"))
+    slow.sendall(frame(b"a message")[:5])
+    time.sleep(8)
+    later.sendall(frame(b"a message")[:5])
+    time.sleep(4)
+    later.sendall(frame(b"a message")[5:])
+    verifies(t, it, b"a message", answer(later), "a message after eight seconds")
+    verifies(t, it, b"a message", asked(idle, b"a message"), "a message after twelve seconds")
+    t.same(answer(slow), None, "the answer to a message that has not come whole")
+    t.same(ended(process), (0, [f"{NAME}a connection failed: its message took longer than ten seconds"]), "standard error")
+
+
+@test(seconds=3)
+def an_idle_connection_makes_room(t):
+    """With 256 open connections, the signer closes the one that is idle for longest if another client comes, and rather than one whose message is
+    incomplete."""
+    it = Authority(t)
+    process = started(t, "--persistent", it.key)
+    incomplete = persistent(t)
+    incomplete.sendall(b"a")
+    clients = [persistent(t) for _ in range(255)]
+    for client in (*clients, clients[0]):
+        t.true(asked(client, b"a message"), "no signature")
+    for at in range(2):
+        verifies(t, it, b"a message", announced(t, signature(t.room / "ca.sign", b"a message")))
+        persistent(t).sendall(b"b")
+        authority.until(lambda: select.select([clients[at + 1]], [], [], 0)[0], f"the end of idle connection {at + 1}")
+    t.same([at for at, client in enumerate(clients) if not asked(client, b"a message")], [1, 2], "closed connections")
+    incomplete.shutdown(socket.SHUT_WR)
+    verifies(t, it, b"a", announced(t, program.read_all(incomplete)))
+    t.same(ended(process), (0, []), "standard error")
+
+
+@test(seconds=3)
+def connections_are_spread_over_the_processes(t):
+    """While one of two processes is stopped, the other one serves all clients. Once it goes on, it gets the next ones, until both have as many.
+    Connections that have ended, or that had one message, don't count."""
+    it = Authority(t)
+    process = started(t, "--persistent", "--processes", 2, it.key)
+    numbers = (process.pid, *native.children(process))
+    # Each process has the listener too.
+    connections = lambda: [sum(os.readlink(it).startswith("socket:") for it in Path(f"/proc/{number}/fd").iterdir()) - 1 for number in numbers]
+    t.callback(os.kill, numbers[1], signal.SIGCONT)
+    os.kill(numbers[1], signal.SIGSTOP)
+    clients = []
+    with t.at_once("the answers of the process that goes on"):
+        for _ in range(10):
+            clients.append(persistent(t))
+            t.true(asked(clients[-1], b"a message"), "no signature")
+            t.true(announced(t, signature(t.room / "ca.sign", b"a message")), "no signature over another connection")
+    t.same(connections(), [10, 0], "connections of each process")
+    os.kill(numbers[1], signal.SIGCONT)
+    for _ in range(10):
+        t.true(asked(persistent(t), b"a message"), "no signature")
+    t.true(connections()[1] >= 8, f"of twenty, the processes have {connections()} connections")
+    for client in clients:
+        client.close()
+    authority.until(lambda: sum(connections()) == 10, "the end of ten connections")
+    for _ in range(10):
+        t.true(asked(persistent(t), b"a message"), "no signature")
+    t.true(connections()[0] >= 8, f"after the end of ten, the processes have {connections()} connections")
+    t.same(ended(process), (0, []), "status and standard error")
+
+
+@test(seconds=5)
+def idle_connections_take_no_processor_time(t):
+    it = Authority(t)
+    process = started(t, "--persistent", "--processes", 2, it.key)
+    for _ in range(3):
+        t.true(asked(persistent(t), b"a message"), "no signature")
+    time.sleep(1.5)
+    is_idle(t, process)
+
+
+@test(seconds=2)
+def it_polls_for_the_next_message(t):
+    """The process runs, and doesn't sleep, for 0.3 ms after the answer to a message that came so soon after the one before. Here the test sets the
+    elapsed time."""
+    if len(os.sched_getaffinity(0)) == 1:
+        raise Skipped("with a single processor the signer does not poll")
+    it = Authority(t)
+    (t.room / "passed").write_bytes(struct.pack("=Q", 1_000_000))
+    before = ["env", f"LD_PRELOAD={os.environ['DESK_FAULTS_LIBRARY']}", f"FAULTS_PASSED={t.room / 'passed'}"]
+    process = started(t, "--persistent", it.key, before=before)
+    client = persistent(t)
+    state = lambda: Path(f"/proc/{process.pid}/stat").read_text().rpartition(") ")[2][0]
+    for _ in range(3):
+        t.true(asked(client, b"a message"), "no signature")
+    t.same({state() for _ in range(1000)}, {"R"}, "its states after a message")
+    with open(t.room / "passed", "r+b") as passed:
+        passed.write(struct.pack("=Q", 1_000_001))
+    authority.until(lambda: state() == "S", "the signer to sleep after a millisecond")
+
+
+@test(seconds=4)
+def a_rate_counts_each_message(t):
+    """At --rate 20 with two processes, 20 signatures over two persistent connections take at least 0.95 s. Refused messages don't count."""
+    it = Authority(t)
+    message = answer_by_hand(filter_module().issuer_of(it.pem))
+    process = started(t, "--persistent", "--rate", 20, "--processes", 2, "--only-ours", it.pem, it.key)
+    clients = [persistent(t), persistent(t)]
+    began = time.monotonic()
+    for client in clients:
+        client.sendall(frame(message) * 10)
+    with t.at_once("many messages that are refused"):
+        other = persistent(t)
+        t.same([asked(other, b"refused") for _ in range(450)], [b""] * 450, "the answers")
+    for client in clients:
+        for _ in range(10):
+            verifies(t, it, message, answer(client))
+    waited = time.monotonic() - began
+    t.true(0.95 <= waited < 20, f"20 signatures took {waited:.2f} s")
+    t.same(len(ended(process)[1]), 450, "lines on standard error")
+
+
+@test(seconds=4)
+def what_long_messages_take_on_persistent_connections_is_given_back(t):
+    """For each of forty messages of more than 4 MiB the signer allocates 16 MiB, of 512 MiB in all. The connections stay open."""
+    it = Authority(t)
+    process = started(t, "--persistent", it.key)
+    size = lambda: int(status_of(process.pid)["VmSize"].split()[0])
+    before, message, clients = size(), bytes((4 << 20) + 1), [persistent(t) for _ in range(40)]
+    for at, client in enumerate(clients):
+        t.true(asked(client, message), f"message {at} is not signed")
+    t.true(size() - before < 64 << 10, f"its memory has grown from {before} kB to {size()} kB")
+    t.same([at for at, client in enumerate(clients) if not asked(client, b"a message")], [], "connections without a signature")
+    t.same(ended(process), (0, []), "status and standard error")
+
+
+@test(seconds=3)
+def it_ends_with_persistent_connections(t):
+    """SIGTERM ends the signer at once: one client is idle, another one always sends messages. Both connections end. A signer that starts at the same
+    path serves new ones."""
+    it = Authority(t)
+    process = started(t, "--persistent", it.key)
+    idle, busy = persistent(t), persistent(t)
+    t.true(asked(idle, b"a message"), "no signature")
+
+    def send():
+        """Sends messages, and has twenty answers to read, until the signer ends."""
+        try:
+            busy.sendall(frame(b"a message") * 20)
+            while answer(busy) is not None:
+                busy.sendall(frame(b"a message"))
+        except (BrokenPipeError, ConnectionResetError):
+            pass
+
+    with ThreadPoolExecutor(1) as pool:
+        sending = pool.submit(send)
+        time.sleep(0.5)
+        process.terminate()
+        with t.at_once("its end"):
+            t.same((process.wait(program.LONGEST), process.stderr.read()), (0, b""), "its status and standard error")
+        sending.result()
+    t.same(asked(idle, b"a message"), None, "the answer of a signer that has ended")
+    started(t, "--persistent", it.key)
+    verifies(t, it, b"a message", asked(persistent(t), b"a message"))
+
+
 # Processes and sockets
 
 
@@ -911,8 +1295,9 @@ def it_uses_no_processor_time_once_its_nonces_are_forgotten(t):
 
 
 def is_idle(t, process):
-    """Checks that a process takes less than a tenth of a processor's time while nothing happens."""
-    ticks = lambda: sum(map(int, Path(f"/proc/{process.pid}/stat").read_text().rsplit(") ", 1)[1].split()[11:13]))
+    """Checks that a process and its children take less than a tenth of a processor's time while nothing happens."""
+    numbers = (process.pid, *native.children(process))
+    ticks = lambda: sum(sum(map(int, Path(f"/proc/{it}/stat").read_text().rsplit(") ", 1)[1].split()[11:13])) for it in numbers)
     before = ticks()
     time.sleep(2)
     t.true(ticks() - before < 20, f"{ticks() - before} clock ticks in two seconds")
@@ -1157,8 +1542,13 @@ def a_key_in_a_token(t, algorithm, count):
     (t.room / "tokens").rename(t.room / "away")
     t.same((signature(t.room / "away.sign", b"a message"), process.wait(program.LONGEST)), (b"", 1), "without the token: signature, status")
     (t.room / "away").rename(t.room / "tokens")
-    started(t, *named[1:], "--processes", count, key, path="away.sign", before=before)
-    verifies(t, it, b"a message", signature(t.room / "away.sign", b"a message"))
+    process = started(t, *named[1:], "--persistent", "--processes", count, key, path="away.sign", before=before)
+    client = t.enter_context(connected(t.room / "away.sign"))
+    for message in (b"a message", b"another"):
+        verifies(t, it, message, asked(client, message))
+    (t.room / "tokens").rename(t.room / "away")
+    told = asked(client, b"a message"), answer(client), process.wait(program.LONGEST)
+    t.same(told, (b"", None, 1), "without the token on a persistent connection: answers, status")
 
 
 # The desk's signatures
@@ -1192,3 +1582,32 @@ def a_desk_with_another_key_gets_no_signature(t):
     started(t, "--only-ours", it.pem, it.key)
     other.register("other.db")
     t.same(t.done("script", "other.db", *it.signing(), "--clock", given="crl\n"), "F3 signer\n", "a CRL of another issuer")
+
+
+@test(seconds=13)
+def a_client_may_connect_long_before_its_first_message(t):
+    """With --persistent, a connection without any octet has no time limit. Its first message may then have either form."""
+    it = Authority(t)
+    process = started(t, "--persistent", it.key)
+    kept, single = persistent(t), persistent(t)
+    time.sleep(12)
+    verifies(t, it, b"a message", asked(kept, b"a message"))
+    single.sendall(b"a message")
+    single.shutdown(socket.SHUT_WR)
+    verifies(t, it, b"a message", announced(t, program.read_all(single)))
+    persistent(t).close()
+    t.same(ended(process)[1], [], "standard error")
+
+
+@test(seconds=2)
+def clients_that_only_connect_are_spread_over_the_processes(t):
+    """32 clients connect, and send nothing before all have connected. Then each process has half of them."""
+    it = Authority(t)
+    process = started(t, "--persistent", "--processes", 2, it.key)
+    clients = [persistent(t) for _ in range(32)]
+    for client in clients:
+        verifies(t, it, b"a message", asked(client, b"a message"))
+    numbers = (process.pid, *native.children(process))
+    # Each process has the listener too.
+    counts = [sum(os.readlink(it).startswith("socket:") for it in Path(f"/proc/{number}/fd").iterdir()) - 1 for number in numbers]
+    t.true(max(counts) - min(counts) <= 2, f"connections of each process: {counts}")

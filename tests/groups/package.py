@@ -188,12 +188,13 @@ def which_folders_each_service_may_write(t):
 
 @each({"signer": "signer", "responder": "responder"})
 def the_native_signer_gets_the_words_of_signer_py(t, name):
-    """The drop-ins differ from the services only in the program, and in the memory that it may lock: 12 MiB with a token."""
+    """The drop-ins differ from the services only in the program, its option --persistent, and the memory that it may lock: 12 MiB with a token."""
     start = lambda text: [line.split() for line in text.splitlines() if line.startswith("ExecStart=")]
     [service] = start(units("service")[f"desk-{name}@.service"])
     native_conf = (TOP / f"packaging/native-{name}.conf").read_text()
     t.same(service[:2], ["ExecStart=/usr/bin/python3", "/usr/lib/durshavon/signer.py"], "the program of the service")
-    t.same(start(native_conf), [["ExecStart="], ["ExecStart=/usr/lib/durshavon/desk-signer", *service[2:]]], "what the drop-in starts")
+    wanted = ["ExecStart=/usr/lib/durshavon/desk-signer", "--persistent", *service[2:]]
+    t.same(start(native_conf), [["ExecStart="], wanted], "what the drop-in starts")
     t.has(native_conf.splitlines(), "LimitMEMLOCK=16M", "the drop-in")
 
 
@@ -309,6 +310,10 @@ def the_command_passes_its_words_on(t):
     shutil.copy(TOP / "tools/large-pages.sh", t.room / "lib")
     (t.room / "desk-command").write_text((TOP / "packaging/desk").read_text().replace("/usr/lib/durshavon", str(t.room / "lib")))
     t.same(t.tool("sh", "desk-command", "audit", "the ca.db", "", "*"), b"<audit><the ca.db><><*>")
+    # Its process becomes the program, so a signal to it reaches the program.
+    (t.room / "lib/desk").write_text("#!/bin/sh\necho $$\n")
+    process = subprocess.Popen(["sh", "desk-command", "serve"], cwd=t.room, stdout=subprocess.PIPE)
+    t.same(process.communicate(timeout=program.LONGEST)[0].decode(), f"{process.pid}\n", "the number of the program's process")
 
 
 @test

@@ -14,7 +14,7 @@ import time
 from concurrent.futures import ThreadPoolExecutor
 
 from groups import native_signer
-from lib import authority, faults, program
+from lib import authority, faults, native, program
 from lib.authority import IDENTIFIERS, INTERNAL, KEYS, Authority, Peer, body_of, first_day, first_day_replies, moment_of
 from lib.program import ANY_SIGNATURE, P256_KEY
 from lib.native import NAME, connected, ended, signature, started
@@ -892,15 +892,23 @@ def valgrind_finds_no_fault_in_the_native_signer(t, algorithm):
     t.tool("openssl", "pkcs8", "-topk8", "-in", it.key, "-passout", "pass:a word", "-out", "locked.key")
     (t.room / "word").write_text("a word\n")
     before = ["valgrind", "-q", "--error-exitcode=99", "--leak-check=full", "--errors-for-leak-kinds=definite,indirect,possible"]
-    process = started(t, "--passphrase-file", "word", "--only-ours", it.pem, "locked.key", before=before)
+    process = started(t, "--persistent", "--passphrase-file", "word", "--only-ours", it.pem, "locked.key", before=before)
     path = t.room / "ca.sign"
-    for what, message in native_signer.named_messages(issuer).items():
-        t.same(signature(path, message) != b"", native_signer.is_accepted(native_signer.filter_module(), message, issuer), what)
-    native_signer.verifies(t, it, native_signer.ours(issuer)[0], signature(path, native_signer.ours(issuer)[0]))
-    for octets in (b"", bytes(9), bytes(100_000), bytes(3_000_000)):
+    messages, ours = native_signer.named_messages(issuer), native_signer.ours(issuer)[0]
+    accepted = {what: native_signer.is_accepted(native_signer.filter_module(), message, issuer) for what, message in messages.items()}
+    clients = [t.enter_context(connected(path)) for _ in range(3)]
+    for what, message in messages.items():
+        t.same((signature(path, message) != b"", native.asked(clients[0], message) != b""), (accepted[what], accepted[what]), what)
+    clients[1].sendall(b"".join(map(native.frame, messages.values())))
+    t.same([native.answer(clients[1]) != b"" for _ in messages], [*accepted.values()], "all messages together")
+    native_signer.verifies(t, it, ours, native_signer.announced(t, signature(path, ours)))
+    incomplete = (bytes(2), native.frame(ours)[:-1], native.frame(bytes(3_000_000))[:-1], native.frame(b"") + b"\1")
+    for octets in (b"", b"a" * 9, b"a" * 100_000, b"a" * 3_000_000, *incomplete):
         with connected(path) as client:
             client.sendall(octets)
-    t.same(signature(path, bytes(3_000_000)), b"", "a long message")
+    t.same((signature(path, b"a" * 3_000_000), native.asked(clients[1], bytes(3_000_000))), (b"", b""), "a long message")
+    native_signer.verifies(t, it, ours, native.asked(clients[1], ours))
+    clients[2].sendall(incomplete[2])
     status, told = ended(process)
     t.same((status, [line for line in told if not line.startswith(NAME)]), (0, []), "valgrind's status, and its lines on standard error")
 

@@ -4,6 +4,7 @@ import fcntl
 import os
 import select
 import socket
+import struct
 import subprocess
 from pathlib import Path
 
@@ -14,6 +15,8 @@ from .trial import Failed, Skipped, need
 SOURCES = TOP / "signer"
 # The prefix of each line that the signer prints on standard error.
 NAME = "desk-signer: "
+# The beginning of each signature of a signer with --persistent, except on a persistent connection.
+ANNOUNCEMENT = b"desk-signer/1 \r\n"
 
 
 def has_libcrypto():
@@ -75,6 +78,40 @@ def signature(path, message):
         except (BrokenPipeError, ConnectionResetError):
             return b""
         return program.read_all(it)
+
+
+def frame(message):
+    """A message as a client sends it over a persistent connection."""
+    return struct.pack(">I", len(message)) + message
+
+
+def answer(client):
+    """The signer's next answer on a persistent connection; None if the signer closes it."""
+    head = exactly(client, 4)
+    return None if head is None else exactly(client, struct.unpack(">I", head)[0])
+
+
+def exactly(client, count):
+    """So many octets; None if the signer closes the connection first."""
+    got = b""
+    while len(got) < count:
+        try:
+            part = client.recv(count - len(got))
+        except ConnectionResetError:
+            part = b""
+        if not part:
+            return None
+        got += part
+    return got
+
+
+def asked(client, message):
+    """The signer's answer to a message on a persistent connection; None if the signer closes it."""
+    try:
+        client.sendall(frame(message))
+    except (BrokenPipeError, ConnectionResetError):
+        return None
+    return answer(client)
 
 
 def ended(process):
