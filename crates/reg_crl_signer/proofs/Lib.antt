@@ -1,5 +1,7 @@
 mod Carried
 mod Identifiers
 mod Pairs
+mod PersistentConnections
+mod Receipts
 mod Signings
 mod Sizes

@@ -1,4 +1,6 @@
 pub mod Algorithms
+pub mod Announcement
+pub mod CountedBytes
 pub mod SignatureRequest
 pub mod Backoff
 pub mod KeyOrDigestSignatures
@@ -7,5 +9,8 @@ pub mod Devices
 pub mod Exchange
 pub mod Forms
 pub mod RegisterSigners
+pub mod OpenConnections
+pub mod PersistentConnections
 pub mod PresetSignature
 pub mod Signed
+pub mod SignerConnections

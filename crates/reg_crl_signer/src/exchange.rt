@@ -3,6 +3,7 @@
 ghost use Rattle.std.specs.Prelude.{◌≡◌, ◌<◌, IfOk, length, take};
 ghost use Rattle.reg_crl_signer.specs.Exchange.{ExchangesMessage};
 
+use crate::announcement::keep_signature;
 use crate::device::{Device, DeviceFault};
 use reg_io::{fill_to_end, write_whole};
 use std::io;
@@ -36,7 +37,7 @@ pub trait DeviceConnection: Read + Write {
 }
 
 /// A device that listens at a path. Each exchange opens a connection, sends the message and shuts down the sending side. The
-/// answer is all that the device sends until it closes the connection.
+/// answer is all that the device sends until it closes the connection, without an announcement of persistent connections before it.
 #[derive(Drop)]
 pub struct SocketDevice<L: DeviceConnection> {
     rt: HostRuntime,
@@ -111,5 +112,6 @@ fn exchange_message<L: DeviceConnection>(
 {
     write_whole(link, message).map_err(|_| DeviceFault)?;
     link.finish().map_err(|_| DeviceFault)?;
-    fill_to_end(link, room).map_err(|_| DeviceFault)
+    let count = fill_to_end(link, room).map_err(|_| DeviceFault)?;
+    Ok(keep_signature(room, count))
 }

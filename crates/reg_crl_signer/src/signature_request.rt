@@ -1,42 +1,75 @@
 //! A request for a signature, on a non-blocking connection.
 
-ghost use Rattle.std.specs.Prelude.{◌≡◌, ◌≤◌, [], IfOk, IfSome, IsTrue, OnSome, length};
-ghost use Rattle.std.specs.Io.KnownBytes.{Consumes, IsAtEnd};
+ghost use Rattle.std.specs.Prelude.{◌≡◌, ◌≤◌, [], IfOk, IfSome, IsTrue, length};
 ghost use Rattle.reg_crl_signer.specs.SignatureRequest.{IsSignatureRequest};
 
-use crate::exchange::DeviceConnection;
-use crate::signer::LONGEST_ANSWER;
+use crate::announcement::{is_announced, signature_in};
+use crate::signer_connection::SignerConnection;
 use mio::event::Source;
 use mio::net::UnixStream;
 use mio::{Interest, Registry, Token};
-use reg_io::{fill_to_end, write_whole};
+use reg_io::write_whole;
 use std::alloc::Global;
 use std::io;
-use std::io::{ErrorKind, Read, Write};
+use std::io::{ErrorKind, Write};
 use std::net::Shutdown;
 
-/// A non-blocking connection to the signer at a path, with a request to sign a message. The connection keeps the path and the message, so that the
-/// answer is used only for that signer and that message.
+/// A request to the signer at a path to sign a message. It keeps the path and the message, so that the answer is used only for that signer and that
+/// message. If the signer takes persistent connections, the connection can be used for a later request.
 #[derive(Drop)]
 pub struct SignatureRequest {
-    stream: UnixStream,
+    rt: HostRuntime,
+    connection: SignerConnection<UnixStream>,
     path: String,
     message: Vec<u8>,
+    /// Whether the answer had the announcement of persistent connections.
+    is_announced: bool,
+    is_registered: bool,
 }
 
 impl SignatureRequest {
-    /// Asks the signer at a path to sign a message. Errors: those of [`SignatureRequest::connect`]; out of memory; `BrokenPipe` if the message can't
-    /// be sent at once (a message of several hundred thousand bytes may not fit into the socket's buffer); those of the shutdown of the sending side.
-    pub fn send_to(rt: &HostRuntime, path: &str, message: &[u8]) -> io::Result<SignatureRequest>
+    /// Asks the signer at a path to sign a message: on the kept connection if its signer is at this path and it still works, or else on a new one,
+    /// for this message alone. Errors: those of [`SignatureRequest::connect`]; out of memory; `BrokenPipe` if the message can't be sent at once (a
+    /// message of several hundred thousand bytes may not fit into the socket's buffer); those of the shutdown of the sending side.
+    pub fn send_to(
+        rt: &HostRuntime,
+        path: &str,
+        message: &[u8],
+        kept: Option<SignatureRequest>,
+    ) -> io::Result<SignatureRequest>
         ensures { IfOk result (IsSignatureRequest path.now message.now) }
     {
+        if let Some(sent_request) = send_on_kept(kept, path, message) {
+            return Ok(sent_request);
+        }
         let mut sent_request = SignatureRequest::connect(rt, path)?;
         sent_request.message.extend_from_slice(message)?;
-        write_whole(&mut sent_request.stream, message).map_err(|_| io::Error::from(
+        write_whole(&mut sent_request.connection.stream, message).map_err(|_| io::Error::from(
             ErrorKind::BrokenPipe,
         ))?;
         sent_request.finish()?;
         Ok(sent_request)
+    }
+
+    /// Connects without waiting. Errors: `WouldBlock` if the socket's backlog is full; out of memory; the others of connect(2).
+    pub fn connect(rt: &HostRuntime, path: &str) -> io::Result<SignatureRequest>
+        ensures { IfOk result (IsSignatureRequest path.now []) }
+    {
+        let alloc = rt.alloc();
+        let own_path = String::from_str(alloc, path)?;
+        Ok(SignatureRequest {
+            rt: *rt,
+            connection: SignerConnection::for_one(alloc, UnixStream::connect(rt, path)?),
+            path: own_path,
+            message: Vec::new(alloc),
+            is_announced: false,
+            is_registered: false,
+        })
+    }
+
+    /// Shuts down the sending side: the message is whole. The errors are those of shutdown(2).
+    pub fn finish(&self) -> io::Result<()> {
+        self.connection.stream.shutdown(Shutdown::Write)
     }
 
     /// Whether this request asks the signer at this path to sign this message.
@@ -45,25 +78,68 @@ impl SignatureRequest {
     {
         self.path.as_str() == path && self.message.as_slice() == message
     }
+
+    /// Reads what has come, without blocking. Returns whether nothing more is awaited: the answer has arrived, or none will.
+    pub fn receive(&mut self) -> bool {
+        self.connection.receive();
+        self.connection.has_ended()
+    }
+
+    /// The signature in the answer, once the answer has arrived; it may be empty. `None` also if there is no memory.
+    pub fn take_signature(&mut self, alloc: Global) -> Option<Vec<u8>>
+        ensures { IfSome result (λ signature. length signature.items ≤ 4096) }
+    {
+        let answer = self.connection.take_answer(alloc)?;
+        if self.connection.is_idle() || !is_announced(&answer) {
+            return Some(answer);
+        }
+        let signature = Vec::from_slice(alloc, signature_in(&answer)).ok()?;
+        self.is_announced = true;
+        Some(signature)
+    }
+
+    /// Whether the connection can be used for a later request, after the answer was taken. If the answer announced persistent connections, this
+    /// request connects to the signer anew.
+    pub fn can_be_kept(&mut self) -> bool {
+        if self.is_announced {
+            self.is_announced = false;
+            self.is_registered = false;
+            return self.reconnect().is_ok();
+        }
+        self.connection.is_idle()
+    }
+
+    fn reconnect(&mut self) -> io::Result<()> {
+        let stream = UnixStream::connect(&self.rt, self.path.as_str())?;
+        self.connection = SignerConnection::persistent(self.rt.alloc(), stream);
+        Ok(())
+    }
+
+    /// Whether a poller polls the connection.
+    pub fn is_registered(&self) -> bool {
+        self.is_registered
+    }
 }
 
-/// Reads the answer up to the end of the connection; it may be empty. `None` if a read fails or would block, if the answer has more than 4,096 bytes,
-/// and if out of memory.
-pub fn read_answer<R: Read>(alloc: Global, reader: &mut R) -> Option<Vec<u8>>
-    ensures came { IfSome result (λ answer.
-        Consumes (R.remaining reader.old) (R.remaining reader.new) answer.items) }
-    ensures ended { OnSome result (IsAtEnd (R.remaining reader.new)) }
-    ensures short { IfSome result (λ answer. length answer.items ≤ 4096) }
+/// Sends a message on the kept connection of an earlier request. `None` if its signer is at another path, and if the message can't be sent at once.
+fn send_on_kept(
+    kept: Option<SignatureRequest>,
+    path: &str,
+    message: &[u8],
+) -> Option<SignatureRequest>
+    ensures { IfSome result (IsSignatureRequest path.now message.now) }
 {
-    let mut answer = vec![in alloc; 0; LONGEST_ANSWER + 1].ok()?;
-    let count = fill_to_end(reader, &mut answer).ok()?;
-    answer.truncate(count);
-    Some(answer)
-}
-
-impl Read for SignatureRequest {
-    fn read(&mut self, buf: &mut [u8]) -> io::Result<usize> {
-        self.stream.read(buf)
+    let mut request = kept?;
+    if request.path.as_str() != path {
+        return None;
+    }
+    request.message.clear();
+    request.message.extend_from_slice(message).ok()?;
+    let alloc = request.rt.alloc();
+    if request.connection.send_next(alloc, message) {
+        Some(request)
+    } else {
+        None
     }
 }
 
@@ -76,7 +152,7 @@ impl Write for SignatureRequest {
     fn write(&mut self, buf: &[u8]) -> io::Result<usize> {
         let before = self.message.len();
         self.message.extend_from_slice(buf)?;
-        match self.stream.write(buf) {
+        match self.connection.stream.write(buf) {
             Ok(count) => {
                 self.message.truncate(before + count);
                 Ok(count)
@@ -93,37 +169,6 @@ impl Write for SignatureRequest {
     }
 }
 
-/// After `connect` the message is empty; `finish` doesn't change it.
-impl DeviceConnection for SignatureRequest {
-    ghost use Rattle.std.specs.Prelude.{◌≡◌, []};
-    ghost use Rattle.reg_crl_signer.specs.SignatureRequest.{IsSignatureRequest};
-
-    ghost connected = { λ path it. IsSignatureRequest path [] it };
-
-    ghost unconnected = { λ path. Unit {0} };
-
-    ghost finished = { λ it after. after ≡ it };
-
-    ghost answered_another_caller = { λ path message answer. Unit {0} };
-
-    /// Connects without waiting. Errors: `WouldBlock` if the socket's backlog is full; out of memory; the others of connect(2).
-    fn connect(rt: &HostRuntime, path: &str) -> io::Result<SignatureRequest>
-        ensures ok { IfOk result (IsSignatureRequest path.now []) }
-        ensures err { Unit {0} }
-    {
-        let own_path = String::from_str(rt.alloc(), path)?;
-        Ok(SignatureRequest {
-            stream: UnixStream::connect(rt, path)?,
-            path: own_path,
-            message: Vec::new(rt.alloc()),
-        })
-    }
-
-    fn finish(&mut self) -> io::Result<()> {
-        self.stream.shutdown(Shutdown::Write)
-    }
-}
-
 impl Source for SignatureRequest {
     fn register(
         &mut self,
@@ -131,7 +176,9 @@ impl Source for SignatureRequest {
         token: Token,
         interests: Interest,
     ) -> io::Result<()> {
-        self.stream.register(registry, token, interests)
+        self.connection.stream.register(registry, token, interests)?;
+        self.is_registered = true;
+        Ok(())
     }
 
     fn reregister(
@@ -140,10 +187,12 @@ impl Source for SignatureRequest {
         token: Token,
         interests: Interest,
     ) -> io::Result<()> {
-        self.stream.reregister(registry, token, interests)
+        self.connection
+            .stream
+            .reregister(registry, token, interests)
     }
 
     fn deregister(&mut self, registry: &Registry) -> io::Result<()> {
-        self.stream.deregister(registry)
+        self.connection.stream.deregister(registry)
     }
 }

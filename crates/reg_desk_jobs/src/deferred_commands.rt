@@ -193,7 +193,7 @@ fn signature_if_current<M: Machine>(
         responder,
         ticket.wanted,
         &message,
-        Some(link),
+        &mut Some(link),
     );
     let preset_signature = PresetSignature { message, answer };
     Some(LineSignature {

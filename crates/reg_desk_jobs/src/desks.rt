@@ -145,7 +145,11 @@ impl<'a, 'w, M: Machine> Handler for Desk<'a, 'w, M> {
         Ok(begun)
     }
 
-    fn request_signature(&self, ticket: &Unsigned) -> io::Result<SignatureRequest>
+    fn request_signature(
+        &self,
+        ticket: &Unsigned,
+        kept: Option<SignatureRequest>,
+    ) -> io::Result<SignatureRequest>
         ensures { IfOk result (λ sent_request.
             AtGivenPath (answer_socket self.now.signer.now self.now.responder.now)
             (λ path. M.signature_requested path ticket.now.draft.message
@@ -154,12 +158,12 @@ impl<'a, 'w, M: Machine> Handler for Desk<'a, 'w, M> {
         match socket_of(self.signer, self.responder, SignatureKind::Answer) {
             Some(socket) => self
                 .machine
-                .request_signature(socket, ticket.draft.message()),
+                .request_signature(socket, ticket.draft.message(), kept),
             None => Err(io::Error::from(ErrorKind::NotFound)),
         }
     }
 
-    fn finish(&self, ticket: Unsigned, link: Option<SignatureRequest>) -> Vec<u8> {
+    fn finish(&self, ticket: Unsigned, request: &mut Option<SignatureRequest>) -> Vec<u8> {
         let mut tally = self.tally.get();
         let text = finish_http::<M>(
             self.alloc,
@@ -168,7 +172,7 @@ impl<'a, 'w, M: Machine> Handler for Desk<'a, 'w, M> {
             self.signer,
             self.responder,
             ticket,
-            link,
+            request,
         );
         self.tally.set(tally);
         text

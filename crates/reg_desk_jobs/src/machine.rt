@@ -287,9 +287,14 @@ pub trait Machine {
     fn connect_to_socket(&self, path: &str) -> io::Result<UnixStream>
         ensures { OnOk result (socket_connected path.now) };
 
-    /// Asks the signer at the socket at a path to sign a message, without blocking. Returns the connection: the bytes that will arrive on it, up to
-    /// its end, are the answer. `WouldBlock` if the socket has no room for one more connection, or no file descriptor is left.
-    fn request_signature(&self, path: &str, message: &[u8]) -> io::Result<SignatureRequest>
+    /// Asks the signer at the socket at a path to sign a message, without blocking. `kept` is an earlier request, whose connection may be used again.
+    /// `WouldBlock` if the socket has no room for one more connection, or no file descriptor is left.
+    fn request_signature(
+        &self,
+        path: &str,
+        message: &[u8],
+        kept: Option<SignatureRequest>,
+    ) -> io::Result<SignatureRequest>
         ensures asked { OnOk result (signature_requested path.now message.now) }
         ensures kept { IfOk result (IsSignatureRequest path.now message.now) };
 
@@ -298,7 +303,7 @@ pub trait Machine {
         ensures reached { OnOk result (reached path.now) }
         ensures kept { IfOk result (IsSignatureRequest path.now []) };
 
-    /// The signer's answer on a connection. `None` if it is not complete, is longer than 4,096 bytes, or there is no memory for it.
+    /// The signer's answer to a request. `None` if it has not arrived, or there is no memory for it.
     fn receive_answer(alloc: Global, link: &mut SignatureRequest) -> Option<Vec<u8>>
         ensures given { IfSome result (λ answer.
             (path message : List ℕ) → IsSignatureRequest path message link.old

@@ -74,7 +74,7 @@ fn log_prefix_of<M: Machine>(alloc: Global, machine: &M, request: &[u8]) -> Vec<
     }
 }
 
-/// Finishes an OCSP response with the signer's answer on a connection, or as internalError without one (RFC 6960 2.3). Returns the text of the HTTP
+/// Finishes an OCSP response with the signer's answer to a request, or as internalError without one (RFC 6960 2.3). Returns the text of the HTTP
 /// answer. Counts the exchange under the moment and the route of `unsigned`, and logs it if there is a log.
 pub(crate) fn finish_http<M: Machine>(
     alloc: Global,
@@ -83,12 +83,12 @@ pub(crate) fn finish_http<M: Machine>(
     signer: &Option<SignerAddress<'_>>,
     responder: &ResponderChoice<'_>,
     unsigned: Unsigned,
-    link: Option<SignatureRequest>,
+    request: &mut Option<SignatureRequest>,
 ) -> Vec<u8>
     ensures { CountsFinished (AnsweredByOcspSigner M.signer_answered signer.now responder.now) unsigned
         result.items tally.old tally.new }
 {
-    let signature = signature_of::<M>(alloc, signer, responder, &unsigned.draft, link);
+    let signature = signature_of::<M>(alloc, signer, responder, &unsigned.draft, request);
     let exchange = finish(alloc, &unsigned, &signature);
     let micros = machine.micros().saturating_sub(unsigned.began);
     tally.count_exchange(unsigned.moment, &exchange, micros);
@@ -109,7 +109,7 @@ fn signature_of<M: Machine>(
     signer: &Option<SignerAddress<'_>>,
     responder: &ResponderChoice<'_>,
     draft: &Draft,
-    link: Option<SignatureRequest>,
+    request: &mut Option<SignatureRequest>,
 ) -> Option<Vec<u8>>
     ensures signed { IsSignatureOf (AnsweredByOcspSigner M.signer_answered signer.now responder.now) draft.now
         (option_map (λ signature. signature.items) result) }
@@ -121,7 +121,7 @@ fn signature_of<M: Machine>(
         responder,
         SignatureKind::Answer,
         draft.message(),
-        link,
+        request,
     )?;
     if has_form(draft.algorithm(), draft.key(), &answer) {
         Some(answer)
@@ -130,26 +130,26 @@ fn signature_of<M: Machine>(
     }
 }
 
-/// The signer's answer on a connection. `None` without a signer or a connection, if the connection is not for this signer and this message, and if
-/// the answer is incomplete or too long ([`Machine::receive_answer`]).
+/// The signer's answer to a request. `None` without a signer or a request, if the request is not for this signer and this message, and if
+/// [`Machine::receive_answer`] gives none.
 pub(crate) fn received_answer<M: Machine>(
     alloc: Global,
     signer: &Option<SignerAddress<'_>>,
     responder: &ResponderChoice<'_>,
     wanted: SignatureKind,
     message: &[u8],
-    link: Option<SignatureRequest>,
+    request: &mut Option<SignatureRequest>,
 ) -> Option<Vec<u8>>
     ensures given { IfSome result (λ answer.
         AnsweredBySigner M.signer_answered signer.now responder.now wanted message.now answer.items) }
     ensures short { IfSome result (λ answer. length answer.items ≤ 4096) }
 {
     let socket = socket_of(signer, responder, wanted)?;
-    let mut link = link?;
-    if !link.is_for(socket, message) {
+    let request = request.as_mut()?;
+    if !request.is_for(socket, message) {
         return None;
     }
-    match M::receive_answer(alloc, &mut link) {
+    match M::receive_answer(alloc, request) {
         Some(answer) => Some(answer),
         None => None,
     }

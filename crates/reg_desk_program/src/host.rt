@@ -19,9 +19,7 @@ use mio::{Events, Poll};
 use reg_audit_rows::AuditResult;
 use reg_core::{Cause, Fault, Memory, Policy, io_cause_of, port_cause_of};
 use reg_crl::{DigestSeal, Signer};
-use reg_crl_signer::{
-    DeviceConnection, PresetSignature, RegisterSigner, SignatureRequest, read_answer,
-};
+use reg_crl_signer::{PresetSignature, RegisterSigner, SignatureRequest};
 use reg_der::Issuer;
 use reg_desk_cli::{Failure, ResponderChoice};
 use reg_desk_files::{
@@ -379,8 +377,13 @@ impl<'a> Machine for Host<'a> {
         }
     }
 
-    fn request_signature(&self, path: &str, message: &[u8]) -> io::Result<SignatureRequest> {
-        match SignatureRequest::send_to(&self.rt, path, message) {
+    fn request_signature(
+        &self,
+        path: &str,
+        message: &[u8],
+        kept: Option<SignatureRequest>,
+    ) -> io::Result<SignatureRequest> {
+        match SignatureRequest::send_to(&self.rt, path, message, kept) {
             Ok(request) => Ok(request),
             Err(error) => Err(as_would_block(error)),
         }
@@ -398,7 +401,7 @@ impl<'a> Machine for Host<'a> {
             (path message : List ℕ) → IsSignatureRequest path message link.old → Unspecified path) }
         ensures short { IfSome result (λ answer. length answer.items ≤ 4096) }
     {
-        read_answer(alloc, link)
+        link.take_signature(alloc)
     }
 
     fn set_preset(

@@ -6,13 +6,14 @@ use Rattle.std.specs.List.{concat}
 use Rattle.std.proofs.lemmas.List.{append-nil, append_assoc}
 use Rattle.std.proofs.lemmas.List.Elements.{AllZip-push}
 use Rattle.std.proofs.lemmas.List.Folds.{concat-append}
+use Rattle.reg_crl_signer.specs.OpenConnections.{SinceOpened, more_received, more_sent, nothing_yet}
 use Rattle.reg_http_head.specs.Bytes.{collected_bytes}
 use Rattle.reg_http_head.specs.declared.collected.Collected.{Collected}
-use Rattle.reg_desk_server.specs.Connections.{FinishesInSomeState, IsServedOnce, HasAnsweredLines, IsAnsweredAtMostOnce, IsAnsweredBy, KeepsServed, ServesOn, SinceAccepted, AnswersNoMoreLines, AnswersMoreLines, WasAnswered, WasLeftUnsigned, more_received, more_sent, nothing_yet}
+use Rattle.reg_desk_server.specs.Connections.{FinishesInSomeState, IsServedOnce, HasAnsweredLines, IsAnsweredAtMostOnce, IsAnsweredBy, KeepsServed, ServesOn, AnswersNoMoreLines, AnswersMoreLines, WasAnswered, WasLeftUnsigned}
 use Rattle.reg_desk_server.specs.ControlLines.{DefersFirstLine, Gathers, IsFresh, SameLines, SameLinkAndEnd, AnswersFirstLines, AnswersDeferred}
 use Rattle.reg_desk_server.specs.LineEnds.{IsWholeLines}
 use Rattle.reg_desk_server.specs.Exchange.{Outcome, said, pending, later}
-use Rattle.reg_desk_server.specs.Stages.{Answering, Finishing, HasReceived, HasUnsentText, HasUnsentRest, IsDraining, IsDropped, KeepsOutcome, AwaitsSignature, KeepsReceived, KeepsSigning}
+use Rattle.reg_desk_server.specs.Stages.{Answering, Finishing, HasReceived, HasUnsentText, HasUnsentRest, IsDraining, IsDropped, KeepsOutcome, AwaitsSignature, KeepsReceived}
 use Rattle.reg_desk_server.specs.Buffers.{unsent_of}
 use Rattle.reg_desk_server.specs.declared.control_connection.ControlConnection.{ControlConnection}
 use Rattle.reg_desk_server.specs.declared.handler.Handler.{Ghosts}
@@ -92,7 +93,7 @@ module _ {S H : Type 0} (contents remaining : S → Option (List ℕ)) (answers_
         arrived = was.arrived;
         gone = was.gone;
         lost = was.lost;
-        since = subst (SinceAccepted contents remaining first was.arrived was.gone) (sym same.0) was.since;
+        since = subst (SinceOpened contents remaining first was.arrived was.gone) (sym same.0) was.since;
         told =
             was.told
             ∙ ap (λ (l : List ℕ). l ++ was.lost)
@@ -114,7 +115,7 @@ module _ {S H : Type 0} (contents remaining : S → Option (List ℕ)) (answers_
     arrived = was.arrived;
     gone = was.gone;
     lost = was.lost;
-    since = subst (SinceAccepted contents remaining first was.arrived was.gone) (sym same.0) was.since;
+    since = subst (SinceOpened contents remaining first was.arrived was.gone) (sym same.0) was.since;
     told = was.told ∙ ap (λ (l : List ℕ). concat lines ++ l ++ was.lost) (sym as_held.0);
     answered = was.answered ∙ ap (λ (l : List ℕ). was.gone ++ l) (sym as_held.1);
     each = was.each;
@@ -140,7 +141,7 @@ module _ {S H : Type 0} (contents remaining : S → Option (List ℕ)) (answers_
 -- an answer that the handler finishes in this state is finished in some state
 pub finishes_once : {H T : Type 0} (finishes : H → T → List ℕ → Type 0) (s : H) (before after : Stage T)
     → Finishing (finishes s) before after → Finishing (FinishesInSomeState finishes) before after
-finishes_once finishes s (stage.Signing ticket link exact) after (text, finished, holds) = (text, (s, finished), holds)
+finishes_once finishes s (stage.Signing ticket exact) after (text, finished, holds) = (text, (s, finished), holds)
 finishes_once finishes s other after same = same
 
 module _ {H T : Type 0} (answers : H → List ℕ → Outcome T → H → Type 0) (finishes : T → List ℕ → Type 0) where
@@ -170,7 +171,7 @@ module _ {H T : Type 0} (answers : H → List ℕ → Outcome T → H → Type 0
   -- an answer is still left to be signed
   waiting_on : (after : Stage T) (arrived gone : List ℕ) (ticket : T) (ended : Bool) → gone ≡ [] → WasLeftUnsigned answers arrived ticket → AwaitsSignature after ticket
       → IsAnsweredAtMostOnce answers finishes arrived gone after ended
-  waiting_on (stage.Signing kept link exact) arrived gone ticket ended none was waits =
+  waiting_on (stage.Signing kept exact) arrived gone ticket ended none was waits =
       (none, subst (λ (kept : T). WasLeftUnsigned answers arrived kept) (sym waits) was)
   waiting_on _ arrived gone ticket ended none was waits = absurd waits
 
@@ -233,15 +234,9 @@ module _ {H T : Type 0} (answers : H → List ℕ → Outcome T → H → Type 0
   -- an answer that was left to be signed was finished, or nothing changed
   pub finishing_on : (before after : Stage T) (arrived gone : List ℕ) (ended ended' : Bool) → IsAnsweredAtMostOnce answers finishes arrived gone before ended
       → Finishing finishes before after → (ended ≡ true → ended' ≡ true) → IsAnsweredAtMostOnce answers finishes arrived gone after ended'
-  finishing_on (stage.Signing ticket link exact) after arrived gone ended ended' (none, (asked, dropped, came_so, by)) (text, finished, holds) ends =
+  finishing_on (stage.Signing ticket exact) after arrived gone ended ended' (none, (asked, dropped, came_so, by)) (text, finished, holds) ends =
       answered_by after arrived gone text ended' none (asked, dropped, came_so, inr (ticket, finished, by)) holds
   finishing_on other after arrived gone ended ended' was same ends = same_on other after arrived gone ended ended' same ends was
-
-  -- a signature was requested, or nothing changed
-  pub resting_on : (before after : Stage T) (arrived gone : List ℕ) (ended ended' : Bool) → IsAnsweredAtMostOnce answers finishes arrived gone before ended
-      → KeepsSigning before after → (ended ≡ true → ended' ≡ true) → IsAnsweredAtMostOnce answers finishes arrived gone after ended'
-  resting_on (stage.Signing ticket link exact) after arrived gone ended ended' was waits ends = waiting_on after arrived gone ticket ended' was.0 was.1 waits
-  resting_on other after arrived gone ended ended' was same ends = same_on other after arrived gone ended ended' same ends was
 
   -- a request kept its bytes, or nothing changed
   pub keeping_on : (before after : Stage T) (arrived gone : List ℕ) (ended ended' : Bool) → IsAnsweredAtMostOnce answers finishes arrived gone before ended
@@ -285,7 +280,7 @@ module _ {S H T L : Type 0} (contents remaining : S → Option (List ℕ)) (g : 
                 asking_on g.answers (FinishesInSomeState g.finishes) collected new.stage was.arrived was.gone bytes it.kept it.lost (is_some old.fault)
                 (is_some new.fault) once asks it.held it.whole over;
           }
-      go (stage.Signing ticket link exact) once receives sends drops =
+      go (stage.Signing ticket exact) once receives sends drops =
           let (waits, dropped) = drops.0 ticket refl in
           record {
             arrived = was.arrived ++ dropped.0;
@@ -325,6 +320,6 @@ module _ {S H T L : Type 0} (contents remaining : S → Option (List ℕ)) (g : 
   served_by step changes first old new was same stepped ends = record {
     arrived = was.arrived;
     gone = was.gone;
-    since = subst (SinceAccepted contents remaining first was.arrived was.gone) (sym same) was.since;
+    since = subst (SinceOpened contents remaining first was.arrived was.gone) (sym same) was.since;
     once = changes old.stage new.stage was.arrived was.gone (is_some old.fault) (is_some new.fault) was.once stepped ends;
   }

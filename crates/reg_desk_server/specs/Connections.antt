@@ -3,6 +3,7 @@
 use Rattle.std.specs.Prelude.{◌≡◌, ◌⊎◌, ℕ, Bool, true, List, [], ◌∷◌, ◌++◌, Option, is_some}
 use Rattle.std.specs.Io.KnownBytes.{Appends, Consumes}
 use Rattle.std.specs.List.{AllZip, concat}
+use Rattle.reg_crl_signer.specs.OpenConnections.{SinceOpened}
 use Rattle.reg_http_head.specs.Bytes.{collected_bytes}
 use Rattle.reg_desk_server.specs.Exchange.{Outcome, said, pending}
 use Rattle.reg_desk_server.specs.ControlLines.{Advances, SameLinkAndEnd}
@@ -14,17 +15,6 @@ use Rattle.reg_desk_server.specs.declared.handler.Handler.{Ghosts}
 use Rattle.reg_desk_server.specs.declared.http_connection.HttpConnection.{HttpConnection}
 use Rattle.reg_desk_server.specs.declared.http_connection.Stage.{Stage}
 use Rattle.reg_desk_server.specs.declared.http_connection.Stage.TheVariants as stage
-
--- since a connection was accepted these bytes came on it, and those were sent on it, in any pieces
-pub data SinceAccepted {S : Type 0} (contents remaining : S → Option (List ℕ)) (first : S) : List ℕ → List ℕ
-    → S → Type 0 where
-  nothing_yet : SinceAccepted contents remaining first [] [] first
-  more_received : (arrived gone more : List ℕ) (s t : S)
-      → SinceAccepted contents remaining first arrived gone s → Consumes (remaining s) (remaining t) more
-      → SinceAccepted contents remaining first (arrived ++ more) gone t
-  more_sent : (arrived gone more : List ℕ) (s t : S) → SinceAccepted contents remaining first arrived gone s
-      → Appends (contents s) (contents t) more
-      → SinceAccepted contents remaining first arrived (gone ++ more) t
 
 -- these whole lines got these replies from the handler, in some state of the handler
 abbrev pub IsAnsweredBy : {H : Type 0} → (H → List ℕ → List ℕ → H → Type 0) → List ℕ → List ℕ → Type 0
@@ -41,7 +31,7 @@ module _ {S H : Type 0} (contents remaining : S → Option (List ℕ))
     pub arrived : List ℕ
     pub gone : List ℕ
     pub lost : List ℕ
-    pub since : SinceAccepted contents remaining first arrived gone connection.link
+    pub since : SinceOpened contents remaining first arrived gone connection.link
     pub told : arrived ≡ concat lines ++ connection.arrived.items ++ lost
     pub answered : concat replies ≡ gone ++ unsent_of connection.unsent
     pub each : AllZip (IsAnsweredBy answers_lines) lines replies
@@ -92,7 +82,7 @@ module _ {H T : Type 0} (answers : H → List ℕ → Outcome T → H → Type 0
   IsAnsweredAtMostOnce finishes arrived gone (stage.Receiving collected) ended =
       (gone ≡ []) × (lost : List ℕ) × (arrived ≡ collected_bytes collected ++ lost)
       × ((lost ≡ []) ⊎ (ended ≡ true))
-  IsAnsweredAtMostOnce finishes arrived gone (stage.Signing ticket link exact) ended =
+  IsAnsweredAtMostOnce finishes arrived gone (stage.Signing ticket exact) ended =
       (gone ≡ []) × WasLeftUnsigned arrived ticket
   IsAnsweredAtMostOnce finishes arrived gone (stage.Sending unsent exact) ended =
       WasAnswered finishes arrived (gone ++ unsent_of unsent)
@@ -104,7 +94,7 @@ module _ {S H T L : Type 0} (contents remaining : S → Option (List ℕ)) (g : 
   pub record IsServedOnce (first : S) (connection : HttpConnection S H T L) : Type 0 where
     pub arrived : List ℕ
     pub gone : List ℕ
-    pub since : SinceAccepted contents remaining first arrived gone connection.link
+    pub since : SinceOpened contents remaining first arrived gone connection.link
     pub once : IsAnsweredAtMostOnce g.answers (FinishesInSomeState g.finishes) arrived gone connection.stage
         (is_some connection.fault)
 

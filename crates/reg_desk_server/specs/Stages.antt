@@ -33,7 +33,7 @@ HasUnsentText other text = ⊥
 
 -- the answer with this ticket is left to be signed
 abbrev pub AwaitsSignature : {T : Type 0} → Stage T → T → Type 0
-AwaitsSignature (stage.Signing kept link exact) ticket = kept ≡ ticket
+AwaitsSignature (stage.Signing kept exact) ticket = kept ≡ ticket
 AwaitsSignature other ticket = ⊥
 
 -- the stage keeps this outcome: the whole text is unsent, or the ticket waits for a signature
@@ -51,14 +51,9 @@ Answering answers s t other after = after ≡ other
 
 -- an answer that was left to be signed is finished with a text for its ticket; in any other stage nothing changes
 abbrev pub Finishing : {T : Type 0} → (T → List ℕ → Type 0) → Stage T → Stage T → Type 0
-Finishing finishes (stage.Signing ticket link exact) after =
+Finishing finishes (stage.Signing ticket exact) after =
     (text : List ℕ) × finishes ticket text × HasUnsentText after text
 Finishing finishes other after = after ≡ other
-
--- an answer that is left to be signed still is, with the same ticket; in any other stage nothing changes
-abbrev pub KeepsSigning : {T : Type 0} → Stage T → Stage T → Type 0
-KeepsSigning (stage.Signing ticket link exact) after = AwaitsSignature after ticket
-KeepsSigning other after = after ≡ other
 
 -- the answer was sent, and the bytes that still come are dropped
 abbrev pub IsDraining : {T : Type 0} → Stage T → Type 0

@@ -11,11 +11,12 @@ use crate::http_connection::HttpConnection;
 use crate::http_connections::{HttpConnections, MOST_HTTP_CONNECTIONS, SWEEP_MILLIS};
 use crate::poller::{
     CONTROL_LISTENER, FIRST_CONTROL, FIRST_HTTP, FIRST_SIGNATURE, HTTP_LISTENER, LINE_SIGNER,
-    LINE_SIGNER_ENDED, MOST_SIGNATURES,
+    MOST_SIGNATURES,
 };
 use crate::shared::{LostConnection, Shared};
 use crate::signature_requests::{Requester, SignatureRequests, TIMEOUT_MILLIS, WantedSignature};
 use mio::net::{TcpListener, TcpStream, UnixListener};
+use reg_crl_signer::SignatureRequest;
 use std::alloc::AllocGlobal;
 use std::io;
 use std::io::ErrorKind;
@@ -48,7 +49,7 @@ impl<H: Handler> EventLoop<H> {
         let acceptor = Acceptor::new(listener, &shared.poller)?;
         let control = ControlConnections::new(shared.alloc, control, &shared.poller)?;
         let http = HttpConnections::new(shared.alloc, slots)?;
-        let signatures = SignatureRequests::new(shared.alloc);
+        let signatures = SignatureRequests::new(shared.alloc)?;
         Ok(EventLoop {
             shared,
             acceptor,
@@ -171,23 +172,14 @@ impl<H: Handler> EventLoop<H> {
             self.control.advance(slot, &mut self.shared);
         } else if token < LINE_SIGNER {
             self.signatures
-                .mark_ended(token.saturating_sub(FIRST_SIGNATURE));
-        } else if token <= LINE_SIGNER_ENDED {
-            self.advance_line(token);
+                .advance(token.saturating_sub(FIRST_SIGNATURE));
+        } else if token == LINE_SIGNER {
+            if let Some(waiting) = &mut self.control.waiting {
+                waiting.advance(&self.shared.poller);
+            }
         } else {
             let slot = token.saturating_sub(FIRST_HTTP);
             self.http.advance(slot, &mut self.shared, now);
-        }
-    }
-
-    /// Advances the control line that waits for a signature: the connection to the signer is ready, or has ended.
-    fn advance_line(&mut self, token: usize) {
-        if let Some(waiting) = &mut self.control.waiting {
-            if token == LINE_SIGNER_ENDED {
-                waiting.mark_ended();
-            } else {
-                waiting.send_on(&self.shared.poller);
-            }
         }
     }
 
@@ -281,42 +273,40 @@ impl<H: Handler> EventLoop<H> {
         self.http.slots.put(slot, connection);
         // Out of memory for the queue: the answer is finished without a signature.
         if !self.signatures.add(requester, now) {
-            self.complete(requester, false, handler, now);
+            self.complete(requester, &mut None, handler, now);
         }
     }
 
     fn request_all(&mut self, handler: &H, now: u64) {
         for _ in 0..MOST_HTTP_CONNECTIONS {
             match self.signatures.next(now) {
-                Some((pending, index)) => self.request(pending, index, handler, now),
+                Some((wanted, index)) => self.request(wanted, index, handler, now),
                 None => return,
             }
         }
     }
 
-    /// Requests the signature of an answer that waited in the queue, at a free index. If its client closed its sending side meanwhile, closes the
+    /// Requests the signature of an answer that waited in the queue, at a free place. If its client closed its sending side meanwhile, closes the
     /// connection instead.
-    fn request(&mut self, pending: WantedSignature, index: usize, handler: &H, now: u64) {
-        let requester = pending.requester;
+    fn request(&mut self, wanted: WantedSignature, index: usize, handler: &H, now: u64) {
+        let requester = wanted.requester;
         // Whether it was queued at an earlier moment.
-        let has_waited = pending.deadline < now.saturating_add(TIMEOUT_MILLIS);
+        let has_waited = wanted.deadline < now.saturating_add(TIMEOUT_MILLIS);
         if has_waited && self.http.close_if_ended(requester, &mut self.shared, now) {
             return;
         }
-        let token = index.saturating_add(FIRST_SIGNATURE);
-        match self
-            .http
-            .request_signature(requester, handler, &self.shared.poller, token)
-        {
-            Ok(()) => {
-                if !self.signatures.put(index, pending) {
-                    self.complete(requester, false, handler, now);
+        let kept = self.signatures.take(index);
+        match self.http.request_signature(requester, handler, kept) {
+            Ok(request) => {
+                let poller = &self.shared.poller;
+                if !self.signatures.put(index, wanted, request, poller) {
+                    self.complete(requester, &mut None, handler, now);
                 }
             }
             Err(error) if error.kind() == ErrorKind::WouldBlock => {
-                self.signatures.requeue(pending, now);
+                self.signatures.requeue(wanted, now);
             }
-            Err(_) => self.complete(requester, false, handler, now),
+            Err(_) => self.complete(requester, &mut None, handler, now),
         }
     }
 
@@ -327,30 +317,39 @@ impl<H: Handler> EventLoop<H> {
         }
         for _ in 0..MOST_HTTP_CONNECTIONS {
             match self.signatures.take_expired(now) {
-                Some(expired) => self.complete(expired.requester, false, handler, now),
+                Some(expired) => self.complete(expired.requester, &mut None, handler, now),
                 None => return,
             }
         }
     }
 
     fn finish_at(&mut self, index: usize, handler: &H, now: u64) {
-        let Some(requested) = self.signatures.at(index) else {
+        let Some(wanted) = self.signatures.wanted(index) else {
             return;
         };
         let WantedSignature {
             requester,
             deadline,
-        } = requested.pending;
-        if requested.has_arrived || deadline <= now || !self.http.is_waiting(requester) {
-            self.signatures.drop_at(index);
-            self.complete(requester, requested.has_arrived, handler, now);
+        } = wanted;
+        let has_arrived = self.signatures.has_arrived(index);
+        if has_arrived || deadline <= now || !self.http.is_waiting(requester) {
+            let request = self.signatures.take(index);
+            let mut answered = if has_arrived { request } else { None };
+            self.complete(requester, &mut answered, handler, now);
+            self.signatures.keep(index, answered, &self.shared.poller);
         }
     }
 
-    /// Finishes the answer of a waiting connection, with its signature if that has come, and sends it.
-    fn complete(&mut self, requester: Requester, has_arrived: bool, handler: &H, now: u64) {
+    /// Finishes the answer of a waiting connection, with the signature from its request or without one, and sends it.
+    fn complete(
+        &mut self,
+        requester: Requester,
+        answered: &mut Option<SignatureRequest>,
+        handler: &H,
+        now: u64,
+    ) {
         if let Some(mut connection) = self.http.take_waiting(requester) {
-            connection.complete(handler, has_arrived, now);
+            connection.complete(handler, answered, now);
             self.send_on(requester.slot, connection, 0, now);
         }
     }

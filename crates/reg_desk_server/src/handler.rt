@@ -124,14 +124,17 @@ pub trait Handler {
         ensures err { OnErr result (self.new ≡ self.old) }
         ensures fails { OnErr result failed };
 
-    /// Requests the signature of an answer that is to be signed, without blocking. Returns the connection to the signer: the signature is all that
-    /// the signer sends on it. The error is `WouldBlock` if the signer's backlog is full, or if no descriptor is left. After any other, no signature
-    /// comes.
-    fn request_signature(&self, ticket: &Self::Ticket) -> io::Result<SignatureRequest>;
+    /// Requests the signature of an answer that is to be signed, without blocking. `kept` is the request of an earlier answer, whose connection may be
+    /// used again. The error is `WouldBlock` if the signer's backlog is full, or if no descriptor is left. After any other, no signature comes.
+    fn request_signature(
+        &self,
+        ticket: &Self::Ticket,
+        kept: Option<SignatureRequest>,
+    ) -> io::Result<SignatureRequest>;
 
-    /// The whole text of an answer that was left to be signed. `link` is the connection on which its signature was requested, once that connection is
-    /// at its end; `None` if there is no signature.
-    fn finish(&self, ticket: Self::Ticket, link: Option<SignatureRequest>) -> Vec<u8>
+    /// The whole text of an answer that was left to be signed. `request` is the request of its signature, from which the signature is taken, once
+    /// the signer's answer has arrived; `None` if there is no signature.
+    fn finish(&self, ticket: Self::Ticket, request: &mut Option<SignatureRequest>) -> Vec<u8>
         ensures { finishes self.now ticket result.items };
 
     /// Answers the first of these lines of a control connection, or the first several. The handler keeps in `last_reason`, which is empty at first,

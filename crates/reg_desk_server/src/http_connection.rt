@@ -2,11 +2,10 @@
 
 ghost use Rattle.std.specs.Prelude.{◌≡◌, ◌≤◌, ◌+◌, ◌⊎◌, [], OnOk, OnErr, is_some, IsSome, IfNone, IsTrue, Some, false, ◌↔◌};
 ghost use Rattle.reg_desk_server.specs.Handling.{Handled};
-ghost use Rattle.reg_desk_server.specs.Stages.{Answering, Drops, Finishing, HasReceived, HasUnsentText, IsDropped, IsIncomplete, KeepsReceived, KeepsSigning, ReceivesMore, SameLinkAndFault, Sends};
+ghost use Rattle.reg_desk_server.specs.Stages.{Answering, Drops, Finishing, HasReceived, HasUnsentText, IsDropped, IsIncomplete, KeepsReceived, ReceivesMore, SameLinkAndFault, Sends};
 
 use crate::handler::{ConnectionFault, EventLoopFault, Handler};
 use crate::link::Link;
-use crate::poller::Poller;
 use crate::request_bytes::{Received, receive};
 use crate::unsent::{Sent, Unsent};
 use mio::Interest;
@@ -30,8 +29,8 @@ const MOST_DROPPED: usize = 32;
 #[derive(Drop)]
 pub(crate) enum Stage<T> {
     Receiving(Collected),
-    /// The answer is to be signed: its ticket, the connection on which the signature was requested, and whether nothing came after the request.
-    Signing(T, Option<SignatureRequest>, bool),
+    /// The answer is to be signed: its ticket, and whether nothing came after the request.
+    Signing(T, bool),
     /// The answer is being sent; whether the connection is closed after its last byte, without `Draining`.
     Sending(Unsent, bool),
     /// The answer was sent, and the bytes that the client still sends are dropped.
@@ -312,7 +311,7 @@ impl<S: Link, H: Handler> HttpConnection<S, H> {
             }
             ReadyOrUnsigned::Unsigned(ticket) => {
                 self.deadline = now.saturating_add(TIMEOUT_MILLIS);
-                self.stage = Stage::Signing(ticket, None, is_exact);
+                self.stage = Stage::Signing(ticket, is_exact);
                 Ok(true)
             }
         }
@@ -329,39 +328,29 @@ impl<S: Link, H: Handler> HttpConnection<S, H> {
         self.deadline = now.saturating_add(TIMEOUT_MILLIS);
     }
 
-    /// Requests the signature of the answer, without blocking. The connection on which it will come is polled under a token. The errors are
-    /// those of [`Handler::request_signature`] and of the poller; `NotConnected` if no answer is to be signed.
+    /// Requests the signature of the answer, without blocking. The errors are those of [`Handler::request_signature`]; `NotConnected` if no answer
+    /// is to be signed.
     pub(crate) fn request_signature(
-        &mut self,
+        &self,
         handler: &H,
-        poller: &Poller,
-        token: usize,
-    ) -> io::Result<()>
-        ensures waits { KeepsSigning self.old.stage self.new.stage }
-        ensures kept { SameLinkAndFault self.old self.new }
-    {
-        match &mut self.stage {
-            Stage::Signing(ticket, signature_link, _) => {
-                let mut link = handler.request_signature(ticket)?;
-                poller.register(&mut link, token, Interest::READABLE, false)?;
-                *signature_link = Some(link);
-                Ok(())
-            }
+        kept: Option<SignatureRequest>,
+    ) -> io::Result<SignatureRequest> {
+        match &self.stage {
+            Stage::Signing(ticket, _) => handler.request_signature(ticket, kept),
             Stage::Receiving(_) => Err(io::Error::from(ErrorKind::NotConnected)),
             Stage::Sending(..) => Err(io::Error::from(ErrorKind::NotConnected)),
             Stage::Draining => Err(io::Error::from(ErrorKind::NotConnected)),
         }
     }
 
-    /// Finishes the answer that is to be signed: if `has_arrived`, with the signature from the connection on which it was requested; else without a
-    /// signature. In any other stage nothing changes.
-    pub fn complete(&mut self, handler: &H, has_arrived: bool, now: u64)
+    /// Finishes the answer that is to be signed: with the signature from its request, or without one. In any other stage nothing changes.
+    pub fn complete(&mut self, handler: &H, request: &mut Option<SignatureRequest>, now: u64)
         ensures finished { Finishing (H.finishes handler.now) self.old.stage self.new.stage }
         ensures kept { SameLinkAndFault self.old self.new }
     {
         match mem::replace(&mut self.stage, Stage::Draining) {
-            Stage::Signing(ticket, link, is_exact) => {
-                let finished = handler.finish(ticket, if has_arrived { link } else { None });
+            Stage::Signing(ticket, is_exact) => {
+                let finished = handler.finish(ticket, request);
                 self.start_sending(finished, is_exact, now);
             }
             Stage::Receiving(collected) => self.stage = Stage::Receiving(collected),

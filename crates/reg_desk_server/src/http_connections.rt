@@ -10,6 +10,7 @@ use crate::shared::{LostConnection, Shared};
 use crate::signature_requests::Requester;
 use crate::slots::Slots;
 use mio::net::TcpStream;
+use reg_crl_signer::SignatureRequest;
 use std::alloc::{AllocError, Global};
 use std::io;
 use std::io::ErrorKind;
@@ -281,19 +282,16 @@ impl<H: Handler> HttpConnections<H> {
     }
 
     pub(crate) fn request_signature(
-        &mut self,
+        &self,
         requester: Requester,
         handler: &H,
-        poller: &Poller,
-        token: usize,
-    ) -> io::Result<()> {
-        match self.take_waiting(requester) {
-            Some(mut connection) => {
-                let asked = connection.request_signature(handler, poller, token);
-                self.slots.put(requester.slot, connection);
-                asked
+        kept: Option<SignatureRequest>,
+    ) -> io::Result<SignatureRequest> {
+        match self.slots.get(requester.slot) {
+            Some(connection) if connection.number == requester.number => {
+                connection.request_signature(handler, kept)
             }
-            None => Err(io::Error::from(ErrorKind::NotConnected)),
+            _ => Err(io::Error::from(ErrorKind::NotConnected)),
         }
     }
 

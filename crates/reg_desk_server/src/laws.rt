@@ -3,7 +3,7 @@
 ghost use Rattle.std.specs.Prelude.{◌≡◌, []};
 ghost use Rattle.reg_desk_server.specs.Connections.{IsServedOnce, HasAnsweredLines, KeepsServed, ServesOn, AnswersNoMoreLines, AnswersMoreLines};
 ghost use Rattle.reg_desk_server.specs.ControlLines.{DefersFirstLine, IsFresh, AnswersFirstLines, AnswersDeferred};
-ghost use Rattle.reg_desk_server.specs.Stages.{Answering, Finishing, HasReceived, KeepsReceived, KeepsSigning};
+ghost use Rattle.reg_desk_server.specs.Stages.{Answering, Finishing, HasReceived, KeepsReceived};
 ghost use Rattle.reg_desk_server.specs.declared.control_connection.ControlConnection.{ControlConnection};
 ghost use Rattle.reg_desk_server.specs.declared.http_connection.HttpConnection.{HttpConnection};
 
@@ -31,7 +31,7 @@ pub fn each_line_is_answered_once_in_order<S: Link, H: Handler>()
 /// Over any steps since an HTTP connection was accepted: while it receives, the bytes that came are kept, except last ones for which there was no
 /// memory. Nothing is sent before its answer is finished. From then on the sent bytes, followed by the unsent ones, are the answer to a prefix of the
 /// bytes that came, which is passed to the handler once; the bytes after it are dropped (`IsServedOnce`). `HttpConnection::advance`, `answer`,
-/// `complete` and `record_fault` preserve this, also while a signature is requested, and if no more of the request is received.
+/// `complete` and `record_fault` preserve this, also if no more of the request is received.
 pub fn each_request_is_answered_at_most_once<S: Link, H: Handler>()
     ensures begins { (client : HttpConnection S H H.Ticket H.ControlTicket) → HasReceived client.stage []
         → IsServedOnce S.Write.contents S.Read.remaining H.Handler client.link client }
@@ -40,6 +40,5 @@ pub fn each_request_is_answered_at_most_once<S: Link, H: Handler>()
         → KeepsServed S.Write.contents S.Read.remaining H.Handler (Answering H.answers s t) }
     ensures finishes { (s : H)
         → KeepsServed S.Write.contents S.Read.remaining H.Handler (Finishing (H.finishes s)) }
-    ensures waits { KeepsServed S.Write.contents S.Read.remaining H.Handler KeepsSigning }
     ensures faults { KeepsServed S.Write.contents S.Read.remaining H.Handler KeepsReceived }
 {}

@@ -35,10 +35,7 @@ pub(crate) const FIRST_SIGNATURE: usize = 10;
 
 pub(crate) const LINE_SIGNER: usize = FIRST_SIGNATURE + MOST_SIGNATURES;
 
-/// Reported instead of `LINE_SIGNER` if the connection with that token is at its end.
-pub(crate) const LINE_SIGNER_ENDED: usize = LINE_SIGNER + 1;
-
-pub(crate) const FIRST_HTTP: usize = LINE_SIGNER + 2;
+pub(crate) const FIRST_HTTP: usize = LINE_SIGNER + 1;
 
 /// Polls connections, and keeps the tokens of those that are ready in this iteration.
 #[derive(Drop)]
@@ -97,8 +94,7 @@ impl Poller {
             .is_ok()
     }
 
-    /// Blocks until a socket is ready, at most for `longest`. Then `tokens` has the tokens of those that are ready. A signature request is ready once
-    /// its connection is at its end.
+    /// Blocks until a socket is ready, at most for `longest`. Then `tokens` has the tokens of those that are ready.
     pub(crate) fn poll<H: Handler>(
         &mut self,
         handler: &H,
@@ -111,24 +107,11 @@ impl Poller {
         self.tokens.clear();
         for event in &self.events {
             let Token(token) = event.token();
-            if let Some(token) = ready_token(token, event.is_read_closed()) {
-                // The vector has capacity for each event.
-                let _ = self.tokens.push(token);
-            }
+            // The vector has capacity for each event.
+            let _ = self.tokens.push(token);
         }
         Ok(())
     }
-}
-
-/// The token to report for an event: that of a signature request only if its connection is at its end.
-fn ready_token(token: usize, is_ended: bool) -> Option<usize> {
-    if FIRST_SIGNATURE <= token && token < LINE_SIGNER && !is_ended {
-        return None;
-    }
-    if token == LINE_SIGNER && is_ended {
-        return Some(LINE_SIGNER_ENDED);
-    }
-    Some(token)
 }
 
 pub(crate) fn is_out_of_descriptors(error: &io::Error) -> bool

@@ -1,7 +1,9 @@
 //! The signature requests for HTTP answers.
 
-use crate::poller::MOST_SIGNATURES;
-use std::alloc::Global;
+use crate::poller::{FIRST_SIGNATURE, MOST_SIGNATURES, Poller};
+use mio::Interest;
+use reg_crl_signer::SignatureRequest;
+use std::alloc::{AllocError, Global};
 use std::collections::VecDeque;
 use std::time::Duration;
 
@@ -30,19 +32,20 @@ pub(crate) struct WantedSignature {
     pub(crate) deadline: u64,
 }
 
-/// A requested signature. The requester's HTTP connection keeps the connection to the signer.
-#[derive(Clone, Copy)]
-pub(crate) struct Requested {
-    pub(crate) pending: WantedSignature,
-    /// Whether the connection to the signer is at its end, so that all of the answer has arrived.
-    pub(crate) has_arrived: bool,
+/// A place for one signature request at a time. Between two of them it may keep the connection to the signer.
+#[derive(Drop)]
+struct Place {
+    wanted: Option<WantedSignature>,
+    request: Option<SignatureRequest>,
+    /// Whether nothing more is awaited from the signer.
+    has_arrived: bool,
 }
 
-/// The signatures that were requested, each on its own connection, and the queue of those that are to be requested.
+/// The signatures that were requested, and the queue of those that are to be requested.
 #[derive(Drop)]
 pub(crate) struct SignatureRequests {
     queue: VecDeque<WantedSignature>,
-    requested: Vec<Option<Requested>>,
+    places: Vec<Place>,
     /// Until when no signature is requested, because the last request would have blocked.
     paused: Option<u64>,
     /// How many polls for a signature are left before the loop blocks.
@@ -50,13 +53,21 @@ pub(crate) struct SignatureRequests {
 }
 
 impl SignatureRequests {
-    pub(crate) fn new(alloc: Global) -> SignatureRequests {
-        SignatureRequests {
+    pub(crate) fn new(alloc: Global) -> Result<SignatureRequests, AllocError> {
+        let mut places = Vec::with_capacity(alloc, MOST_SIGNATURES)?;
+        for _ in 0..MOST_SIGNATURES {
+            places.push(Place {
+                wanted: None,
+                request: None,
+                has_arrived: false,
+            })?;
+        }
+        Ok(SignatureRequests {
             queue: VecDeque::new(alloc),
-            requested: Vec::new(alloc),
+            places,
             paused: None,
             polls: 0,
-        }
+        })
     }
 
     /// Queues a requester. Returns whether there was memory for it.
@@ -82,7 +93,7 @@ impl SignatureRequests {
         }
     }
 
-    /// The next of the queue, and a free index for it; `None` during a pause, if no index is free, or if the queue is empty.
+    /// The next of the queue, and a free place for it; `None` during a pause, if no place is free, or if the queue is empty.
     pub(crate) fn next(&mut self, now: u64) -> Option<(WantedSignature, usize)> {
         if let Some(paused) = self.paused {
             if now < paused {
@@ -90,15 +101,15 @@ impl SignatureRequests {
             }
         }
         self.paused = None;
-        let index = self.free_index()?;
+        let index = self.free_place()?;
         Some((self.queue.pop_front()?, index))
     }
 
     /// Puts a signature back at the head of the queue, because its request would have blocked, and begins a pause.
-    pub(crate) fn requeue(&mut self, pending: WantedSignature, now: u64) {
+    pub(crate) fn requeue(&mut self, wanted: WantedSignature, now: u64) {
         self.paused = Some(now.saturating_add(PAUSE_MILLIS));
         // There is capacity for it: it was taken from there.
-        let _ = self.queue.push_front(pending);
+        let _ = self.queue.push_front(wanted);
     }
 
     pub(crate) fn take_expired(&mut self, now: u64) -> Option<WantedSignature> {
@@ -108,42 +119,101 @@ impl SignatureRequests {
         }
     }
 
-    fn free_index(&self) -> Option<usize> {
-        for index in 0..MOST_SIGNATURES {
-            if self.at(index).is_none() {
+    fn free_place(&self) -> Option<usize> {
+        for index in 0..self.places.len() {
+            if self.wanted(index).is_none() {
                 return Some(index);
             }
         }
         None
     }
 
-    pub(crate) fn at(&self, index: usize) -> Option<Requested> {
-        *self.requested.get(index)?
+    /// The signature that was requested at a place.
+    pub(crate) fn wanted(&self, index: usize) -> Option<WantedSignature> {
+        self.places.get(index)?.wanted
     }
 
-    /// Keeps a requested signature at a free index. Returns whether there was memory for it.
-    pub(crate) fn put(&mut self, index: usize, pending: WantedSignature) -> bool {
+    /// Whether nothing more is awaited from the signer for the signature at a place.
+    pub(crate) fn has_arrived(&self, index: usize) -> bool {
+        match self.places.get(index) {
+            Some(place) => place.has_arrived,
+            None => false,
+        }
+    }
+
+    /// Takes the request out of a place, which is free then.
+    pub(crate) fn take(&mut self, index: usize) -> Option<SignatureRequest> {
+        let place = self.places.get_mut(index)?;
+        place.wanted = None;
+        place.request.take()
+    }
+
+    /// Keeps a request for a wanted signature at a free place, and polls it. Returns whether it can be polled.
+    pub(crate) fn put(
+        &mut self,
+        index: usize,
+        wanted: WantedSignature,
+        request: SignatureRequest,
+        poller: &Poller,
+    ) -> bool {
         self.polls = POLLS;
-        let requested = Requested {
-            pending,
-            has_arrived: false,
-        };
-        if let Some(entry) = self.requested.get_mut(index) {
-            *entry = Some(requested);
-            return true;
-        }
-        self.requested.push(Some(requested)).is_ok()
+        self.put_polled(index, Some(wanted), request, poller)
     }
 
-    pub(crate) fn mark_ended(&mut self, index: usize) {
-        if let Some(Some(requested)) = self.requested.get_mut(index) {
-            requested.has_arrived = true;
+    /// Keeps an answered request at its place, if its connection can be used again.
+    pub(crate) fn keep(
+        &mut self,
+        index: usize,
+        answered: Option<SignatureRequest>,
+        poller: &Poller,
+    ) {
+        if let Some(mut request) = answered {
+            if request.can_be_kept() {
+                // If it can't be polled, it is closed.
+                self.put_polled(index, None, request, poller);
+            }
         }
     }
 
-    pub(crate) fn drop_at(&mut self, index: usize) {
-        if let Some(entry) = self.requested.get_mut(index) {
-            *entry = None;
+    fn put_polled(
+        &mut self,
+        index: usize,
+        wanted: Option<WantedSignature>,
+        mut request: SignatureRequest,
+        poller: &Poller,
+    ) -> bool {
+        let token = index.saturating_add(FIRST_SIGNATURE);
+        if !request.is_registered()
+            && poller
+                .register(&mut request, token, Interest::READABLE, false)
+                .is_err()
+        {
+            return false;
+        }
+        match self.places.get_mut(index) {
+            Some(place) => {
+                *place = Place {
+                    wanted,
+                    request: Some(request),
+                    has_arrived: false,
+                };
+                true
+            }
+            None => false,
+        }
+    }
+
+    /// Reads what has come from the signer at a place. If no signature is wanted there, a connection that has ended is closed.
+    pub(crate) fn advance(&mut self, index: usize) {
+        if let Some(place) = self.places.get_mut(index) {
+            if let Some(request) = &mut place.request {
+                if request.receive() {
+                    place.has_arrived = true;
+                }
+            }
+            if place.has_arrived && place.wanted.is_none() {
+                place.request = None;
+            }
         }
     }
 }

@@ -6,7 +6,7 @@ use crate::poller::{LINE_SIGNER, Poller};
 use crate::unsent::{Sent, Unsent};
 use mio::Interest;
 use mio::net::UnixStream;
-use reg_crl_signer::{DeviceConnection, SignatureRequest};
+use reg_crl_signer::SignatureRequest;
 use std::io::ErrorKind;
 
 /// How many milliseconds a signature may take, from the iteration in which its message was made.
@@ -64,12 +64,17 @@ impl<H: Handler> WaitingLine<H> {
         self.has_ended() || self.deadline <= now
     }
 
-    /// The connection to the signer is at its end: the answer has arrived, unless the message was not wholly sent.
-    pub(crate) fn mark_ended(&mut self) {
-        self.progress = match self.progress {
-            Progress::Waiting | Progress::Arrived => Progress::Arrived,
-            Progress::Sending | Progress::Failed => Progress::Failed,
-        };
+    /// The connection to the signer is ready: sends more of the message, or reads what has come of the answer.
+    pub(crate) fn advance(&mut self, poller: &Poller) {
+        if !matches!(self.progress, Progress::Waiting) {
+            self.send_on(poller);
+            return;
+        }
+        if let Some(link) = &mut self.link {
+            if link.receive() {
+                self.progress = Progress::Arrived;
+            }
+        }
     }
 
     /// If there is no connection to the signer yet, connects, and begins to send the message. If connecting would block, a later call tries again.
@@ -87,7 +92,7 @@ impl<H: Handler> WaitingLine<H> {
         }
     }
 
-    pub(crate) fn send_on(&mut self, poller: &Poller) {
+    fn send_on(&mut self, poller: &Poller) {
         if !matches!(self.progress, Progress::Sending) {
             return;
         }

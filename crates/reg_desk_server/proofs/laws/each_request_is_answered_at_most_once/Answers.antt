@@ -1,6 +1,6 @@
 use Rattle.reg_desk_server.specs.Connections.{FinishesInSomeState}
-use Rattle.reg_desk_server.specs.Stages.{Answering, Finishing, KeepsReceived, KeepsSigning}
-use Rattle.reg_desk_server.proofs.WholeConnections.{answering_on, finishes_once, finishing_on, keeping_on, resting_on, served_by, served_none, served_on}
+use Rattle.reg_desk_server.specs.Stages.{Answering, Finishing, KeepsReceived}
+use Rattle.reg_desk_server.proofs.WholeConnections.{answering_on, finishes_once, finishing_on, keeping_on, served_by, served_none, served_on}
 use Rattle.reg_desk_server.proofs.laws.each_request_is_answered_at_most_once.Goals as goal
 
 pub returns-clause-begins : goal.returns-clause-begins
@@ -20,11 +20,6 @@ returns-clause-finishes g c = λ s.
     (λ before after arrived gone ended ended' once step ends.
     finishing_on g.H.Handler.answers (FinishesInSomeState g.H.Handler.finishes) before after arrived gone ended ended' once
     (finishes_once g.H.Handler.finishes s before after step) ends)
-
-pub returns-clause-waits : goal.returns-clause-waits
-returns-clause-waits g c =
-    served_by g.S.Write.contents g.S.Read.remaining g.H.Handler KeepsSigning
-    (resting_on g.H.Handler.answers (FinishesInSomeState g.H.Handler.finishes))
 
 pub returns-clause-faults : goal.returns-clause-faults
 returns-clause-faults g c =

@@ -1,0 +1,65 @@
+-- One connection to a signer: a message waits for its answer, and only then the next one is sent.
+use Rattle.std.specs.Prelude.{◌≡◌, ℕ, List, [], ◌++◌, Option}
+use Rattle.std.specs.Io.KnownBytes.{Appends, Consumes, IsAtEnd}
+use Rattle.reg_crl_signer.specs.CountedBytes.{counted_bytes}
+use Rattle.reg_crl_signer.specs.declared.signer_connection.Framing.{Framing}
+use Rattle.reg_crl_signer.specs.declared.signer_connection.Framing.TheVariants.{ByEnd, ByLength}
+use Rattle.reg_crl_signer.specs.declared.signer_connection.Progress.{Progress}
+use Rattle.reg_crl_signer.specs.declared.signer_connection.Progress.TheVariants.{Idle, Waiting, Arrived, Failed}
+use Rattle.reg_crl_signer.specs.declared.signer_connection.SignerConnection.{SignerConnection}
+
+-- these octets are this answer, by the framing of the connection
+abbrev pub FramesAnswer : Framing → List ℕ → List ℕ → Type 0
+FramesAnswer ByEnd octets answer = octets ≡ answer
+FramesAnswer ByLength octets answer = octets ≡ counted_bytes answer
+
+-- the progress of a message while octets come: an awaited answer arrives, or the connection fails
+abbrev pub LeadsOn : Progress → Progress → Type 0
+LeadsOn Idle Idle = Unit {0}
+LeadsOn Waiting Waiting = Unit {0}
+LeadsOn Waiting Arrived = Unit {0}
+LeadsOn Arrived Arrived = Unit {0}
+LeadsOn old Failed = Unit {0}
+LeadsOn old new = ⊥
+
+-- the answer has arrived, or none will
+abbrev pub HasEnded : Progress → Type 0
+HasEnded Arrived = Unit {0}
+HasEnded Failed = Unit {0}
+HasEnded other = ⊥
+
+module _ {S : Type 0} where
+  -- nothing was sent or received yet
+  pub record IsNewConnection (stream : S) (framing : Framing) (progress : Progress)
+      (it : SignerConnection S) : Type 0 where
+    pub stream_is : it.stream ≡ stream
+    pub framing_is : it.framing ≡ framing
+    pub progress_is : it.progress ≡ progress
+    pub none : it.received.items ≡ []
+
+  -- Octets came, and were appended to those received, unless the connection failed. If none was awaited, and one came, it failed.
+  pub record Receives (remaining : S → Option (List ℕ)) (old new : SignerConnection S) : Type 0 where
+    pub came : List ℕ
+    pub consumed : Consumes (remaining old.stream) (remaining new.stream) came
+    pub kept : ¬ (new.progress ≡ Failed) → new.received.items ≡ old.received.items ++ came
+    pub leads : LeadsOn old.progress new.progress
+    pub idle : new.progress ≡ Idle → came ≡ []
+    pub ended : old.progress ≡ Waiting → new.progress ≡ Arrived → new.framing ≡ ByEnd → IsAtEnd (remaining new.stream)
+    pub same_framing : new.framing ≡ old.framing
+
+  -- the next message was sent, and no answer was awaited before
+  pub record SendsNext (contents : S → Option (List ℕ)) (old new : SignerConnection S) (message : List ℕ) : Type 0 where
+    pub was_idle : old.progress ≡ Idle
+    pub sent : Appends (contents old.stream) (contents new.stream) (counted_bytes message)
+    pub awaits : new.progress ≡ Waiting
+    pub persistent : new.framing ≡ ByLength
+    pub same : new.received.items ≡ old.received.items
+
+  -- the octets received were this answer, and it was taken
+  pub record TakesAnswer (old new : SignerConnection S) (answer : List ℕ) : Type 0 where
+    pub had_arrived : old.progress ≡ Arrived
+    pub is : FramesAnswer old.framing old.received.items answer
+    pub idle : new.progress ≡ Idle
+    pub none_left : new.received.items ≡ []
+    pub same_stream : new.stream ≡ old.stream
+    pub same_framing : new.framing ≡ old.framing

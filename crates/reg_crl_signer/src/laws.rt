@@ -1,0 +1,21 @@
+//! The law of persistent connections to a signer. The function does nothing: its contract is the law.
+
+ghost use Rattle.std.specs.Prelude.{◌≡◌, []};
+ghost use Rattle.reg_crl_signer.specs.PersistentConnections.{HasExchanged, ReceivesOn, SendsOneMore, TakesOneMore};
+ghost use Rattle.reg_crl_signer.specs.SignerConnections.{IsNewConnection};
+ghost use Rattle.reg_crl_signer.specs.declared.signer_connection.SignerConnection.{SignerConnection};
+
+use crate::signer_connection::{Framing, Progress};
+use std::io::{Read, Write};
+
+/// Each answer that is taken from a persistent connection is the signer's answer to the message with the same number, in the order in which they were
+/// sent. `SignerConnection::receive`, `send_next` and `take_answer` preserve this (`HasExchanged`). No clause states which bytes a socket carries, nor
+/// that the signer answers in order.
+pub fn each_answer_is_to_its_message<S: Read + Write>()
+    ensures begins { (stream : S) (it : SignerConnection S)
+        → IsNewConnection stream Framing.ByLength Progress.Idle it
+        → HasExchanged S.Write.contents S.Read.remaining stream it [] [] }
+    ensures receives { ReceivesOn S.Write.contents S.Read.remaining }
+    ensures sends { SendsOneMore S.Write.contents S.Read.remaining }
+    ensures takes { TakesOneMore S.Write.contents S.Read.remaining }
+{}

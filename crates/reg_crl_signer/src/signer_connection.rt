@@ -1,0 +1,204 @@
+//! One connection to a signer: a message waits for its answer, and only then the next one is sent.
+
+ghost use Rattle.std.specs.Prelude.{◌≡◌, ◌≤◌, ◌↔◌, IfSome, IsTrue, length};
+
+use crate::counted_bytes::{LENGTH_BYTES, with_length, without_length};
+use crate::signer::LONGEST_ANSWER;
+use reg_io::write_whole;
+use std::alloc::Global;
+use std::io::{ErrorKind, Read, Write};
+
+/// The most bytes of a message on a persistent connection: the first byte of its length is 0.
+const LONGEST_MESSAGE: usize = 16_777_215;
+
+/// The most bytes of one read.
+const READ_BYTES: usize = 512;
+
+/// The most reads for one answer: each but the last has a byte of it, or the answer is too long.
+const MOST_READS: usize = LENGTH_BYTES + LONGEST_ANSWER + 2;
+
+/// How a message and its answer end.
+#[derive(Clone, Copy, PartialEq, Eq)]
+pub enum Framing {
+    /// Each ends with its side of the connection, which is for one message.
+    ByEnd,
+    /// Its length precedes it, in four bytes, big-endian: the connection is persistent.
+    ByLength,
+}
+
+/// The progress of the last message.
+#[derive(Clone, Copy, PartialEq, Eq)]
+pub enum Progress {
+    /// Its answer was taken, or there was no message.
+    Idle,
+    /// Its answer is awaited.
+    Waiting,
+    /// Its whole answer has come.
+    Arrived,
+    /// The connection failed, or what came is no answer.
+    Failed,
+}
+
+/// A non-blocking connection to a signer.
+#[derive(Drop)]
+pub struct SignerConnection<S> {
+    pub(crate) stream: S,
+    framing: Framing,
+    progress: Progress,
+    /// What came since the last answer was taken.
+    received: Vec<u8>,
+}
+
+impl<S: Drop> SignerConnection<S> {
+    ghost use Rattle.reg_crl_signer.specs.SignerConnections.{FramesAnswer, HasEnded, IsNewConnection, LeadsOn, TakesAnswer};
+
+    /// A connection for one message, whose answer is awaited, though the message is not sent yet.
+    pub fn for_one(alloc: Global, stream: S) -> SignerConnection<S>
+        ensures { IsNewConnection stream Framing.ByEnd Progress.Waiting result }
+    {
+        SignerConnection::new(alloc, stream, Framing::ByEnd, Progress::Waiting)
+    }
+
+    /// A persistent connection, on which no message was sent.
+    pub fn persistent(alloc: Global, stream: S) -> SignerConnection<S>
+        ensures { IsNewConnection stream Framing.ByLength Progress.Idle result }
+    {
+        SignerConnection::new(alloc, stream, Framing::ByLength, Progress::Idle)
+    }
+
+    fn new(alloc: Global, stream: S, framing: Framing, progress: Progress) -> SignerConnection<S>
+        ensures { IsNewConnection stream framing progress result }
+    {
+        SignerConnection {
+            stream,
+            framing,
+            progress,
+            received: Vec::new(alloc),
+        }
+    }
+
+    /// Whether the connection is persistent and awaits no answer, so that the next message may be sent.
+    pub fn is_idle(&self) -> bool
+        ensures { IsTrue result ↔ ((self.now.framing ≡ Framing.ByLength) × (self.now.progress ≡ Progress.Idle)) }
+    {
+        self.framing == Framing::ByLength && self.progress == Progress::Idle
+    }
+
+    /// Whether the answer has arrived, or none will.
+    pub fn has_ended(&self) -> bool
+        ensures { IsTrue result ↔ HasEnded self.now.progress }
+    {
+        match self.progress {
+            Progress::Idle | Progress::Waiting => false,
+            Progress::Arrived | Progress::Failed => true,
+        }
+    }
+
+    /// The answer, once it has arrived. On a persistent connection the next message may be sent then. `None` also if there is no memory.
+    pub fn take_answer(&mut self, alloc: Global) -> Option<Vec<u8>>
+        ensures taken { IfSome result (λ answer. TakesAnswer self.old self.new answer.items) }
+        ensures short { IfSome result (λ answer. length answer.items ≤ 4096) }
+    {
+        if self.progress != Progress::Arrived {
+            return None;
+        }
+        let answer = Vec::from_slice(alloc, self.answer()?).ok()?;
+        self.progress = Progress::Idle;
+        self.received.clear();
+        Some(answer)
+    }
+
+    /// The answer in the bytes that came, of which more may come. `None` if there is none of at most 4,096 bytes.
+    fn answer(&self) -> Option<&[u8]>
+        ensures is { IfSome result (λ answer. FramesAnswer self.now.framing self.now.received.items answer.now) }
+        ensures short { IfSome result (λ answer. length answer.now ≤ 4096) }
+    {
+        let answer = match self.framing {
+            Framing::ByEnd => self.received.as_slice(),
+            Framing::ByLength => without_length(&self.received)?,
+        };
+        if answer.len() > LONGEST_ANSWER {
+            return None;
+        }
+        Some(answer)
+    }
+
+    /// The progress after more bytes came, or the end of the connection.
+    fn progress_after(&self, is_at_end: bool) -> Progress
+        ensures leads { LeadsOn self.now.progress result }
+        ensures not_idle { ¬ (result ≡ Progress.Idle) }
+        ensures ended { result ≡ Progress.Arrived → self.now.framing ≡ Framing.ByEnd → IsTrue is_at_end }
+    {
+        if self.progress != Progress::Waiting {
+            return Progress::Failed;
+        }
+        let is_whole = is_at_end == (self.framing == Framing::ByEnd) && self.answer().is_some();
+        if is_whole {
+            Progress::Arrived
+        } else if is_at_end || self.received.len() > LENGTH_BYTES + LONGEST_ANSWER {
+            Progress::Failed
+        } else {
+            Progress::Waiting
+        }
+    }
+}
+
+impl<S: Read + Drop> SignerConnection<S> {
+    ghost use Rattle.reg_crl_signer.specs.SignerConnections.{Receives};
+
+    /// Reads what has come, without blocking.
+    pub fn receive(&mut self)
+        ensures { Receives S.remaining self.old self.new }
+    {
+        for _ in 0..MOST_READS {
+            if !self.receive_once() {
+                return;
+            }
+        }
+    }
+
+    /// Reads once. Returns whether more of an answer may have come.
+    fn receive_once(&mut self) -> bool
+        ensures receives { Receives S.remaining self.old self.new }
+        ensures more { IsTrue result → self.new.progress ≡ Progress.Waiting }
+    {
+        let mut buffer = [0; READ_BYTES];
+        match self.stream.read(&mut buffer) {
+            Ok(0) => self.progress = self.progress_after(true),
+            Ok(count) => {
+                self.progress = match self.received.extend_from_slice(&buffer[..count]) {
+                    Ok(()) => self.progress_after(false),
+                    Err(_) => Progress::Failed,
+                };
+                return self.progress == Progress::Waiting;
+            }
+            Err(error) if error.kind() == ErrorKind::WouldBlock => {}
+            Err(_) => self.progress = Progress::Failed,
+        }
+        false
+    }
+}
+
+impl<S: Write + Drop> SignerConnection<S> {
+    ghost use Rattle.std.specs.Bool.{OnTrue};
+    ghost use Rattle.reg_crl_signer.specs.SignerConnections.{SendsNext};
+
+    /// Sends the next message of a persistent connection, on which no answer is awaited. Returns whether it was sent.
+    pub fn send_next(&mut self, alloc: Global, message: &[u8]) -> bool
+        ensures { OnTrue result (SendsNext S.contents self.old self.new message.now) }
+    {
+        if !self.is_idle() || message.len() > LONGEST_MESSAGE {
+            return false;
+        }
+        match with_length(alloc, message) {
+            Ok(counted) if write_whole(&mut self.stream, &counted).is_ok() => {
+                self.progress = Progress::Waiting;
+                true
+            }
+            _ => {
+                self.progress = Progress::Failed;
+                false
+            }
+        }
+    }
+}

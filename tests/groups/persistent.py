@@ -1,0 +1,285 @@
+"""Persistent connections to a signer that announces them: each OCSP answer gets the signature of its own message, and a restarted signer is found."""
+
+import contextlib
+import os
+import socket
+import struct
+import threading
+import time
+from concurrent.futures import ThreadPoolExecutor
+
+from groups.waiting import SIGNING, asked_for, files, names, ocsp_answer, own_signature
+from lib import authority, native, program
+from lib.authority import INTERNAL, Authority
+from lib.native import ANNOUNCEMENT, frame
+from lib.passing import Passing
+from lib.program import P256_KEY, read_all
+from lib.trial import each, test
+
+
+class Keeping:
+    """A signer that announces persistent connections, and serves each connection on its own thread. `reply(message)` returns the octets that it sends
+    on a persistent connection for a message. `single` has the messages of the other connections, and `kept` a list of messages for each persistent one."""
+
+    def __init__(self, path, reply=lambda message: frame(own_signature(message))):
+        self.path, self.reply, self.single, self.kept, self.clients, self.gone = str(path), reply, [], [], [], 0
+        self.lock = threading.Lock()
+        self.server = socket.socket(socket.AF_UNIX)
+        self.server.bind(self.path)
+        self.server.listen(128)
+        threading.Thread(target=self.serve, daemon=True).start()
+
+    def serve(self):
+        with contextlib.suppress(OSError):
+            while True:
+                client, _ = self.server.accept()
+                self.clients.append(client)
+                threading.Thread(target=self.sign, args=(client,), daemon=True).start()
+
+    def sign(self, client):
+        with client, contextlib.suppress(OSError):
+            first = client.recv(1, socket.MSG_PEEK)
+            if first and first != b"\0":
+                message = read_all(client)
+                self.single.append(message)
+                client.sendall(ANNOUNCEMENT + own_signature(message))
+            elif first:
+                self.keep(client)
+        self.gone += 1
+
+    def keep(self, client):
+        messages = []
+        with self.lock:
+            self.kept.append(messages)
+        while (head := native.exactly(client, 4)) is not None:
+            message = native.exactly(client, struct.unpack(">I", head)[0])
+            messages.append(message)
+            client.sendall(self.reply(message))
+
+    def close(self):
+        """Ends the signer as a signal would: its socket refuses, and all its connections are closed."""
+        with contextlib.suppress(OSError):
+            self.server.shutdown(socket.SHUT_RDWR)
+        self.server.close()
+        for client in self.clients:
+            with contextlib.suppress(OSError):
+                client.shutdown(socket.SHUT_RDWR)
+        os.unlink(self.path)
+
+    def __enter__(self):
+        return self
+
+    def __exit__(self, *_):
+        with contextlib.suppress(OSError):
+            self.close()
+
+
+def is_own(response, serial):
+    """Whether a response is for this serial number, and has the signature of its own message."""
+    if response == INTERNAL:
+        return False
+    part, _, signature = authority.signed_part(authority.basic_of(response))
+    return names(part, serial) and signature == own_signature(part)
+
+
+def opened(t):
+    t.register(key=P256_KEY)
+    return t.open("ca.db", *SIGNING)
+
+
+@test(seconds=4)
+def each_of_many_answers_has_the_signature_of_its_own_message(t):
+    """40 clients request 1,200 answers. The desk keeps at most 32 connections, sends most messages on them, and opens no more."""
+    signer = t.enter_context(Keeping(t.room / "ca.sign"))
+    desk = opened(t)
+    with ThreadPoolExecutor(40) as pool:
+        serials = [0x1000 + at for at in range(1_200)]
+        answers = list(pool.map(lambda serial: ocsp_answer(desk, serial), serials))
+    t.same([hex(serial) for serial, it in zip(serials, answers) if not is_own(it, serial)], [], "serial numbers with a wrong answer")
+    kept = sum(map(len, signer.kept))
+    t.same(kept + len(signer.single), len(serials), "messages")
+    t.true(len(signer.single) <= 32, f"{len(signer.single)} messages on connections of their own")
+    t.true(len(signer.kept) <= 32, f"{len(signer.kept)} persistent connections")
+
+
+@test(seconds=2)
+def one_client_uses_one_connection(t):
+    """The first message goes on a connection of its own. All others of a client that asks one after the other go on one persistent connection."""
+    signer = t.enter_context(Keeping(t.room / "ca.sign"))
+    desk = opened(t)
+    for at in range(50):
+        t.true(is_own(ocsp_answer(desk, 0x1100 + at), 0x1100 + at), f"answer {at}")
+    t.same((len(signer.single), [len(it) for it in signer.kept]), (1, [49]), "messages on each connection")
+
+
+@test(seconds=3)
+def a_late_signature_reaches_nobody(t):
+    """A persistent signer answers after the ten seconds. Its client got internalError, and the next client gets its own signature."""
+    release, held = threading.Event(), threading.Event()
+    t.callback(release.set)
+
+    def reply(message):
+        if names(message, 0x2222):
+            held.set()
+            release.wait(60 * program.PATIENCE)
+        return frame(own_signature(message))
+
+    signer = t.enter_context(Keeping(t.room / "ca.sign", reply))
+    t.register(key=P256_KEY)
+    passing = Passing(t, *SIGNING)
+    for at in range(2):
+        t.true(is_own(ocsp_answer(passing.desk, 0x1111), 0x1111), f"answer {at}")
+    with ThreadPoolExecutor(1) as pool:
+        late = pool.submit(ocsp_answer, passing.desk, 0x2222)
+        t.true(held.wait(60), "the signer to get the message")
+        passing.advance(10_000)
+        t.same(late.result(), INTERNAL)
+    release.set()
+    for serial in (0x3333, 0x4444):
+        t.true(is_own(ocsp_answer(passing.desk, serial), serial), f"the answer for {serial:x}")
+    t.same([names(it[-1], 0x2222) for it in signer.kept], [True, False], "whether the last message of each connection is the late one")
+
+
+@test(seconds=3)
+def a_signature_whose_client_has_gone_reaches_nobody(t):
+    """A client resets its connection while a persistent signer signs. The next client gets its own signature, on another connection."""
+    release, held = threading.Event(), threading.Event()
+    t.callback(release.set)
+
+    def reply(message):
+        if names(message, 0x2222):
+            held.set()
+            release.wait(60 * program.PATIENCE)
+        return frame(own_signature(message))
+
+    t.enter_context(Keeping(t.room / "ca.sign", reply))
+    t.register(key=P256_KEY)
+    passing = Passing(t, *SIGNING)
+    for at in range(2):
+        t.true(is_own(ocsp_answer(passing.desk, 0x1111), 0x1111), f"answer {at}")
+    # The desk accepts this connection before the request comes, so it polls the connection.
+    body, gone = asked_for(0x2222), t.enter_context(passing.desk.connect())
+    authority.until(lambda: program.is_read(gone), "the desk to accept the connection")
+    gone.sendall(b"POST /ocsp HTTP/1.1\r\nContent-Length: %d\r\n\r\n" % len(body) + body)
+    t.true(held.wait(60), "the signer to get the message")
+    # With this option, `close` sends a reset.
+    gone.setsockopt(socket.SOL_SOCKET, socket.SO_LINGER, b"\1\0\0\0\0\0\0\0")
+    gone.close()
+    authority.until(lambda: passing.lost, "the lost connection in the log")
+    release.set()
+    for serial in (0x3333, 0x4444, 0x5555):
+        t.true(is_own(ocsp_answer(passing.desk, serial), serial), f"the answer for {serial:x}")
+
+
+@each({"that announces": (True,), "that does not": (False,)}, seconds=3)
+def a_restarted_signer_is_found_at_once(t, announces):
+    """A signer ends, and another one starts at its path, which announces persistent connections or not. No answer is lost."""
+    first = t.enter_context(Keeping(t.room / "ca.sign"))
+    desk = opened(t)
+    for at in range(3):
+        t.true(is_own(ocsp_answer(desk, 0x1100 + at), 0x1100 + at), f"answer {at}")
+    first.close()
+    path = t.room / "ca.sign"
+    t.enter_context(Keeping(path) if announces else program.Signers(path, own_signature))
+    with t.at_once("five answers"):
+        for at in range(5):
+            t.true(is_own(ocsp_answer(desk, 0x2200 + at), 0x2200 + at), f"answer {at} of the next signer")
+
+
+# For each reply to the second message: whether its answer is signed, and whether the third message goes on the same connection.
+REPLIES = {
+    "in pieces": (lambda own: own, True, True),
+    "empty": (lambda own: frame(b""), False, True),
+    "no signature": (lambda own: frame(b"no signature"), False, True),
+    "4,096 octets": (lambda own: frame(bytes(4_096)), False, True),
+    "too long": (lambda own: frame(bytes(4_097)), False, False),
+    "two answers": (lambda own: own + own, False, False),
+    "too few octets": (lambda own: own[:-1], False, False),
+    "announced again": (lambda own: ANNOUNCEMENT + own[4:], False, False),
+}
+
+
+@each(REPLIES, seconds=3)
+def a_reply_that_is_no_answer_signs_nothing(t, reply, is_signed, is_kept):
+    """After a reply that is not one whole answer, the desk closes the connection, and the next answer has its own signature all the same."""
+
+    class Pieces(Keeping):
+        def keep(self, client):
+            messages = []
+            self.kept.append(messages)
+            while (head := native.exactly(client, 4)) is not None:
+                messages.append(native.exactly(client, struct.unpack(">I", head)[0]))
+                own = frame(own_signature(messages[-1]))
+                sent = reply(own) if names(messages[-1], 0x2222) else own
+                step = 1 if sent == own else len(sent)
+                for at in range(0, len(sent), step):
+                    client.sendall(sent[at : at + step])
+                    time.sleep(0.001)
+
+    signer = t.enter_context(Pieces(t.room / "ca.sign"))
+    t.register(key=P256_KEY)
+    passing = Passing(t, *SIGNING)
+    t.true(is_own(ocsp_answer(passing.desk, 0x1111), 0x1111), "the first answer")
+    with ThreadPoolExecutor(1) as pool:
+        second = pool.submit(ocsp_answer, passing.desk, 0x2222)
+        authority.until(lambda: signer.kept and signer.kept[0], "the second message")
+        if not is_kept:
+            time.sleep(0.1)
+            passing.advance(10_000)
+        t.same(is_own(second.result(), 0x2222), is_signed, "whether the second answer is signed")
+    t.true(is_own(ocsp_answer(passing.desk, 0x3333), 0x3333), "the third answer")
+    t.same(len(signer.single), 1 if is_kept else 2, "messages on connections of their own")
+
+
+@test(seconds=2)
+def octets_that_nobody_awaits_close_the_connection(t):
+    """A signer sends an answer while no message waits for one. The next answer has its own signature."""
+    signer = t.enter_context(Keeping(t.room / "ca.sign"))
+    desk = opened(t)
+    for at in range(2):
+        t.true(is_own(ocsp_answer(desk, 0x1100 + at), 0x1100 + at), f"answer {at}")
+    signer.clients[-1].sendall(frame(own_signature(b"another message")))
+    authority.until(lambda: signer.gone == 2, "the desk to close the connection")
+    for at in range(2):
+        t.true(is_own(ocsp_answer(desk, 0x2200 + at), 0x2200 + at), f"the next answer {at}")
+
+
+@test(seconds=3)
+def the_connections_of_a_signer_that_ends_are_closed(t):
+    """After 32 answers at once, the desk keeps 32 connections. When the signer ends, the desk closes them without another request."""
+    barrier = threading.Barrier(32)
+
+    class Together(Keeping):
+        def sign(self, client):
+            if client.recv(1, socket.MSG_PEEK) not in (b"", b"\0"):
+                barrier.wait(60)
+            super().sign(client)
+
+    signer = t.enter_context(Together(t.room / "ca.sign"))
+    desk = opened(t)
+    before = files(desk)
+    with ThreadPoolExecutor(32) as pool:
+        answers = list(pool.map(lambda at: is_own(ocsp_answer(desk, 0x1100 + at), 0x1100 + at), range(32)))
+    t.same(answers, [True] * 32, "answers with their own signature")
+    authority.until(lambda: files(desk) == before + 32, "32 kept connections")
+    signer.close()
+    authority.until(lambda: files(desk) == before, "the desk to close them")
+
+
+@test(seconds=6)
+def real_signatures_verify(t):
+    """The native signer with --persistent signs CRLs and OCSP answers of scripts, lines and HTTP, on both kinds of connections."""
+    it = Authority(t)
+    it.register()
+    native.started(t, "--allow-swap", "--persistent", "--only-ours", "ca.pem", "ca.key")
+    moment = authority.now() - 10
+    t.done("script", "ca.db", *it.signing(), given=authority.first_day(moment))
+    desk = t.open("ca.db", *it.signing())
+    for at in range(3):
+        it.reads("06", authority.body_of(t, desk.ask("GET", authority.path_of(it.asks("06")))))
+    with t.control() as control:
+        t.same(control.ask("crl").split()[0], "crl", "the reply to `crl`")
+        for _ in range(2):
+            response = bytes.fromhex(control.ask(f"ocsp {it.asks('06').hex()}").split()[-1])
+            it.reads("06", response)
+    it.verifies(program.parted(desk.ask("GET", "/crl"))[2])
