@@ -6,7 +6,7 @@ import random
 import signal
 
 from lib import faults, program
-from lib.program import Control
+from lib.program import Control, parted
 from lib.trial import each, test
 
 DAY = "2026-01-01T00:00:00Z"
@@ -16,6 +16,8 @@ LATER = "2026-01-02T00:00:00Z"
 
 def send_together(desk, control, lines):
     """Sends lines to a desk that is stopped meanwhile, so that it finds all of them at once. Returns a reply for each, up to the end of the connection."""
+    # A desk that leaves out a reply would keep the test waiting.
+    control.peer.settimeout(20 * program.PATIENCE)
     os.kill(desk.process.pid, signal.SIGSTOP)
     try:
         control.peer.sendall("".join(f"{line}\n" for line in lines).encode())
@@ -88,6 +90,59 @@ def two_hundred_and_fifty_six_commands_are_synced_once(t):
         before = faults.counted(t.room / "count")["sync"]
         send_together(desk, control, [f"subscriber more{at}" for at in range(512)])
         t.same(faults.counted(t.room / "count")["sync"] - before, 2 * once, "syncs for 512 lines")
+
+
+# For each row: the lines that come together, the first words of their replies, and the moment of the clock. The last accepted moment is DAY.
+SYNCED_ONCE = {
+    "registrations": (lambda at: f"register {at + 1} {at + 1:x} {DAY} {END}", {"registered"}, DAY),
+    "refusals among them": (lambda at: f"subscriber name{at}" if at % 2 else "order 777 398", {"subscriber", "E06"}, DAY),
+    "commands at a moment that the operator accepted": (lambda at: f"subscriber name{at}", {"subscriber"}, "2026-03-01T00:00:00Z"),
+}
+
+
+@each(SYNCED_ONCE, seconds=2)
+def lines_of_each_kind_are_synced_once(t, line, words, moment):
+    t.register(lines=f"{DAY} subscriber acme\n" + f"{DAY} order 1 398\n" * 256)
+    t.clock(moment)
+    desk = t.open("ca.db", faults=faults.environment(count=t.room / "count"))
+    with t.control() as control:
+        if moment != DAY:
+            t.same(control.ask(f"accept-clock {moment}"), "clock accepted")
+        synced = lambda: faults.counted(t.room / "count")["sync"]
+        before = synced()
+        t.same(control.ask("subscriber first"), "subscriber 2", "one line alone")
+        once, before = synced() - before, synced()
+        t.same({it.split()[0] for it in send_together(desk, control, [line(at) for at in range(256)])}, words, "the first words of the replies")
+        count = synced() - before
+        t.true(count < once + 8, f"{count} syncs for 256 lines, and {once} for a line alone")
+
+
+@test
+def each_of_256_lines_is_counted_and_logged(t):
+    t.register()
+    t.clock(DAY)
+    desk = t.open("ca.db", "--log")
+    with t.control() as control:
+        replies = send_together(desk, control, subscribers(256))
+    t.same(replies, [f"subscriber {at + 1}" for at in range(256)], "the replies")
+    t.has(parted(desk.ask("GET", "/metrics"))[2].decode(), '\ndesk_lines_total{reply="accepted"} 256\n')
+    logged = [it.split('"')[1::2] for it in desk.end().err_lines if " control " in it]
+    t.same(logged, [[line, reply] for line, reply in zip(subscribers(256), replies)], "the lines in the log, and their replies")
+
+
+@test
+def the_log_has_the_requests_and_the_times_of_lines_that_came_together(t):
+    """Each reading of the elapsed time is seven milliseconds later than the one before: the first when the desk begins, and one for each line."""
+    t.register(lines=f"{DAY} subscriber acme\n" + "".join(f"{DAY} order 1 398\n{DAY} register {at} 0{at} {DAY} {END}\n" for at in (1, 2)))
+    t.clock(DAY)
+    desk = t.open("ca.db", "--log", faults=faults.environment(tick=7))
+    lines = ["request 01 superseded", "revoke 1", "request 02 misuse", "decline 2", "revoke 2"]
+    with t.control() as control:
+        replies = send_together(desk, control, lines)
+    t.same([it.split()[0] for it in replies], ["request", "revoked", "request", "declined", "E18"], "the first words of the replies")
+    named = [f" request 1 {1:040x} superseded", f" request 1 {1:040x}", f" request 2 {2:040x} misuse", f" request 2 {2:040x}", ""]
+    wanted = [f" {len(reply) + 1} {7_000 * at}{end}" for at, (reply, end) in enumerate(zip(replies, named), 1)]
+    t.same([it.rsplit('"', 1)[1] for it in desk.end().err_lines], wanted, "the bytes, the microseconds and the request of each line in the log")
 
 
 @test(seconds=2)

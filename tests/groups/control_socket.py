@@ -6,7 +6,7 @@ import socket
 import subprocess
 import time
 
-from lib import authority
+from lib import authority, faults
 from lib.program import LONGEST, Control, environment, free_port, is_read, parted, program, read_all
 from lib.trial import each, test
 
@@ -93,6 +93,19 @@ def a_closed_control_connection_frees_its_slot(t):
     together = [t.control() for _ in range(PLACES)]
     t.same([it.ask("status 05") for it in together], ["good"] * PLACES, "a connection in each slot, afterwards")
     t.same(parted(desk.ask("GET", "/counts"))[2], b'{"expired":0,"good":1,"revoked":0}', "an HTTP request")
+
+
+@test
+def a_control_connection_that_breaks_before_its_reply_is_sent_frees_its_slot(t):
+    """The first replies can't be sent, as if the clients were gone. Later clients still find a free slot."""
+    t.register()
+    t.open(faults=faults.environment(count=t.room / "count", fail=f"write:1-{PLACES}=EPIPE", only="socket"))
+    for number in range(PLACES):
+        with Control(t.room / "counter", timeout=20) as control:
+            t.same(control.ask("counts"), "", f"what client {number} receives")
+    with Control(t.room / "counter", timeout=20) as control:
+        t.same(control.ask("counts"), "good 0 revoked 0 expired 0", "the next client")
+    t.same(faults.counted(t.room / "count")["met"], PLACES, "replies that were not sent")
 
 
 @test(seconds=2)

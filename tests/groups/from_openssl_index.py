@@ -286,6 +286,15 @@ def subscribers_have_the_names_of_register_pem(t):
         t.has(told, f"of subscriber {at + 1}\n")
 
 
+@test
+def a_subject_in_latin_1(t):
+    """Indexes of old versions of openssl may have such octets."""
+    (t.room / "index.txt").write_bytes("V\t260301000000Z\t\t05\tunknown\t/CN=Müller\n".encode("latin-1"))
+    script, _ = moved(t, "index.txt", "--days", "90", "--now", "2025-12-02T00:00:00Z")
+    names = [line.split()[2].partition(".")[0] for line in script.splitlines() if " subscriber " in line]
+    t.same(names, ["M-ller"], "the subscriber's name, without its digest")
+
+
 @test(seconds=2)
 def a_number_that_the_first_crl_would_take_again(t):
     make_ca(t)

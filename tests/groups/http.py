@@ -184,6 +184,14 @@ def each_body_of_a_request_has_its_answer(t):
 
 
 @test
+def a_request_for_revocation_of_65536_bytes_is_entered(t):
+    """JSON may have any number of blanks behind its value (RFC 8259 2)."""
+    body = b'{"serial":"05","ground":"superseded"}'.ljust(65_536)
+    status, _, told = parted(opened(t).ask("POST", "/requests", body))
+    t.same((status, told), (200, b'{"due":"2026-01-03T00:00:00Z","request":2}'))
+
+
+@test
 def an_ocsp_request_by_get_and_by_post_has_one_answer(t):
     desk = opened(t)
     request = bytes.fromhex("3042 3040 303e 303c 303a 300906052b0e03021a0500 0414 711d397671c9facf2242095925979a0698e46b11".replace(" ", "")

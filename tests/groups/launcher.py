@@ -4,6 +4,7 @@ the proved one. Both programs are scripts that print which one they are, and the
 import os
 import shutil
 import stat
+import subprocess
 
 from lib import program
 from lib.trial import each, test
@@ -237,6 +238,15 @@ def a_link_to_the_launcher_runs_the_program_of_its_repository(t):
     (t.room / "bin").mkdir()
     (t.room / "bin/desk").symlink_to(it.top / "desk")
     t.same(it.run(t.room / "bin/desk", "script", "ca.db"), (0, "proved script ca.db\n", ""), "status, standard output and standard error")
+
+
+@test
+def a_signal_to_the_launcher_reaches_the_program(t):
+    """The launcher's process becomes the program, so whoever started ./desk can end the desk by it."""
+    it = Repository(t)
+    put(it.top / "crates/reg_desk/out/reg_desk", "#!/bin/sh\necho $$\n", is_program=True)
+    process = subprocess.Popen([it.top / "desk", "script", "ca.db"], stdout=subprocess.PIPE, env=it.env)
+    t.same(process.communicate(timeout=program.LONGEST)[0].decode(), f"{process.pid}\n", "the number of the program's process")
 
 
 @test

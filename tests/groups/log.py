@@ -44,6 +44,13 @@ def a_long_line_is_logged_up_to_256_bytes(t):
 
 
 @test
+def a_line_of_octets_that_are_escaped_is_logged(t):
+    """Each of its first 256 octets has four characters in the log."""
+    (line,) = log_of(t, b"\xff" * 5_000 + b" / HTTP/1.1\r\n\r\n")
+    t.same(line.split('"')[1], "\\xff" * 256)
+
+
+@test
 def a_control_line_and_its_reply(t):
     t.same(
         log_of(t, lines=["subscriber acme", "counts", "revoke 1"]),

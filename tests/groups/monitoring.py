@@ -13,6 +13,7 @@ from concurrent.futures import ThreadPoolExecutor
 from lib import authority, faults, program
 from lib.program import ANY_SIGNATURE, Signers, parted
 from lib.trial import Failed, each, need, test
+from model import der
 
 DAY = "2026-01-01T00:00:00Z"
 FIRST = program.seconds_of(DAY)
@@ -158,6 +159,36 @@ def answers_by_route_and_status(t):
         '{route="/list/{word}",code="200"}': 1, '{route="/health",code="503"}': 1, '{route="/metrics",code="405"}': 1, '{route="other",code="400"}': 1, '{route="other",code="404"}': 1,
     })
     t.same(metrics(t, desk)['desk_http_responses_total{route="/metrics",code="200"}'], 1)
+
+
+@test
+def answers_of_each_status_at_each_route(t):
+    """The text then has some 130 samples more than that of a desk that has just begun."""
+    desk, many, long = opened(t), "a: b\r\n" * 65, "Content-Length: 65537\r\n"
+    for path in ROUTES:
+        path = "/nowhere" if path == "other" else path.format(request="AAAA", number=1, serial="05", word="subscribers")
+        for first, fields in (("GET", ""), ("GET", many), ("DELETE", ""), ("POST", ""), ("POST", long)):
+            desk.send(f"{first} {path} HTTP/1.1\r\n{fields}\r\n".encode())
+        desk.send(f"GET {path} HTTP/2.0\r\n\r\n".encode())
+    text = asked(t, desk, "/metrics")[2]
+    t.true(len(text) > 10_000, f"the text has only {len(text)} bytes")
+    t.same(sum(of(metrics(t, desk), "desk_http_responses_total").values()), 67, "answers in all, with the text before")
+
+
+@test
+def a_long_crl_is_read_for_the_metrics(t):
+    """The desk reads the latest CRL to find out whether it has a placeholder digest, in place of which a signer would issue a new one at once."""
+    t.register(key=program.P256_KEY)
+    t.signer()
+    t.done("script", "ca.db", *SIGNING, given=f"{DAY} crl\n")
+    [(crl,)] = t.sql("ca.db", "SELECT der FROM crl")
+    part, algorithm, _ = authority.values_of(authority.inside(crl)[1])
+    t.sql("ca.db", "UPDATE crl SET der = ?", der.value(0x30, part[2], algorithm[2], der.value(0x03, bytes(2_000_000))))
+    t.clock(DAY)
+    desk = t.open("ca.db", *SIGNING)
+    found = metrics(t, desk)
+    t.same((found["desk_register_readable"], found["desk_crl_number"], found["desk_crl_due_timestamp_seconds"]), (1, 1, FIRST + 7 * 86_400))
+    t.same(health(t, desk), (200, {}))
 
 
 @test
@@ -361,7 +392,7 @@ rule_files: [{rules}]
 evaluation_interval: 1m
 tests:
 """
-# Series with a value for each minute, and the alerts that fire after 59 minutes.
+# Series with a value for each minute, and the alerts that fire after nine minutes, and still after 59.
 CASES = {
     "all is well": (["desk_requests_overdue{job='desk'} 0x60", "up{job='desk'} 1x60", "desk_clock_behind_seconds 0x60", "desk_signer_failing_since_timestamp_seconds{of='crl'} 0x60",
                      "desk_clock_timestamp_seconds 0+60x60", "desk_crl_due_timestamp_seconds 604800x60"], []),
@@ -381,6 +412,8 @@ CASES = {
     "tables with room": (["desk_rows{table='requests'} 800000x60", "desk_rows{table='crls'} 10x60", "desk_rows_cap 1000000x60"], []),
     "a table that fills up": (["desk_rows{table='requests'} 800001x60", "desk_rows{table='crls'} 10x60", "desk_rows_cap 1000000x60"], ["DeskTableFilling"]),
     "a disk that fills up": (["node_filesystem_avail_bytes{mountpoint='/var'} 9x60", "node_filesystem_size_bytes{mountpoint='/var'} 100x60"], ["DeskDiskFilling"]),
+    "a file system that is always full": (
+        [f"node_filesystem_{what}_bytes{{mountpoint='/snap',fstype='squashfs'}} {value}x60" for what, value in (("avail", 0), ("size", 100))], []),
     "a clock that is behind": (["desk_clock_behind_seconds 3x60"], ["DeskClock"]),
     "a clock of its own": (["desk_clock_timestamp_seconds 90+60x60"], ["DeskClock"]),
 }
@@ -397,7 +430,8 @@ def each_alert_fires_and_no_other(t, series, fires):
     case += "    promql_expr_test:\n"
     for name in names:
         wanted = "\n        exp_samples: [{labels: '{}', value: 1}]" if name in fires else "\n        exp_samples: []"
-        case += f"""      - expr: count(ALERTS{{alertname="{name}",alertstate="firing"}})\n        eval_time: 59m{wanted}\n"""
+        for moment in ("9m", "59m"):
+            case += f"""      - expr: count(ALERTS{{alertname="{name}",alertstate="firing"}})\n        eval_time: {moment}{wanted}\n"""
     (t.room / "case.yml").write_text(case)
     t.tool("promtool", "test", "rules", "case.yml")
 

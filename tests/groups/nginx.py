@@ -70,6 +70,7 @@ def the_urls_of_older_certificates(t):
     it, desk, [front] = opened(t, "front")
     status, fields, crl = front.ask("/ca.crl")
     t.same((status, fields["Content-Type"], list(authority.listed(t, crl))), (200, "application/pkix-crl", [5]), "the CRL at its file name")
+    t.same(fields["Cache-Control"], f"public, max-age={LONG}, must-revalidate", "Cache-Control of the CRL at its file name")
     t.same(front.state("/crl"), "HIT", "/crl, which is the same cache entry as /ca.crl")
     # A request whose base64 has both `/` and `+`.
     path = next(path for path in (path_of(it.asks(f"{serial:x}"), quoted=False) for serial in range(0xFFF0, 0xFFFFF)) if "/" in path[6:] and "+" in path)
@@ -87,6 +88,7 @@ def the_urls_of_older_certificates(t):
     (front.folder / "share/ca.crl.pem").write_bytes(t.tool("openssl", "crl", "-inform", "DER", given=crl))
     status, fields, pem = front.ask("/ca.crl.pem")
     t.same((status, fields["Content-Type"], t.tool("openssl", "crl", "-outform", "DER", given=pem) == crl), (200, "application/x-pem-file", True))
+    t.same(fields["Cache-Control"], f"public, max-age={LONG}, must-revalidate", "Cache-Control of the PEM")
     desk.end()
     t.same((front.ask("/ca.crl.pem")[0], front.ask("/", "--data-binary", "@-", given=it.asks("06"))[0]), (200, 502),
            "the PEM, and OCSP by POST, while no desk runs")
@@ -138,6 +140,7 @@ def what_is_cached_and_for_how_long(t):
     t.same([front.state("/crl/1"), front.state("/crl/1")], ["MISS", "HIT"], "a CRL by number")
     t.same(front.ask("/crl/1")[1]["Cache-Control"], "public, max-age=3600", "Cache-Control of a CRL by number")
     t.same([front.state("/crl"), front.state("/crl")], ["MISS", "HIT"], "the latest CRL")
+    t.same(front.ask("/crl")[1]["Cache-Control"], f"public, max-age={LONG}, must-revalidate", "Cache-Control of the latest CRL")
     before = front.asked_of_desk()
     t.same([front.ask("/crl/2")[0], front.ask("/crl/2")[0], front.asked_of_desk() - before], [404, 404, 2],
            "a CRL that the desk has not issued: two statuses, and the requests to the desk")

@@ -5,7 +5,7 @@ import json
 import os
 import time
 
-from groups.board import Browser
+from groups.board import Browser, span, spans
 from lib import authority, faults
 from lib.authority import DAY, Authority, moment_of
 from lib.trial import need, test
@@ -131,8 +131,12 @@ def the_office_view_shows_what_the_desk_says(t):
     cells = [row.split("|") for row in rows(browser, "requestrows")]
     told = [("!" * (due < year.now) + shown(due), str(number), ground, name, f"{serial:x}", shown(received)) for due, number, ground, name, serial, received in sorted(year.open)]
     t.same([(row[0], *row[2:]) for row in cells], told, "open requests")
-    t.same(cells[0][1].split(" ")[0], "overdue")
-    t.same([(row[0], row[3]) for row in (row.split("|") for row in rows(browser, "endingrows"))], [(shown(end), f"{serial:x}") for end, serial in soon], "certificates that end soon")
+    for row, (due, *_) in zip(cells, sorted(year.open)):
+        t.has({f"overdue {it}" if due < year.now else it for it in spans(due, year.now)}, row[1], "the time that is left for a request")
+    endings = [row.split("|") for row in rows(browser, "endingrows")]
+    t.same([(row[0], row[3]) for row in endings], [(shown(end), f"{serial:x}") for end, serial in soon], "certificates that end soon")
+    for row, (end, _) in zip(endings, soon):
+        t.has(spans(end, year.now), row[1], "the time that is left for a certificate")
     recent(t, desk, browser)
     gaps_and_plot(t, year, browser)
     months(t, year, browser)
@@ -157,11 +161,14 @@ def status(desk, serial):
 def gaps_and_plot(t, year, browser):
     at = lambda day: year.begun + round(day * DAY)
     found = [(number, at(day) + 8 * DAY, at(later)) for number, (day, later) in enumerate(zip(year.crls, year.crls[1:]), 1) if later - day > 8]
-    told = [(f"from {shown(ended)}, when CRL {number} ended,", f"to {shown(came)}, when CRL {number + 1} was issued") for number, ended, came in found]
+    told = []
+    for number, ended, came in found:
+        told.append((f"No valid CRL for {span(came - ended)}", f"from {shown(ended)}, when CRL {number} ended,",
+                     f"to {shown(came)}, when CRL {number + 1} was issued"))
     browser.value("document.getElementById('window').value = '0'; document.getElementById('window').dispatchEvent(new Event('change'))")
     points = "document.querySelectorAll('#plot circle').length"
     browser.until(f"{points} === {2 * len(year.crls)}")
-    t.same([tuple(row.split("|")[1:]) for row in rows(browser, "gaprows")], told[::-1], "gaps between CRLs")
+    t.same([tuple(row.removeprefix("!").split("|")) for row in rows(browser, "gaprows")], told[::-1], "gaps between CRLs")
     t.same(browser.value("document.querySelectorAll('#plot rect').length"), len(found), "gaps in the plot")
     # The plot shows the bytes and entries of the latest CRL.
     latest = t.tool("curl", "-sk", "-o", "latest.crl", "-w", "%{size_download}", browser.value("location.origin") + "/crl").decode()
@@ -192,6 +199,8 @@ def recent(t, desk, browser):
     when = lambda text: text[:16].replace("T", " ") if text else "–"
     told = [["!" * bool(it["lateness"]) + when(it["received"]), str(it["request"]), it["ground"], it["name"], it["serial"].lstrip("0"), it["state"], when(it["decided"])] for it in of_days]
     t.same([row[:7] for row in cells], told, "requests of the last 30 days")
+    late = [span(it["lateness"]) if it["lateness"] else "–" for it in of_days if it["state"] != "open"]
+    t.same([row[7] for row in cells if row[5] != "open"], late, "how late the decisions were")
     t.same([row[7] != "–" for row in cells], [bool(it["lateness"]) for it in of_days], "which of these requests were late")
 
 

@@ -7,7 +7,7 @@ import re
 import shutil
 import sys
 
-from lib import authority, program
+from lib import authority, program, registers
 from lib.authority import EXAMPLES, Authority, body_of, moment_of
 from lib.documents import blocks
 from lib.program import Control, seconds_of
@@ -112,6 +112,17 @@ def a_crl_of_more_than_16_mib_is_compared(t):
     part, algorithm, _ = authority.values_of(authority.inside((t.room / "published.crl").read_bytes())[1])
     (t.room / "long.crl").write_bytes(der.value(0x30, part[2], algorithm[2], der.value(0x03, bytes(17_000_000))))
     serves(t, crl="long.crl")
+
+
+@test(seconds=2)
+def hundreds_of_entries_that_are_not_revoked(t):
+    registers.make_revoked(t.room / "ca.db", 300, program.KEY)
+    t.same(t.done("script", "ca.db", given=f"{NEXT} crl\n"), "crl 1 entries 300\n")
+    (t.room / "published.crl").write_bytes(t.desk("crl", "ca.db").out)
+    listed = [row[0].hex() for row in t.sql("ca.db", "SELECT serial FROM revocation ORDER BY serial")]
+    t.register("copy.db")
+    t.clock(NEXT)
+    t.same(compared(t), (1, ["missing crl 1", *(f"missing revocation {it}" for it in listed)], ["behind-crl"]))
 
 
 NOT_BEHIND = {
@@ -329,13 +340,22 @@ LOGS = {
             "ca.log:4: no line of a log",
         ],
     ),
+    "exchanges for which the signer failed": (
+        logged(("crl", "F3 signer")).replace(" 99\n", " 99 signer\n")
+        + f'{NEXT} 127.0.0.1:51236 "POST /ocsp HTTP/1.1" "HTTP/1.1 200 OK" 180 1980 signer\n' + logged(("subscriber beta", "subscriber 2")),
+        ["subscriber beta"],
+        [],
+    ),
+    "octets that the desk never writes": (
+        "\xff\0\n" + logged(("subscriber beta", "subscriber 2")), ["subscriber beta"], ["ca.log:1: no line of a log"],
+    ),
 }
 
 
 @each(LOGS)
 def of_a_log(t, log, wanted, told):
     begun(t)
-    (t.room / "ca.log").write_text(log)
+    (t.room / "ca.log").write_text(log, "latin-1")
     script, said = again(t, "--log", "ca.log")
     t.same(script, [f"{NEXT} {it}" for it in wanted])
     t.same(said[:-1], told, "standard error")

@@ -197,6 +197,15 @@ def the_log_names_each_request_that_is_entered_or_decided(t):
     )
 
 
+@test(seconds=2)
+def the_log_names_a_request_behind_hundreds_of_others(t):
+    t.register(lines=ENTERED + f"{DAY} request 01 asked\n" * 600)
+    t.clock(DAY)
+    desk = t.open("ca.db", "--log")
+    t.same(replies_to(t, "decline 599", "revoke 600"), ["declined", "revoked"])
+    t.same(tails(t, desk), [("decline 599", f" request 599 {serial(1)}"), ("revoke 600", f" request 600 {serial(1)}")])
+
+
 # ---- a log that is replayed
 
 

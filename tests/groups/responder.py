@@ -206,8 +206,9 @@ def when_the_responder_s_certificate_ends(t):
     it = Authority(t)
     it.register()
     series = "desk_responder_certificate_not_after_timestamp_seconds"
-    for days, name in ((30, "soon"), (365 * 40, "in-forty-years")):
-        responder = Responder(it, name=name)
+    names = "".join(f",DNS:responder-{at}.example" for at in range(60))
+    for days, name, more in ((30, "soon", ""), (365 * 40, "in-forty-years", ""), (30, "with-many-names", f"subjectAltName=DNS:a.example{names}\n")):
+        responder = Responder(it, name=name, extensions=DELEGATED + more)
         t.tool("openssl", "x509", "-req", "-in", f"{name}.csr", "-CA", it.pem, "-CAkey", it.key, "-days", days, "-extfile", f"{name}.conf", "-out", responder.pem)
         der_of(t, name)
         ends = t.tool("openssl", "x509", "-in", responder.pem, "-noout", "-enddate", "-dateopt", "iso_8601").decode().strip().removeprefix("notAfter=")
