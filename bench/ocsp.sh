@@ -2,8 +2,8 @@
 # Measures OCSP answers a second over a register of 100,000 certificates, with one connection for each request. `desk open` and `openssl ocsp -port`
 # with a P-256 issuer get the same requests from the same client, in turns: from one client and from 32 at once, for eight certificates and for
 # 4,096, and `desk open` also beside 200 idle connections. Prints the median latency, and that which one in a hundred exceeds. Then wrk, if it is
-# installed, requests the eight certificates, with the servers and the signer on one, two and four processors, and prints their processor time for
-# each answer. Then commands a second at the control socket, and with `desk script`.
+# installed, requests the eight certificates from `desk open` (it counts no answer of openssl, which gives no length), with the desk and the signer on
+# one, two and four processors, and prints their processor time for each answer. Then commands a second at the control socket, and with `desk script`.
 # The desk uses a placeholder digest, which costs next to nothing. With --signed it uses the same P-256 key as openssl. The program SIGNER
 # (signer/desk-signer, with persistent connections, or examples/signer.py if that is not built) holds the key, in SIGNERS processes (2: with more of
 # them, on four cores, an idle process that polls takes time from the client). --signed also measures a signer that takes 5 ms, one answer after the
@@ -71,18 +71,15 @@ ticks() {
 }
 if command -v wrk >/dev/null; then
     for processors in 0 0,1 0-3; do
-        for process in "$theirs" "$ours" $holder $(pgrep -P "${holder:-$$}" -f sign || true); do
+        servers="$ours $holder $(pgrep -P "${holder:-$$}" -f sign || true)"
+        for process in $servers; do
             taskset -acp "$processors" "$process" >/dev/null
         done
         for clients in 1 32; do
-            for port in 8091 8092; do
-                servers="$ours $holder $(pgrep -P "${holder:-$$}" -f sign || true)"
-                [ $port = 8092 ] || servers=$theirs
-                before=$(ticks "$servers")
-                line=$(OCSP_REQUESTS=$(echo ./*.der) wrk -t 1 -c "$clients" -d 3s -s "$bench/ocsp.lua" "http://127.0.0.1:$port/ocsp" | tail -n 1)
-                each=$(((($(ticks "$servers") - before) * 10000) / (${line%% *} * 3)))
-                echo "wrk, $clients clients, $([ $port = 8091 ] && echo openssl || echo desk) on processors $processors: $line; processor time each: $each us"
-            done
+            before=$(ticks "$servers")
+            line=$(OCSP_REQUESTS=$(echo ./*.der) wrk -t 1 -c "$clients" -d 3s -s "$bench/ocsp.lua" http://127.0.0.1:8092/ocsp | tail -n 1)
+            each=$(((($(ticks "$servers") - before) * 10000) / (${line%% *} * 3)))
+            echo "wrk, $clients clients, desk on processors $processors: $line; processor time each: $each us"
         done
     done
 else
