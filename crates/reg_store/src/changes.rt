@@ -15,7 +15,7 @@ use reg_store_tables::DatabaseFault;
 use sqlite::Alter;
 
 impl<S: Alter> Store<S> {
-    /// BeginsTransaction a transaction, whose changes [`Store::enter`] makes and [`Store::end`] commits. Errors: those of [`reg_store_changes::begin`].
+    /// Begins a transaction, whose changes [`Store::enter`] makes and [`Store::end`] commits. Errors: those of [`reg_store_changes::begin`].
     pub fn begin(&mut self) -> Result<(), DatabaseFault>
         ensures { BeginsTransaction S.Store self.old self.new result }
     {
@@ -38,7 +38,7 @@ impl<S: Alter> Store<S> {
         self.tables.connection.is_autocommit()
     }
 
-    /// EndsTransaction the transaction that is under way: commits it if `made` is `Ok`, or rolls it back. Errors: those of [`reg_store_changes::end`].
+    /// Ends the transaction that is under way: commits it if `made` is `Ok`, or rolls it back. Errors: those of [`reg_store_changes::end`].
     pub fn end(&mut self, made: Result<(), DatabaseFault>) -> Result<(), DatabaseFault>
         ensures { EndsTransaction S.Store self.old self.new made result }
     {

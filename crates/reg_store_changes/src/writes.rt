@@ -31,7 +31,7 @@ pub(crate) fn write<S: Alter>(
     Ok(conn.execute(sql, params)?)
 }
 
-/// BeginsTransaction a transaction. `Store` too if one is under way.
+/// Begins a transaction. `Store` too if one is under way.
 pub fn begin<S: Alter>(conn: &mut Connection<S>) -> Result<(), DatabaseFault>
     ensures { BeginsTransaction S.Store conn.old conn.new result }
 {
@@ -42,7 +42,7 @@ pub fn begin<S: Alter>(conn: &mut Connection<S>) -> Result<(), DatabaseFault>
     Ok(())
 }
 
-/// EndsTransaction the transaction that is under way: commits it if `made` is `Ok`, or rolls it back and returns the error. Errors of the commit: `Memory`;
+/// Ends the transaction that is under way: commits it if `made` is `Ok`, or rolls it back and returns the error. Errors of the commit: `Memory`;
 /// `Store` if the database fails, or if a failure has ended the transaction. Then it is rolled back, unless the disk failed.
 pub fn end<S: Alter>(
     conn: &mut Connection<S>,
