@@ -23,7 +23,7 @@ use Rattle.reg_desk_jobs.specs.Ends.{PrintsText}
 use Rattle.reg_office_api.specs.Leads.{Leads, Looks}
 use Rattle.reg_office_api.specs.Signers.{OfficeSigners}
 use Rattle.reg_office_api.proofs.PublicLaws.{chains, follows, stays}
-use Rattle.reg_desk_jobs.proofs.Looks.{looks_as, looks_then}
+use Rattle.reg_desk_service.proofs.PublicLaws.{looks_as, looks_then}
 use Rattle.reg_desk_jobs.specs.Published.{Compares, FindsMissing, HasAll, ReportsMissing, latest_number, missing_at, missing_crl, missing_revocation}
 
 -- ---- entries

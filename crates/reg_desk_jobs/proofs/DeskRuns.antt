@@ -7,15 +7,15 @@ use Rattle.reg_office_api.proofs.PublicLaws.{runs}
 use Rattle.reg_core.specs.Records.{Records}
 use Rattle.reg_desk_server.specs.Exchange.{Input, request, lines, Outcome, said, pending, later, Handles}
 use Rattle.reg_io.specs.RunsOfAnswers.{Answered}
-use Rattle.reg_desk_jobs.specs.ControlWords.{IsAdmissionAfter, AnswersLinesByClock}
-use Rattle.reg_desk_jobs.specs.Admission.{first_admission}
-use Rattle.reg_desk_jobs.specs.Exchanges.{AnswersBy}
-use Rattle.reg_desk_jobs.specs.SignerAnswers.{AnsweredAtPath, AnsweredAtSomePath}
-use Rattle.reg_desk_jobs.specs.FinishedResponses.{FinishesUnsigned, Meets}
+use Rattle.reg_desk_service.specs.ControlWords.{IsAdmissionAfter, AnswersLinesByClock}
+use Rattle.reg_desk_service.specs.Admission.{first_admission}
+use Rattle.reg_desk_service.specs.Exchanges.{AnswersBy}
+use Rattle.reg_desk_service.specs.SignerAnswers.{AnsweredAtPath, AnsweredAtSomePath}
+use Rattle.reg_desk_service.specs.FinishedResponses.{FinishesUnsigned, Meets}
 use Rattle.reg_desk_jobs.specs.Serving.{DeskState, Exchanging, Serves, AnswersControlLines, StateStays}
-use Rattle.reg_desk_jobs.specs.declared.admission.Admission.{Admission}
-use Rattle.reg_desk_jobs.specs.declared.unsigned_responses.Unsigned.{Unsigned}
-use Rattle.reg_desk_jobs.proofs.Finishing.{told_moves}
+use Rattle.reg_desk_service.specs.declared.admission.Admission.{Admission}
+use Rattle.reg_desk_service.specs.declared.unsigned_responses.Unsigned.{Unsigned}
+use Rattle.reg_desk_service.proofs.PublicLaws.{told_moves}
 
 -- a run by which something stays so, and whose steps where it is so are other ones too
 kept_runs : {S Q A : Type 0} (answers other : S → Q → A → S → Type 0) (Keeps : S → Type 0)

@@ -8,7 +8,7 @@ use Rattle.reg_desk_jobs.specs.Ends.{PrintsText}
 use Rattle.reg_core.specs.declared.refusal.Fault.TheVariants as fault
 use Rattle.reg_desk_cli.specs.declared.failure.Failure.TheVariants as failure
 use Rattle.reg_desk_jobs.specs.Serving.{Served, Unbound, listening}
-use Rattle.reg_desk_jobs.specs.FailureReports.{IsReportedLine, IsWritten}
+use Rattle.reg_desk_service.specs.FailureReports.{IsReportedLine, IsWritten}
 
 -- a line, and then its end
 pub told : (old middle new : Option (List ℕ)) (line : List ℕ) → Appends old middle line → IsWritten middle new (10 ∷ [])

@@ -42,22 +42,22 @@ use Rattle.reg_desk_cli.specs.declared.job.ScriptOptions.{ScriptOptions}
 use Rattle.reg_lines.specs.declared.answered.Ended.{Ended}
 use Rattle.reg_desk_metrics.specs.Ahead.{is_ahead}
 use Rattle.reg_desk_jobs.specs.Conversations.{AtControlSocket, RowsAtControlSocket}
-use Rattle.reg_desk_jobs.specs.Copies.{copied_text}
+use Rattle.reg_desk_service.specs.Copies.{copied_text}
 use Rattle.reg_desk_jobs.specs.Digest.{digest_alone, digests}
-use Rattle.reg_desk_jobs.specs.RegisterFailures.{IsCreateFailure, IsOpenFailure, IsReadFailure}
+use Rattle.reg_desk_service.specs.RegisterFailures.{IsCreateFailure, IsOpenFailure, IsReadFailure}
 use Rattle.reg_office_api.specs.LookUps.{IsOfStore}
 use Rattle.reg_office_api.specs.Settings.{SetsKeyIdentifier, ReplacesSchedule}
 use Rattle.reg_desk_jobs.specs.Published.{Compares, HasAll}
 use Rattle.reg_desk_jobs.specs.Sample.{sample_records}
 use Rattle.reg_desk_jobs.specs.Replays.{ReplaysAt}
 use Rattle.reg_desk_jobs.specs.RowTasks.{SendsRowsAt}
-use Rattle.reg_desk_jobs.specs.Registers.{Audits, Unaudited}
+use Rattle.reg_desk_service.specs.Registers.{Audits, Unaudited}
 use Rattle.reg_desk_jobs.specs.Serving.{IsBoundOn, ServesOn, ServedAt}
-use Rattle.reg_desk_jobs.specs.FailureReports.{Explains}
-use Rattle.reg_desk_jobs.specs.Signers.{Signing, issuer_responds, signing_with, unsigned}
-use Rattle.reg_desk_jobs.specs.RegisterUses.{UsesRegister, NotCreatedAt, NotOpened, Creates, exit_of, exit_of_run}
-use Rattle.reg_desk_jobs.specs.declared.unsigned_responses.Unsigned.{Unsigned}
-use Rattle.reg_desk_jobs.specs.declared.machine.Machine.{Ghosts as Machine}
+use Rattle.reg_desk_service.specs.FailureReports.{Explains}
+use Rattle.reg_desk_service.specs.Signers.{Signing, issuer_responds, signing_with, unsigned}
+use Rattle.reg_desk_service.specs.RegisterUses.{UsesRegister, NotCreatedAt, NotOpened, Creates, exit_of, exit_of_run}
+use Rattle.reg_desk_service.specs.declared.unsigned_responses.Unsigned.{Unsigned}
+use Rattle.reg_desk_service.specs.declared.machine.Machine.{Ghosts as Machine}
 
 -- a text is written and the job is done; or a prefix of it, and the job fails with `Write`
 abbrev pub PrintsText : List ℕ → Option (List ℕ) → Option (List ℕ) → Result (Unit {0}) Failure → Type 0

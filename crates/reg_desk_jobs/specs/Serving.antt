@@ -14,14 +14,14 @@ use Rattle.reg_desk_cli.specs.declared.job.Loopback.{Loopback}
 use Rattle.reg_desk_cli.specs.declared.job.Loopback.TheVariants.{V4, V6}
 use Rattle.reg_desk_cli.specs.declared.failure.Failure.{Failure}
 use Rattle.reg_desk_cli.specs.declared.failure.Failure.TheVariants as failure
-use Rattle.reg_desk_jobs.specs.Admission.{first_admission}
-use Rattle.reg_desk_jobs.specs.Exchanges.{AnswersBy}
-use Rattle.reg_desk_jobs.specs.FinishedResponses.{FinishesUnsigned, Meets}
-use Rattle.reg_desk_jobs.specs.ControlWords.{IsAdmissionAfter, AnswersLinesByClock}
-use Rattle.reg_desk_jobs.specs.Signers.{AnsweredByOcspSigner}
-use Rattle.reg_desk_jobs.specs.declared.admission.Admission.{Admission}
-use Rattle.reg_desk_jobs.specs.declared.machine.Machine.{Ghosts as Machine}
-use Rattle.reg_desk_jobs.specs.declared.unsigned_responses.Unsigned.{Unsigned}
+use Rattle.reg_desk_service.specs.Admission.{first_admission}
+use Rattle.reg_desk_service.specs.Exchanges.{AnswersBy}
+use Rattle.reg_desk_service.specs.FinishedResponses.{FinishesUnsigned, Meets}
+use Rattle.reg_desk_service.specs.ControlWords.{IsAdmissionAfter, AnswersLinesByClock}
+use Rattle.reg_desk_service.specs.Signers.{AnsweredByOcspSigner}
+use Rattle.reg_desk_service.specs.declared.admission.Admission.{Admission}
+use Rattle.reg_desk_service.specs.declared.machine.Machine.{Ghosts as Machine}
+use Rattle.reg_desk_service.specs.declared.unsigned_responses.Unsigned.{Unsigned}
 use Rattle.reg_io.specs.Put.{AppendsPrefix}
 use Rattle.reg_io.specs.RunsOfAnswers.{Answered}
 

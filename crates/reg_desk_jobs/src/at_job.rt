@@ -6,10 +6,10 @@ ghost use Rattle.std.specs.Io.BufRead.{ends_with_byte};
 ghost use Rattle.std.specs.Io.KnownBytes.{Appends, Consumes};
 ghost use Rattle.reg_desk_jobs.specs.Conversations.{AtControlSocket, IsConversationFault, IsPiece, IsReadAs, NextIs, PassesReplies, RowsAtControlSocket, ExchangesLines, ExchangesLine, ExchangesLinesOver};
 
-use crate::machine::Machine;
 use crate::output_lines::print_text;
 use reg_core::Fault;
 use reg_desk_cli::Failure;
+use reg_desk_service::Machine;
 use reg_io::Source;
 use reg_lines::{is_accepted, lines_of_rows};
 use std::alloc::Global;

@@ -3,10 +3,9 @@
 ghost use Rattle.std.specs.Prelude.{OnOk};
 ghost use Rattle.reg_desk_jobs.specs.Serving.{IsControlSocket};
 
-use crate::failure_cause::Location;
-use crate::machine::Machine;
 use mio::net::UnixListener;
 use reg_core::io_cause_of;
+use reg_desk_service::{Location, Machine};
 use std::fs::File;
 use std::io;
 use std::io::ErrorKind;

@@ -8,15 +8,12 @@ ghost use Rattle.reg_lines.specs.ByCalls.{Lines};
 ghost use Rattle.reg_lines.specs.Strict.{StrictEnds};
 ghost use Rattle.reg_desk_jobs.specs.Ends.{AuditAt, CrlAt, ImportJobEnds, ImportChecked, InitAt, KeyIdAt, CreatesAt, ScheduleAt, ScriptAt};
 ghost use Rattle.reg_desk_jobs.specs.Ends.{PrintsResult, PrintsBroken, PrintsLine, PrintsSetResult, ReportsAuditResult};
-ghost use Rattle.reg_desk_jobs.specs.RegisterUses.{exit_of, exit_of_run};
+ghost use Rattle.reg_desk_service.specs.RegisterUses.{exit_of_run};
 ghost use Rattle.reg_office_api.specs.LookUps.{IsOfStore};
 ghost use Rattle.reg_audit_rows.specs.AuditLines.{broken_text, sound_text};
 
 use crate::lines_job::{is_ahead_of, run_script_over};
-use crate::machine::Machine;
 use crate::output_lines::print_text;
-use crate::reasons::{Reason, keep_reason};
-use crate::registers::{audit_at, create_register, open_signed, open_unsigned};
 use reg_audit_rows::{AuditResult, Audited, BrokenRow, OTHER_SCHEMA, broken_line, sound_line};
 use reg_core::{Fault, Moment, Policy};
 use reg_der::Issuer;
@@ -24,22 +21,15 @@ use reg_desk_cli::{
     Argument, Failure, ImportJob, NewRegister, ResponderChoice, SignerAddress, Steps,
     issuer_and_policy_of, key_identifier_of, schedule_of,
 };
+use reg_desk_service::{
+    Machine, Reason, audit_at, create_register, ended, keep_reason, open_signed, open_unsigned,
+};
 use reg_io::{Sink, Source};
 use reg_lines::{Ended, import, import_strictly};
 use reg_office_api::Office;
 use std::alloc::Global;
 use std::cell::Cell;
 use std::io::Write;
-
-/// The end of a job, by the result of its run over a register.
-pub fn ended(ran: Result<(), Fault>) -> Result<(), Failure>
-    ensures { result ≡ exit_of ran }
-{
-    match ran {
-        Ok(()) => Ok(()),
-        Err(fault) => Err(Failure::Fault(fault)),
-    }
-}
 
 /// Creates a register at a path. The issuer and the policy are checked first. If the job fails and claimed a free path, it removes what it created
 /// there, except a register that another program created there meanwhile. Errors: `BadIssuer`; `BadPolicy`; `NotEmpty` if the file has a

@@ -1,55 +1,27 @@
-//! The jobs of the program `desk`, which run on any [`Machine`].
+//! The jobs of the program `desk`, which run on any [`Machine`](reg_desk_service::Machine).
 #![tactic(auto)]
 
-mod admission;
 mod at_job;
-mod clock;
-mod command_batches;
-mod control_lines;
-mod control_reply;
 mod control_socket;
 mod copy_job;
-mod crl_signer;
-mod decisions_by_serial;
-mod deferred_commands;
-mod desks;
-mod exchange_log;
-mod failure_cause;
-mod health_routes;
-mod http_exchanges;
 mod jobs;
 mod lines_job;
 mod list_job;
 mod log_entries;
-mod log_lines;
-mod machine;
 mod open_job;
 mod output_lines;
 mod published;
-mod reasons;
-mod registers;
 mod replay_job;
 mod row_job;
 mod serve_job;
-mod show;
-mod syntax;
-mod unsigned_responses;
-mod validity;
-mod words;
 
 pub use at_job::{at, at_rows, exchange_lines};
-pub use copy_job::{CopyFault, copy};
-pub use crl_signer::CrlSigner;
-pub use deferred_commands::{LineTicket, SignatureKind};
-pub use failure_cause::{FailureCause, Location};
-pub use jobs::{audit, crl, ended, import_rows, init, key_identifier, schedule, script};
+pub use copy_job::copy;
+pub use jobs::{audit, crl, import_rows, init, key_identifier, schedule, script};
 pub use lines_job::script_by_lines;
 pub use list_job::list;
-pub use machine::Machine;
 pub use open_job::serve_open;
 pub use output_lines::report_exit;
-pub use reasons::Reason;
 pub use replay_job::replay;
 pub use row_job::each_row;
 pub use serve_job::serve;
-pub use unsigned_responses::Unsigned;

@@ -9,12 +9,10 @@ ghost use Rattle.reg_desk_metrics.specs.Ahead.{is_ahead as ahead};
 ghost use Rattle.reg_desk_jobs.specs.PlaceholderWarning.{IsFirstCrl, placeholder_warning};
 
 use crate::jobs::run_ended;
-use crate::machine::Machine;
-use crate::reasons::{Reason, keep_reason};
-use crate::registers::open_signed;
 use reg_core::{Fault, Moment, Reply};
 use reg_desk_cli::{Failure, LineScript, ResponderChoice, ScriptOptions};
 use reg_desk_metrics::is_ahead;
+use reg_desk_service::{Machine, Reason, keep_reason, open_signed};
 use reg_io::{Sink, Source};
 use reg_lines::{Answered, Ended, Host, run_lines, run_script_for};
 use reg_office_api::Office;

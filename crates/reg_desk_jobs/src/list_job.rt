@@ -9,11 +9,10 @@ ghost use Rattle.reg_core_lists.specs.Texts.{opening_text, row_text};
 ghost use Rattle.reg_desk_jobs.specs.Ends.{IsMomentOf, ListAt};
 
 use crate::jobs::print_result;
-use crate::machine::Machine;
-use crate::registers::open_unsigned;
 use reg_core::{Fault, Moment};
 use reg_core_lists::{Cursor, Filter, Format, Row, header, put_rows};
 use reg_desk_cli::{Failure, ListJob};
+use reg_desk_service::{Machine, open_unsigned};
 use reg_office_api::Office;
 use std::alloc::Global;
 use std::io::Write;

@@ -5,9 +5,8 @@ ghost use Rattle.std.specs.List.{position};
 ghost use Rattle.reg_lines.specs.Fields.{fields_of};
 ghost use Rattle.reg_desk_jobs.specs.LogEntries.{accepted, decision_by, enters, exchange_in, exchange_of, first_word, has_quote, is_control, is_quote, is_of_request, is_whole, log_meaning_of, named_in, split_at_quote, request_by, request_named, second_word, unnamed, was_accepted};
 
-use crate::exchange_log::CONTROL_SOCKET;
-use crate::log_lines::MOST_QUOTED;
 use reg_core::{Label, Serial, read_number};
+use reg_desk_service::{CONTROL_SOCKET, MOST_QUOTED};
 use reg_lines::{Fields, is_accepted};
 
 /// The parts of a line of the log. The request and the answer stand in quotation marks there.

@@ -2,10 +2,9 @@
 
 ghost use Rattle.reg_desk_jobs.specs.Ends.{OpenAt};
 
-use crate::machine::Machine;
-use crate::registers::open_signed;
 use crate::serve_job::serve_checked;
 use reg_desk_cli::{Failure, OpenJob};
+use reg_desk_service::{Machine, open_signed};
 use reg_io::{Sink, Source};
 
 /// Serves the register at a path until a signal ends the program, or the clock or the sockets fail. The register is opened first, then the port is

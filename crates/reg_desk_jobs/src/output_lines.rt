@@ -2,12 +2,11 @@
 
 ghost use Rattle.std.specs.Prelude.{◌≡◌, ◌∷◌, [], ℕ, List, IfOk};
 ghost use Rattle.reg_desk_jobs.specs.Ends.{PrintsText, PrintsLine};
-ghost use Rattle.reg_desk_jobs.specs.FailureReports.{Adds, Explains, IsReportedLine, IsWritten, ReportsExit, ReportsReason};
+ghost use Rattle.reg_desk_service.specs.FailureReports.{Adds, Explains, IsReportedLine, IsWritten, ReportsExit, ReportsReason};
 
-use crate::failure_cause::FailureCause;
-use crate::reasons::{Reason, reason_line};
 use reg_core::Fault;
 use reg_desk_cli::{Failure, status_of};
+use reg_desk_service::{FailureCause, Reason, reason_line};
 use reg_io::write_whole;
 use std::alloc::{AllocError, Global};
 use std::io::Write;

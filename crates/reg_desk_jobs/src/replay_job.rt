@@ -9,11 +9,10 @@ use crate::log_entries::{
     Entry, ExchangeText, LogMeaning, exchange_in, first_word, has_quote, log_meaning_of,
     second_word,
 };
-use crate::log_lines::{put_number, put_word};
-use crate::machine::Machine;
 use crate::output_lines::print_text;
 use reg_core::{Fault, read_number};
 use reg_desk_cli::Failure;
+use reg_desk_service::{Machine, put_number, put_word};
 use reg_lines::without_end;
 use std::alloc::{AllocError, Global};
 use std::io::{BufRead, BufReader, Read, Write};

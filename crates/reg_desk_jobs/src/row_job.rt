@@ -7,11 +7,10 @@ ghost use Rattle.reg_desk_jobs.specs.RowTasks.{AnswersRow, IsRowDone, LineReplie
 
 use crate::at_job::{Next, both, cut_off, ended, next_line, request_reply};
 use crate::log_entries::{first_word, second_word};
-use crate::log_lines::{put_number, put_word};
-use crate::machine::Machine;
 use crate::output_lines::print_text;
 use reg_core::{Fault, Label, Moment, Serial};
 use reg_desk_cli::{Failure, OrderTerms, RowTask};
+use reg_desk_service::{Machine, put_number, put_word};
 use reg_lines::{is_accepted, without_end};
 use std::alloc::{AllocError, Global};
 use std::io::{BufRead, BufReader, Read, Write};

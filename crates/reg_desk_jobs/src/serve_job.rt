@@ -7,25 +7,22 @@ ghost use Rattle.reg_desk_server.specs.Failures.{EndsEarly};
 ghost use Rattle.reg_desk_jobs.specs.Ends.{PrintsText, ServeAt};
 ghost use Rattle.reg_desk_cli.specs.declared.failure.Failure.{Failure as Failing};
 ghost use Rattle.reg_desk_jobs.specs.Published.{Compares, HasAll};
-ghost use Rattle.reg_desk_jobs.specs.declared.unsigned_responses.Unsigned.{Unsigned};
+ghost use Rattle.reg_desk_service.specs.declared.unsigned_responses.Unsigned.{Unsigned};
 ghost use Rattle.reg_desk_jobs.specs.Serving.{IsBoundOn, Served, ServedAt, ServesOn, listening, loopback};
 ghost use Rattle.reg_io.specs.RunsOfAnswers.{Answered};
 
-use crate::admission::Admission;
 use crate::control_socket::create_control_socket;
-use crate::crl_signer::CrlSigner;
-use crate::desks::Desk;
-use crate::health_routes::{responder_not_after, signing_of};
-use crate::machine::Machine;
 use crate::output_lines::print_text;
 use crate::published::check_published;
-use crate::registers::open_signed;
 use mio::net::{TcpListener, UnixListener};
 use reg_core::{Decimal, Fault};
 use reg_crl_signer::Backoff;
 use reg_desk_cli::{Endpoint, Failure, Loopback, ResponderChoice, ServeJob, SignerAddress};
 use reg_desk_metrics::{ConnectionTotals, Tally};
 use reg_desk_server::{EventLoop, Handler, MOST_HTTP_CONNECTIONS};
+use reg_desk_service::{
+    Admission, CrlSigner, Desk, Machine, open_signed, responder_not_after, signing_of,
+};
 use reg_io::{Sink, Source};
 use std::cell::Cell;
 use std::io;

@@ -2,7 +2,7 @@
 use Rattle.std.proofs.Common.{◌≡◌, ◌∙◌, ℕ, List, Option, Some, None, sym, subst}
 use Rattle.std.specs.Prelude.{MatchOption}
 use Rattle.reg_core.specs.declared.cause.Cause.{Cause}
-use Rattle.reg_desk_jobs.specs.Signers.{MayFollow}
+use Rattle.reg_desk_service.specs.Signers.{MayFollow}
 use Rattle.reg_crl_signer.specs.Signed.{IsCrlWithAlgorithm}
 use Rattle.reg_desk_program.specs.Mismatches.{Differs, IsMismatch, IsMismatchAfter}
 

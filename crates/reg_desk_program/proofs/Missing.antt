@@ -5,7 +5,7 @@ use Rattle.reg_core.specs.declared.refusal.Fault.TheVariants.{Memory, Store}
 use Rattle.reg_office_api.specs.LookUps.{IsOfStore}
 use Rattle.reg_desk_cli.specs.declared.failure.Failure.{Failure}
 use Rattle.reg_desk_cli.specs.declared.failure.Failure.TheVariants as failure
-use Rattle.reg_desk_jobs.specs.RegisterFailures.{IsOpenFailure}
+use Rattle.reg_desk_service.specs.RegisterFailures.{IsOpenFailure}
 use Rattle.reg_office.proofs.PublicLaws.{of_failure}
 use Rattle.reg_store_tables.specs.Faults.{fault_of}
 use Rattle.reg_store_tables.specs.declared.fault.DatabaseFault.{DatabaseFault}

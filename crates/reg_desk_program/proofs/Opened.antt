@@ -4,8 +4,8 @@ use Rattle.sqlite.specs.Held.{Held}
 use Rattle.sqlite_trees.specs.declared.store.Store.{Ghosts}
 use Rattle.reg_office_api.specs.Signers.{Responder}
 use Rattle.reg_crl.specs.Signing.{Identity}
-use Rattle.reg_desk_jobs.specs.Signers.{EmbeddedKeyFits}
-use Rattle.reg_desk_jobs.specs.declared.crl_signer.CrlSigner.{CrlSigner}
+use Rattle.reg_desk_service.specs.Signers.{EmbeddedKeyFits}
+use Rattle.reg_desk_service.specs.declared.crl_signer.CrlSigner.{CrlSigner}
 use Rattle.reg_office.specs.Answering.{answers_by}
 use Rattle.reg_office.specs.declared.responder.Responder.{Responder as Held_by}
 use Rattle.reg_desk_program.specs.StoreSigners.{FitsRegister}

@@ -5,7 +5,7 @@ use Rattle.reg_desk_cli.specs.declared.failure.Failure.{Failure}
 use Rattle.reg_store_tables.specs.Stays.{IsDatabaseFault}
 use Rattle.reg_store_tables.specs.declared.fault.StoreFault.{StoreFault}
 use Rattle.reg_store_tables.specs.declared.fault.StoreFault.TheVariants as stored
-use Rattle.reg_desk_jobs.specs.RegisterFailures.{IsCreateFailure, IsOpenFailure}
+use Rattle.reg_desk_service.specs.RegisterFailures.{IsCreateFailure, IsOpenFailure}
 
 -- a register that can't be opened
 pub opened : (fault : StoreFault) (why : Failure) → why ≡ store_failure fault → fault ≢ stored.NotEmpty → IsOpenFailure why

@@ -10,8 +10,8 @@ use Rattle.reg_core.specs.Records.{Crl, Records}
 use Rattle.reg_core.specs.Sound.{SoundRows}
 use Rattle.reg_crl.specs.Signing.{Identity, sha1_algorithm}
 use Rattle.reg_der.specs.Der.{tlv, length_octets}
-use Rattle.reg_desk_jobs.specs.Signers.{IsSigning, identity_of_signer}
-use Rattle.reg_desk_jobs.specs.declared.crl_signer.CrlSigner.{CrlSigner}
+use Rattle.reg_desk_service.specs.Signers.{IsSigning, identity_of_signer}
+use Rattle.reg_desk_service.specs.declared.crl_signer.CrlSigner.{CrlSigner}
 use Rattle.reg_desk_program.specs.StoreSigners.{FitsLatest, FitsRegister}
 use Rattle.reg_crl_signer.specs.Algorithms.{identifier_of}
 use Rattle.reg_crl_signer.specs.declared.algorithm.Algorithm.{Algorithm}

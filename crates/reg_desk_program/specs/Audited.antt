@@ -19,7 +19,7 @@ use Rattle.reg_audit.specs.Presumed.{IsPresumed}
 use Rattle.reg_audit.specs.AuditResults.{CountedBy, IsSound}
 use Rattle.reg_audit_rows.specs.declared.audit_result.AuditResult.{AuditResult}
 use Rattle.reg_desk_program.specs.Files.{IsAudited, IsOpenedFrom}
-use Rattle.reg_desk_jobs.specs.declared.crl_signer.CrlSigner.{CrlSigner}
+use Rattle.reg_desk_service.specs.declared.crl_signer.CrlSigner.{CrlSigner}
 
 -- an audit of a file with the result `Sound`, over a disk that returned what was written; and the assumptions about the connection and the file that
 -- no audit can check (`IsPresumed`)

@@ -38,8 +38,8 @@ use Rattle.reg_office.specs.Calls.{seen}
 use Rattle.reg_office.specs.Stands.{Stands}
 use Rattle.reg_office.specs.declared.office.Office.{Office}
 use Rattle.reg_office.specs.declared.responder.Responder.{Responder}
-use Rattle.reg_desk_jobs.specs.Signers.{EmbeddedKeyFits, Follows, IsSigning}
-use Rattle.reg_desk_jobs.specs.declared.crl_signer.CrlSigner.{CrlSigner}
+use Rattle.reg_desk_service.specs.Signers.{EmbeddedKeyFits, Follows, IsSigning}
+use Rattle.reg_desk_service.specs.declared.crl_signer.CrlSigner.{CrlSigner}
 
 -- the tables showed the records of a register, of this program's version or of an older one
 abbrev pub Showed : {C : Type 0} → Ghosts C → Held C → Records → Type 0

@@ -2,7 +2,7 @@
 use Rattle.std.specs.Prelude.{◌≡◌, ◌⊎◌, ℕ, List, Option, Some}
 use Rattle.reg_core.specs.declared.cause.Cause.{Cause}
 use Rattle.reg_core.specs.declared.cause.Cause.TheVariants as cause
-use Rattle.reg_desk_jobs.specs.Signers.{MayFollow}
+use Rattle.reg_desk_service.specs.Signers.{MayFollow}
 use Rattle.reg_crl_signer.specs.Algorithms.{identifier_of}
 use Rattle.reg_crl_signer.specs.Signed.{IsCrlWithAlgorithm}
 use Rattle.reg_crl_signer.specs.declared.algorithm.Algorithm.{Algorithm}

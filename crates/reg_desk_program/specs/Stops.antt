@@ -7,7 +7,7 @@ use Rattle.sqlite_store.specs.declared.store.FileStore.{FileStore}
 use Rattle.reg_core.specs.Records.{Records}
 use Rattle.reg_office_api.specs.Signers.{OfficeSigners}
 use Rattle.reg_office_api.specs.CallSteps.{Signs}
-use Rattle.reg_desk_jobs.specs.declared.crl_signer.CrlSigner.{CrlSigner}
+use Rattle.reg_desk_service.specs.declared.crl_signer.CrlSigner.{CrlSigner}
 use Rattle.reg_office.specs.AfterStoppedCommand.{ChangingCall}
 use Rattle.reg_office.specs.Calls.{StandsWith}
 use Rattle.reg_office.specs.InterruptedCalls.{InterruptsOneOfThem, InterruptsOnlyItself}

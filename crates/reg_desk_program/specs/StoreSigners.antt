@@ -7,9 +7,9 @@ use Rattle.reg_office_api.specs.Signers.{Responder}
 use Rattle.reg_core.specs.Records.{Records}
 use Rattle.reg_core.specs.Sound.{SoundRows}
 use Rattle.reg_crl.specs.Signing.{Identity}
-use Rattle.reg_desk_jobs.specs.Signers.{EmbeddedKeyFits, Follows, IsSigning, MayFollow, identity_of_signer}
-use Rattle.reg_desk_jobs.specs.declared.crl_signer.CrlSigner.{CrlSigner}
-use Rattle.reg_desk_jobs.specs.declared.crl_signer.CrlSigner.TheVariants.{NoSigner, Digest, KeyAt}
+use Rattle.reg_desk_service.specs.Signers.{EmbeddedKeyFits, Follows, IsSigning, MayFollow, identity_of_signer}
+use Rattle.reg_desk_service.specs.declared.crl_signer.CrlSigner.{CrlSigner}
+use Rattle.reg_desk_service.specs.declared.crl_signer.CrlSigner.TheVariants.{NoSigner, Digest, KeyAt}
 use Rattle.reg_crl_signer.specs.Signed.{IsCrlWithAlgorithm}
 use Rattle.reg_store_tables.specs.Shows.{Shows}
 use Rattle.reg_desk_cli.specs.declared.job.SignerAddress.{SignerAddress}

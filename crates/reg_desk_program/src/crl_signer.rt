@@ -6,8 +6,8 @@ ghost use Rattle.sqlite.specs.State.{HasCleanDisk};
 ghost use Rattle.reg_core.specs.Crls.{latest};
 ghost use Rattle.reg_core.specs.Records.{Records};
 ghost use Rattle.reg_core.specs.Sound.{SoundRows};
-ghost use Rattle.reg_desk_jobs.specs.RegisterFailures.{IsOpenFailure};
-ghost use Rattle.reg_desk_jobs.specs.Signers.{MayFollow, identity_of_signer};
+ghost use Rattle.reg_desk_service.specs.RegisterFailures.{IsOpenFailure};
+ghost use Rattle.reg_desk_service.specs.Signers.{MayFollow, identity_of_signer};
 ghost use Rattle.reg_office.specs.Answering.{answers_by};
 ghost use Rattle.reg_crl_signer.specs.Forms.{identity_of};
 ghost use Rattle.reg_crl_signer.specs.RegisterSigners.{register_signer_path};
@@ -28,7 +28,7 @@ use reg_crl_signer::{
     crl_algorithm,
 };
 use reg_desk_cli::{Argument, Failure, SignerAddress};
-use reg_desk_jobs::{CrlSigner, Machine};
+use reg_desk_service::{CrlSigner, Machine};
 use reg_office::Responder;
 use reg_store::{DatabaseFault, Tables};
 use sqlite::Alter;

@@ -6,9 +6,10 @@ use crate::memory::script_in_memory;
 use reg_core::{Cause, policy_cause_of};
 use reg_desk_cli::{Failure, Job, status_of};
 use reg_desk_jobs::{
-    Machine, Reason, at, at_rows, audit, copy, crl, each_row, import_rows, init, key_identifier,
-    list, replay, report_exit, schedule, script, script_by_lines, serve, serve_open,
+    at, at_rows, audit, copy, crl, each_row, import_rows, init, key_identifier, list, replay,
+    report_exit, schedule, script, script_by_lines, serve, serve_open,
 };
+use reg_desk_service::{Machine, Reason};
 use reg_io::{Sink, Source};
 use std::cell::Cell;
 use std::io::Write;

@@ -1,7 +1,7 @@
 //! Audits a register in a file.
 
 ghost use Rattle.std.specs.Prelude.{◌≡◌, false, IfErr, IfOk};
-ghost use Rattle.reg_desk_jobs.specs.RegisterFailures.{IsOpenFailure};
+ghost use Rattle.reg_desk_service.specs.RegisterFailures.{IsOpenFailure};
 ghost use Rattle.reg_desk_program.specs.Files.{IsAudited, IsConnection};
 
 use crate::audit_progress::AuditProgress;

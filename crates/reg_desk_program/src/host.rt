@@ -5,7 +5,7 @@ ghost use Rattle.std.specs.Duration.{as_nanos};
 ghost use Rattle.reg_office_api.specs.LookUps.{IsOfStore};
 ghost use Rattle.reg_office_api.specs.Calls.{KeepsIn};
 ghost use Rattle.reg_desk_files.specs.Reading.{IsReadFailureOfFiles};
-ghost use Rattle.reg_desk_jobs.specs.RegisterFailures.{IsOpenFailure, IsReadFailure};
+ghost use Rattle.reg_desk_service.specs.RegisterFailures.{IsOpenFailure, IsReadFailure};
 ghost use Rattle.reg_desk_program.specs.Calls.{Unspecified, is_claimed};
 ghost use Rattle.reg_desk_program.specs.Files.{failure_of};
 ghost use Rattle.reg_crl_signer.specs.SignatureRequest.{IsSignatureRequest};
@@ -26,8 +26,8 @@ use reg_desk_files::{
     ClaimFault, FileFault, Overlay, ReadFailure, ReadFile, Source, Sources, check_database,
     claim_file, copy_closed, copy_open, open_file, open_sources, read_at, remove_file,
 };
-use reg_desk_jobs::{CopyFault, CrlSigner, FailureCause, Location, Machine, SignatureKind};
 use reg_desk_server::as_would_block;
+use reg_desk_service::{CopyFault, CrlSigner, FailureCause, Location, Machine, SignatureKind};
 use reg_io::write_whole;
 use reg_office::Responder;
 use sqlite_disk::{Disk, Unknown};
@@ -119,7 +119,7 @@ impl<'a> Machine for Host<'a> {
     ghost use Rattle.sqlite.specs.Files.{over_files};
     ghost use Rattle.reg_crl.specs.Signing.{Identity};
     ghost use Rattle.reg_desk_files.specs.Overlaid.{image};
-    ghost use Rattle.reg_desk_jobs.specs.Signers.{IsAnswering};
+    ghost use Rattle.reg_desk_service.specs.Signers.{IsAnswering};
     ghost use Rattle.reg_office.specs.Answering.{signers_of};
     ghost use Rattle.reg_desk_program.specs.Files.{IsAuditOf, IsConnection, IsMadeFrom, OpensFor};
 

@@ -1,7 +1,7 @@
 //! Standard input, or the file that a job reads.
 
 use reg_desk_cli::{Job, OpenJob, RowTask, ServeJob};
-use reg_desk_jobs::Location;
+use reg_desk_service::Location;
 use std::fs::File;
 use std::io;
 use std::io::{Read, Stdin};

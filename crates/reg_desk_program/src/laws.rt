@@ -11,7 +11,7 @@ use sqlite_disk::Disk;
 
 /// A register that an audit found sound has sound records, and an office that opens its file has them.
 ///
-/// If [`Machine::audit_in`](reg_desk_jobs::Machine::audit_in) of the [`Host`](crate::Host) returned `Sound`, the file's tables show sound records,
+/// If [`Machine::audit_in`](reg_desk_service::Machine::audit_in) of the [`Host`](crate::Host) returned `Sound`, the file's tables show sound records,
 /// and the derived tables (states, counts, CRL entries) agree with them. If an office then opens the file with these tables, the records stand in it
 /// (`Stands`: its tables show them, and they are sound). So the contracts and laws of [`reg_office`] hold for them. The law assumes (`IsPresumed`)
 /// what no audit can check: each row of the table `listed` stores its last column (else it reads as NULL), and no call left the connection's
@@ -30,7 +30,7 @@ pub fn without_a_key_only_digests_are_made<D: Device>()
 /// A stop at any moment of a job leaves the records that its replies reported, or those after the call that it interrupted.
 ///
 /// After a job opened a register, and until it closes it, [`perform`](crate::perform) changes the register's records only as the replies report
-/// (`UsesRegister` of reg_desk_jobs). A register of this program's version that is opened has the sound records that its file showed (`begins`).
+/// (`UsesRegister` of reg_desk_service). A register of this program's version that is opened has the sound records that its file showed (`begins`).
 /// The machine may stop in any later call, or after it. A register that is then opened again from what the disk kept has the records that stood, or
 /// those after the interrupted call (`leaves`). The interrupted call is the last one (`call`); or an earlier one in which the disk's failure closed
 /// the connection, so that each later call failed (`calls`). The interrupted call got no reply of acceptance. So no accepted command is lost,

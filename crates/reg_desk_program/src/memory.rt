@@ -7,7 +7,7 @@ ghost use Rattle.reg_office.specs.AfterStoppedCommand.{LeavesReported};
 ghost use Rattle.reg_office.specs.Stands.{Stands};
 ghost use Rattle.reg_office.specs.declared.responder.Responder.TheVariants.{Issuer as ByIssuer};
 ghost use Rattle.reg_desk_jobs.specs.Digest.{digests};
-ghost use Rattle.reg_desk_jobs.specs.RegisterFailures.{IsCreateFailure};
+ghost use Rattle.reg_desk_service.specs.RegisterFailures.{IsCreateFailure};
 ghost use Rattle.reg_desk_jobs.specs.Sample.{sample_records};
 ghost use Rattle.reg_crl_signer.specs.KeyOrDigestSignatures.{digest};
 
@@ -16,7 +16,7 @@ use reg_core::{Fault, Policy};
 use reg_crl::DigestSeal;
 use reg_der::Issuer;
 use reg_desk_cli::Failure;
-use reg_desk_jobs::ended;
+use reg_desk_service::ended;
 use reg_io::{Sink, Source};
 use reg_lines::run_script;
 use reg_office::Office;

@@ -2,8 +2,8 @@
 
 ghost use Rattle.std.specs.Prelude.{◌≡◌, ◌⊎◌, IsTrue, IfOk, IfErr, OnErr};
 ghost use Rattle.reg_crl.specs.Signing.{Identity};
-ghost use Rattle.reg_desk_jobs.specs.RegisterFailures.{IsOpenFailure};
-ghost use Rattle.reg_desk_jobs.specs.Signers.{EmbeddedKeyFits, HasCertificate, IsAnswering, IsDelegate};
+ghost use Rattle.reg_desk_service.specs.RegisterFailures.{IsOpenFailure};
+ghost use Rattle.reg_desk_service.specs.Signers.{EmbeddedKeyFits, HasCertificate, IsAnswering, IsDelegate};
 ghost use Rattle.reg_office.specs.Answering.{answers_by, signers_of};
 ghost use Rattle.reg_desk_cli.specs.declared.job.ResponderChoice.TheVariants.{Issuer};
 
@@ -14,7 +14,7 @@ use reg_core::{Fault, io_cause_of};
 use reg_crl::Signer;
 use reg_crl_signer::is_key_identifier;
 use reg_desk_cli::{Argument, Failure, SignerAddress};
-use reg_desk_jobs::{Location, Machine};
+use reg_desk_service::{Location, Machine};
 use reg_ocsp::{Certificate, CertificateFault};
 use reg_office::Responder;
 use std::fs;

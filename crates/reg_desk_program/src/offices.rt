@@ -2,7 +2,7 @@
 
 ghost use Rattle.std.specs.Prelude.{◌≡◌, None, false, IfOk, IfErr};
 ghost use Rattle.reg_core.specs.Records.{no_records};
-ghost use Rattle.reg_desk_jobs.specs.RegisterFailures.{IsCreateFailure, IsOpenFailure};
+ghost use Rattle.reg_desk_service.specs.RegisterFailures.{IsCreateFailure, IsOpenFailure};
 ghost use Rattle.reg_office.specs.Answering.{signers_of};
 ghost use Rattle.reg_office.specs.Calls.{seen};
 ghost use Rattle.reg_office.specs.declared.responder.Responder.TheVariants.{Issuer as ByIssuer};
@@ -16,7 +16,7 @@ use reg_crl::Signer;
 use reg_crl_signer::PresetSignature;
 use reg_der::Issuer;
 use reg_desk_cli::Failure;
-use reg_desk_jobs::{CrlSigner, SignatureKind};
+use reg_desk_service::{CrlSigner, SignatureKind};
 use reg_office::{Office, Responder};
 use reg_store::Store;
 use sqlite::{Alter, Connection, FileFrom, FileStore};

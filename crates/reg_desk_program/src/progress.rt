@@ -2,7 +2,7 @@
 
 use reg_core::io_cause_of;
 use reg_desk_cli::Job;
-use reg_desk_jobs::{FailureCause, Location};
+use reg_desk_service::{FailureCause, Location};
 use std::cell::Cell;
 use std::io::{IsTerminal, Stdout, Write};
 use std::time::Clock;

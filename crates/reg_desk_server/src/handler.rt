@@ -49,7 +49,7 @@ pub struct LineReplies {
 }
 
 /// Answers requests and lines, one after the other. While a signature is awaited, other requests are answered. While a line awaits one, no other line
-/// is answered. Only `Desk` in `reg_desk_jobs` implements this trait, which exists so that the contracts of the event loop hold for any `answers`,
+/// is answered. Only `Desk` in `reg_desk_service` implements this trait, which exists so that the contracts of the event loop hold for any `answers`,
 /// `answers_lines`, `defers` and `finishes`.
 pub trait Handler {
     ghost use Rattle.std.specs.Prelude.{◌≡◌, ◌+◌, ℕ, List, take, IsTrue, IfErr, IfOk, OnErr, OnOk, MatchOption};

@@ -1,6 +1,6 @@
 //! Laws. Each function here does nothing: its contract is the law, which `rt check` proves.
 //!
-//! In the laws, `IsOpenedAgain` is the clause `again` of `restart` in the crate `reg_store_restart`, over any disk that may lose unsynced
+//! In the laws, `IsOpenedAgain` is the clause `again` of `restart` in the crate `reg_desk_files`, over any disk that may lose unsynced
 //! writes. `IsLive` is the clause `live` of `Connection::schema` in the crate `sqlite`.
 
 ghost use Rattle.reg_store.specs.OpenedAgain.{OpensEmptyOrMade, OpensWithAnIssuer, OpensWithASchedule, OpensWithTheSame};

@@ -1,6 +1,6 @@
 use Rattle.std.proofs.Common.{◌≡◌, rules, inl, inr, refl}
 use Rattle.reg_office_api.proofs.PublicLaws.{follows}
-use Rattle.reg_desk_jobs.proofs.LookedAt.{still_then}
+use Rattle.reg_desk_service.proofs.PublicLaws.{still_then}
 use Rattle.reg_desk_jobs.proofs.jobs.import_at.Goals as goal
 
 pub returns-in_err-office : goal.returns-in_err-office

@@ -1,4 +1,4 @@
-use Rattle.reg_desk_jobs.proofs.LookedAt.{then_still}
+use Rattle.reg_desk_service.proofs.PublicLaws.{then_still}
 use Rattle.reg_desk_jobs.proofs.jobs.import_strict_rows.Goals as goal
 
 pub returns : goal.returns

@@ -2,7 +2,7 @@ use Rattle.std.proofs.Common.{◌≡◌, rules, inl, inr, refl}
 use Rattle.std.specs.Prelude.{IsTrue}
 use Rattle.reg_office_api.proofs.PublicLaws.{follows}
 use Rattle.reg_desk_jobs.specs.Ends.{IsClockRefused}
-use Rattle.reg_desk_jobs.proofs.LookedAt.{still_then, then_still}
+use Rattle.reg_desk_service.proofs.PublicLaws.{still_then, then_still}
 use Rattle.reg_desk_jobs.proofs.lines_job.script_by_lines.Goals as goal
 
 pub returns-in_err-office : goal.returns-in_err-office

@@ -1,5 +1,5 @@
 use Rattle.std.proofs.Common.{[], ◌++◌}
-use Rattle.reg_desk_jobs.proofs.PageByPage.{begun, gone_on, text_begun, text_more}
+use Rattle.reg_desk_service.proofs.PublicLaws.{begun, gone_on, text_begun, text_more}
 use Rattle.reg_desk_jobs.proofs.list_job.list_text.Goals as goal
 
 pub loop-init : goal.loop-init

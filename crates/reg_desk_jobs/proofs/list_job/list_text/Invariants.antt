@@ -1,7 +1,7 @@
 use Rattle.std.proofs.Common.{List}
 use Rattle.reg_office_api.specs.Leads.{Leads}
 use Rattle.reg_core_lists.specs.declared.rows.Row.{Row}
-use Rattle.reg_desk_jobs.proofs.PageByPage.{IsGoing, IsText}
+use Rattle.reg_desk_service.proofs.PublicLaws.{IsGoing, IsText}
 use Rattle.reg_desk_jobs.proofs.list_job.list_text.Given as goal
 
 -- so many rows were given, and are the text so far

@@ -3,7 +3,7 @@ use Rattle.std.proofs.lemmas.Bool.{eqb-false}
 use Rattle.reg_desk_cli.specs.declared.failure.Failure.TheVariants.{NotACrl}
 use Rattle.reg_desk_jobs.specs.Published.{AppendsMissing}
 use Rattle.reg_desk_jobs.proofs.Comparing.{HasMissing, entries_more, looked_on, no_entries}
-use Rattle.reg_desk_jobs.proofs.Looks.{looks_as}
+use Rattle.reg_desk_service.proofs.PublicLaws.{looks_as}
 use Rattle.reg_desk_jobs.proofs.published.put_missing_revocations.Goals as goal
 
 pub returns-in_default : goal.returns-in_default

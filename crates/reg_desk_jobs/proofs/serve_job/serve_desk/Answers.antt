@@ -2,8 +2,8 @@ use Rattle.std.proofs.Common.{[], ap, inl, inr, refl}
 use Rattle.std.specs.Prelude.{is_some}
 use Rattle.reg_office_api.proofs.PublicLaws.{follows, stays}
 use Rattle.reg_core.specs.Records.{Records}
-use Rattle.reg_desk_jobs.specs.Admission.{first_admission}
-use Rattle.reg_desk_jobs.specs.Signers.{answer_socket}
+use Rattle.reg_desk_service.specs.Admission.{first_admission}
+use Rattle.reg_desk_service.specs.Signers.{answer_socket}
 use Rattle.reg_desk_jobs.proofs.DeskRuns.{desk_moves}
 use Rattle.reg_desk_jobs.proofs.Fates.{unbound}
 use Rattle.reg_desk_jobs.proofs.serve_job.serve_desk.Goals as goal

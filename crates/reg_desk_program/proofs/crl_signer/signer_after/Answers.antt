@@ -1,5 +1,5 @@
 use Rattle.std.proofs.Common.{List, ℕ, rules, subst}
-use Rattle.reg_desk_jobs.specs.Signers.{MayFollow}
+use Rattle.reg_desk_service.specs.Signers.{MayFollow}
 use Rattle.reg_store_tables.proofs.PublicLaws.{shows_until}
 use Rattle.reg_desk_program.proofs.crl_signer.signer_after.Goals as goal
 

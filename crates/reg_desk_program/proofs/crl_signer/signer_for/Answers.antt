@@ -1,7 +1,7 @@
 use Rattle.std.proofs.Common.{sym, subst}
 use Rattle.std.proofs.lemmas.Result.{IfOk-weaker}
-use Rattle.reg_desk_jobs.specs.Signers.{IsSigning}
-use Rattle.reg_desk_jobs.specs.declared.crl_signer.CrlSigner.{CrlSigner}
+use Rattle.reg_desk_service.specs.Signers.{IsSigning}
+use Rattle.reg_desk_service.specs.declared.crl_signer.CrlSigner.{CrlSigner}
 use Rattle.reg_store_tables.proofs.PublicLaws.{looked_then}
 use Rattle.reg_desk_program.proofs.Signers.{signs_for}
 use Rattle.reg_desk_program.proofs.crl_signer.signer_for.Goals as goal

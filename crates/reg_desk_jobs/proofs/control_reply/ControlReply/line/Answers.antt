@@ -1,4 +1,0 @@
-use Rattle.reg_desk_jobs.proofs.control_reply.ControlReply.line.Goals as goal
-
-pub returns : goal.returns
-returns c = c.made.ensures _ c.with_lf.ensures

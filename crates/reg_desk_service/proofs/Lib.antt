@@ -1,0 +1,15 @@
+pub mod Admitting
+pub mod Answering
+pub mod CommandBatches
+pub mod ControlLines
+pub mod Finding
+pub mod Finishing
+pub mod FoundRows
+pub mod LookedAt
+pub mod Looks
+pub mod PageByPage
+pub mod PublicLaws
+pub mod SerialBytes
+pub mod Setting
+pub mod StepWords
+pub mod WrongFields

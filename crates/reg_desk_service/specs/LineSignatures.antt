@@ -1,0 +1,28 @@
+-- The signature that a line at the control socket needs.
+use Rattle.std.specs.Prelude.{ℕ, List, Option, IfSome}
+use Rattle.reg_desk_cli.specs.declared.job.ResponderChoice.{ResponderChoice}
+use Rattle.reg_desk_cli.specs.declared.job.SignerAddress.{SignerAddress}
+use Rattle.reg_desk_service.specs.SignerAnswers.{AnsweredAtPath}
+use Rattle.reg_desk_service.specs.Signers.{answer_socket, crl_socket}
+use Rattle.reg_desk_service.specs.declared.deferred_commands.LineSignature.{LineSignature}
+use Rattle.reg_desk_service.specs.declared.deferred_commands.SignatureKind.{SignatureKind}
+use Rattle.reg_desk_service.specs.declared.deferred_commands.SignatureKind.TheVariants.{Crl, Answer}
+
+-- the path of the socket of the signer of CRLs or of that of OCSP responses, if there is one
+abbrev pub socket_for : Option SignerAddress → ResponderChoice → SignatureKind → Option (List ℕ)
+socket_for signer responder Crl = crl_socket signer
+socket_for signer responder Answer = answer_socket signer responder
+
+-- the signer of the CRL or the OCSP response gave this answer for this message
+abbrev pub AnsweredBySigner
+    : (List ℕ → List ℕ → List ℕ → Type 0) → Option SignerAddress → ResponderChoice → SignatureKind → List ℕ
+    → List ℕ → Type 0
+AnsweredBySigner signer_answered signer responder wanted =
+    AnsweredAtPath signer_answered (socket_for signer responder wanted)
+
+-- the clock has reached the moment, and the answer, if there is one, was given by the signer for the message
+pub record IsLineSignature (signer_answered : List ℕ → List ℕ → Type 0) (clock_reached : ℕ → Type 0)
+    (known : LineSignature) : Type 0 where
+  pub moment_reached : clock_reached known.moment
+  pub line_outcome : IfSome known.preset_signature.answer (λ answer.
+      signer_answered known.preset_signature.message.items answer.items)

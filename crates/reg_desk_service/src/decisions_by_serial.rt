@@ -1,0 +1,182 @@
+//! Revokes and declines requests by number and serial number, and finds both for the lines of the log.
+
+ghost use Rattle.std.specs.Prelude.{◌≡◌, IfSome};
+ghost use Rattle.reg_core.specs.Records.{request_in};
+ghost use Rattle.reg_office_api.specs.Calls.{LeadsIn, LooksIn};
+ghost use Rattle.reg_desk_service.specs.ControlReplies.{ReportsLineOutcome, ReportsFault};
+ghost use Rattle.reg_desk_service.specs.LogNames.{Decides, NamesRequest, NamesAccepted, NamesDecided};
+ghost use Rattle.reg_desk_service.specs.SerialDecisions.{RunsAt, DecidesAt, request_of_row};
+ghost use Rattle.reg_desk_service.specs.RowLookUps.{IsLookedUp};
+
+use crate::control_lines::answer_command;
+use crate::control_reply::{ControlReply, LineOutcome};
+use crate::machine::Machine;
+use crate::reasons::{Reason, keep_reason_text, reason_line};
+use crate::show::{find, report_fault};
+use crate::words::{RowKey, SerialDecision, serial_decision_in};
+use reg_core::{Command, Fault, Moment, Refusal, Reply, RequestRow};
+use reg_core_lists::Row;
+use reg_http::LoggedRequest;
+use reg_lines::{
+    Answered, LONGEST_REPLY, LineKind, ParsedLine, read_line, untimed_line, without_end,
+};
+use reg_office_api::Office;
+use std::alloc::Global;
+
+/// Revokes or declines a request. `NoRequest` if the request is for another serial number than the line's; `why` then replies with the request's.
+pub(crate) fn answer_serial_decision<M: Machine>(
+    alloc: Global,
+    office: &mut M::Office,
+    now: Moment,
+    serial_decision: SerialDecision,
+    last_reason: &mut Vec<u8>,
+) -> ControlReply
+    ensures moves { LeadsIn M.Office.Office
+        (λ identity before after.
+        DecidesAt M.Office.signs now identity before serial_decision result.text.items after)
+        office.old office.new }
+    ensures line_outcome { ReportsLineOutcome result.line_outcome result.text.items }
+{
+    match find_request(alloc, office, now, serial_decision.request) {
+        Ok(Some(request)) if request.serial != serial_decision.serial => answer_other(
+            alloc,
+            request,
+            last_reason,
+        ),
+        Ok(_) => answer_run::<M>(alloc, office, now, serial_decision.command, last_reason),
+        Err(fault) => report_fault(alloc, fault, last_reason),
+    }
+}
+
+fn answer_run<M: Machine>(
+    alloc: Global,
+    office: &mut M::Office,
+    now: Moment,
+    command: Command,
+    last_reason: &mut Vec<u8>,
+) -> ControlReply
+    ensures moves { LeadsIn M.Office.Office
+        (λ identity before after. RunsAt M.Office.signs now identity before command result.text.items after)
+        office.old office.new }
+    ensures line_outcome { ReportsLineOutcome result.line_outcome result.text.items }
+{
+    let Ok(room) = Vec::with_capacity(alloc, LONGEST_REPLY) else {
+        return ControlReply::fault(alloc, Fault::Memory);
+    };
+    let outcome = office.run_one(alloc, now, &command);
+    let answered = Answered::Completed(LineKind::Command(command), outcome);
+    answer_command::<M>(alloc, office, answered, room, last_reason)
+}
+
+/// Refuses a line whose request is for another serial number, and keeps that serial number for `why`.
+fn answer_other(alloc: Global, request: RequestRow, last_reason: &mut Vec<u8>) -> ControlReply
+    ensures told { ReportsFault (Fault.Refused Refusal.NoRequest) result.text.items }
+    ensures line_outcome { ReportsLineOutcome result.line_outcome result.text.items }
+{
+    let reply = ControlReply::fault(alloc, Fault::Refused(Refusal::NoRequest));
+    let reason = Reason::OtherSerial(request.id, request.serial);
+    keep_reason_text(
+        reason_line(alloc, b"", Some(reason)),
+        &reply.text,
+        last_reason,
+    );
+    reply
+}
+
+/// The request with a number. Errors: those of [`Office::page`].
+fn find_request<O: Office>(
+    alloc: Global,
+    office: &mut O,
+    now: Moment,
+    id: u64,
+) -> Result<Option<RequestRow>, Fault>
+    ensures { LooksIn O.Office
+        (λ records. IsLookedUp records now (request_in records.requests id) result)
+        office.old office.new }
+{
+    let found = find(alloc, office, now, &RowKey::Request(id))?;
+    Ok(request_of_row(found))
+}
+
+fn request_of_row(found: Option<Row>) -> Option<RequestRow>
+    ensures { result ≡ request_of_row found }
+{
+    match found {
+        Some(Row::History(history)) => Some(history.request.request),
+        _ => None,
+    }
+}
+
+/// The number and the serial number, for the log, of the request that a line decides. `None` without a log, without a decision or such a request.
+pub(crate) fn decided_request<M: Machine>(
+    alloc: Global,
+    office: &mut M::Office,
+    machine: &M,
+    now: Moment,
+    line: &[u8],
+) -> Option<LoggedRequest>
+    ensures { LooksIn M.Office.Office
+        (λ records. IfSome result (NamesDecided records line.now))
+        office.old office.new }
+{
+    if !machine.has_log() {
+        return None;
+    }
+    let id = decided_by(line)?;
+    match find_request(alloc, office, now, id) {
+        Ok(Some(request)) => Some(LoggedRequest {
+            id,
+            serial: request.serial,
+            ground: None,
+        }),
+        _ => None,
+    }
+}
+
+/// The number of the request that a line revokes or declines.
+fn decided_by(line: &[u8]) -> Option<u64>
+    ensures { IfSome result (Decides line.now) }
+{
+    if let Some(serial_decision) = serial_decision_in(without_end(line)) {
+        return Some(serial_decision.request);
+    }
+    match read_line(untimed_line(line)?) {
+        Some(ParsedLine::Command(Command::Revoke { request })) => Some(request),
+        Some(ParsedLine::Command(Command::Decline { request })) => Some(request),
+        _ => None,
+    }
+}
+
+/// The request that a line entered or decided, as the log names it. `looked_up` is the one that was found before a decision ran.
+pub(crate) fn logged_request(
+    line_outcome: &LineOutcome,
+    looked_up: Option<LoggedRequest>,
+) -> Option<LoggedRequest>
+    ensures { NamesRequest line_outcome.now looked_up result }
+{
+    match line_outcome {
+        LineOutcome::Completed(LineKind::Command(command), Ok(reply)) => named_of(
+            command, reply, looked_up,
+        ),
+        _ => None,
+    }
+}
+
+fn named_of(
+    command: &Command,
+    reply: &Reply,
+    looked_up: Option<LoggedRequest>,
+) -> Option<LoggedRequest>
+    ensures { NamesAccepted command.now reply.now looked_up result }
+{
+    match (command, reply) {
+        (Command::Request { serial, ground }, Reply::Request { id, .. }) => Some(LoggedRequest {
+            id: *id,
+            serial: *serial,
+            ground: Some(*ground),
+        }),
+        (Command::Revoke { .. }, _) => looked_up,
+        (Command::Decline { .. }, _) => looked_up,
+        _ => None,
+    }
+}

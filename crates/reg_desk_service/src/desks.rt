@@ -1,0 +1,318 @@
+//! The handler of `desk serve` and `desk open`: it answers HTTP requests, and lines at the control socket.
+
+ghost use Rattle.std.specs.Prelude.{◌≡◌, IfOk, MatchOption, OnErr};
+
+use crate::admission::Admission;
+use crate::control_lines::answer_first_lines;
+use crate::deferred_commands::{LineTicket, SignatureKind, line_signature_of, socket_of};
+use crate::exchange_log::log_lost;
+use crate::http_exchanges::answer_http;
+use crate::machine::Machine;
+use crate::unsigned_responses::{Unsigned, finish_http};
+use mio::net::{TcpListener, TcpStream};
+use mio::{Events, Poll};
+use reg_crl_signer::{Backoff, SignatureRequest};
+use reg_desk_cli::{ResponderChoice, SignerAddress};
+use reg_desk_metrics::{ConnectionTotals, Tally};
+use reg_desk_server::{
+    ConnectionCounts, ConnectionFault, Deferred, EventLoopFault, Handler, LineReplies,
+};
+use reg_http_head::Collected;
+use reg_io::ReadyOrUnsigned;
+use reg_lines::{read_line, untimed_line};
+use std::alloc::Global;
+use std::cell::Cell;
+use std::io;
+use std::io::ErrorKind;
+use std::net::SocketAddr;
+use std::time::Duration;
+
+/// A desk that answers HTTP requests, each at a moment of the clock. An open desk also answers `/health`, `/metrics`, lists, and lines at the
+/// control socket.
+#[derive(Drop)]
+pub struct Desk<'a, 'w, M: Machine> {
+    /// The open register.
+    pub office: M::Office,
+    pub alloc: Global,
+    pub machine: &'a M,
+    /// Whether this is `desk open`, and not `desk serve`.
+    pub is_open: bool,
+    /// The path of the register.
+    pub file: &'a str,
+    /// The signer of CRLs, as the options name it.
+    pub signer: &'a Option<SignerAddress<'w>>,
+    /// The signer of OCSP responses, as the options name it.
+    pub responder: &'a ResponderChoice<'w>,
+    /// The back-off of the OCSP signer, for `ocsp` lines at the control socket.
+    pub backoff: Backoff,
+    /// The counts since the register was opened. No contract of `Desk` mentions them. They are in a `Cell`, because `finish` takes `&self` and counts
+    /// the response that it finishes.
+    pub tally: &'a Cell<Tally>,
+    /// The counts of connections since then, in a `Cell` because `report_lost` takes `&self`.
+    pub connection_totals: &'a Cell<ConnectionTotals>,
+    /// Decides, with the records, which requests for revocation are refused.
+    pub admission: Admission,
+}
+
+impl<'a, 'w, M: Machine> Handler for Desk<'a, 'w, M> {
+    ghost use Rattle.std.specs.Prelude.{[], IsTrue};
+    ghost use Rattle.reg_office_api.specs.Calls.{KeepsIn, LeadsIn};
+    ghost use Rattle.reg_desk_service.specs.ControlWords.{IsAdmissionAfter, AnswersLinesByClock};
+    ghost use Rattle.reg_desk_service.specs.LineSignatures.{socket_for};
+    ghost use Rattle.reg_desk_service.specs.Exchanges.{AnswersBy};
+    ghost use Rattle.reg_desk_service.specs.SignerAnswers.{AtGivenPath, AnsweredAtSomePath};
+    ghost use Rattle.reg_desk_service.specs.FinishedResponses.{FinishesUnsigned, Meets};
+    ghost use Rattle.reg_desk_service.specs.Signers.{AnsweredByOcspSigner, answer_socket};
+    ghost use Rattle.reg_crl_signer.specs.SignatureRequest.{IsSignatureRequest};
+    ghost use Rattle.reg_desk_server.specs.LineEnds.{IsLine};
+
+    type Ticket = Unsigned;
+
+    type ControlTicket = LineTicket;
+
+    ghost answers = { λ s request outcome t. (t.is_open ≡ s.is_open) × LeadsIn M.Office.Office
+        (λ identity before after. Meets (FinishesUnsigned (AnsweredAtSomePath M.signer_answered))
+        (λ text. AnswersBy s.is_open M.Office.signs M.clock_reached s.admission t.admission
+        identity before request text after) outcome)
+        s.office t.office };
+
+    // only an open desk has a control socket
+    ghost answers_lines = { λ s bytes text t. IsTrue s.is_open × IsTrue t.is_open
+        × IsAdmissionAfter bytes s.admission t.admission × LeadsIn M.Office.Office
+        (λ identity before after. AnswersLinesByClock s.admission.accepted M.Office.signs M.clock_reached
+        identity before bytes text after)
+        s.office t.office };
+
+    ghost defers = { λ s line t. (t.is_open ≡ s.is_open) × (t.admission ≡ s.admission)
+        × KeepsIn M.Office.Office s.office t.office };
+
+    ghost finishes = { λ s. FinishesUnsigned
+        (AnsweredByOcspSigner M.signer_answered s.signer.now s.responder.now) };
+
+    ghost has_control = { λ desk. IsTrue desk.is_open };
+
+    ghost failed = { M.failed };
+
+    ghost waited = { M.waited };
+
+    ghost not_waited = { M.not_waited };
+
+    fn has_control_socket(&self) -> bool {
+        self.is_open
+    }
+
+    fn millis(&self) -> Result<u64, EventLoopFault> {
+        match self.machine.millis() {
+            Ok(millis) => Ok(millis),
+            Err(_) => Err(EventLoopFault),
+        }
+    }
+
+    fn wait(
+        &self,
+        poll: &mut Poll,
+        events: &mut Events,
+        longest: Duration,
+    ) -> Result<(), EventLoopFault> {
+        match self.machine.wait(poll, events, longest) {
+            Ok(()) => Ok(()),
+            Err(_) => Err(EventLoopFault),
+        }
+    }
+
+    fn accept(&self, listener: &TcpListener) -> io::Result<(TcpStream, SocketAddr)> {
+        self.machine.accept(listener)
+    }
+
+    fn answer(
+        &mut self,
+        client: SocketAddr,
+        request: &Collected,
+    ) -> Result<ReadyOrUnsigned<Vec<u8>, Unsigned>, EventLoopFault> {
+        let Ok(now) = self.machine.moment() else {
+            return Err(EventLoopFault);
+        };
+        let mut tally = self.tally.get();
+        let begun = answer_http::<M>(
+            self.alloc,
+            &mut self.office,
+            self.machine,
+            self.is_open,
+            &mut tally,
+            &mut self.admission,
+            self.connection_totals.get(),
+            now,
+            client,
+            request,
+        );
+        self.tally.set(tally);
+        Ok(begun)
+    }
+
+    fn request_signature(
+        &self,
+        ticket: &Unsigned,
+        kept: Option<SignatureRequest>,
+    ) -> io::Result<SignatureRequest>
+        ensures { IfOk result (λ sent_request.
+            AtGivenPath (answer_socket self.now.signer.now self.now.responder.now)
+            (λ path. M.signature_requested path ticket.now.draft.message
+            × IsSignatureRequest path ticket.now.draft.message sent_request)) }
+    {
+        match socket_of(self.signer, self.responder, SignatureKind::Answer) {
+            Some(socket) => self
+                .machine
+                .request_signature(socket, ticket.draft.message(), kept),
+            None => Err(io::Error::from(ErrorKind::NotFound)),
+        }
+    }
+
+    fn finish(&self, ticket: Unsigned, request: &mut Option<SignatureRequest>) -> Vec<u8> {
+        let mut tally = self.tally.get();
+        let text = finish_http::<M>(
+            self.alloc,
+            self.machine,
+            &mut tally,
+            self.signer,
+            self.responder,
+            ticket,
+            request,
+        );
+        self.tally.set(tally);
+        text
+    }
+
+    fn answer_lines(
+        &mut self,
+        lines: &[u8],
+        last_reason: &mut Vec<u8>,
+    ) -> Result<LineReplies, EventLoopFault> {
+        let Ok(now) = self.machine.moment() else {
+            return Err(EventLoopFault);
+        };
+        let began = self.machine.micros();
+        let mut tally = self.tally.get();
+        let replies = answer_first_lines::<M>(
+            self.alloc,
+            &mut self.office,
+            self.machine,
+            self.file,
+            &mut tally,
+            &mut self.admission.accepted,
+            began,
+            now,
+            lines,
+            last_reason,
+        );
+        self.tally.set(tally);
+        Ok(replies)
+    }
+
+    fn defer(&mut self, line: &[u8]) -> Option<Deferred<LineTicket>> {
+        match read_line(untimed_line(line)?) {
+            Some(command_line) => self.deferred_line(&command_line),
+            None => None,
+        }
+    }
+
+    fn connect_to_signer(&self, ticket: &LineTicket) -> io::Result<SignatureRequest>
+        ensures { IfOk result (λ sent_request.
+            AtGivenPath (socket_for self.now.signer.now self.now.responder.now ticket.now.wanted)
+            (λ path. M.reached path × IsSignatureRequest path [] sent_request)) }
+    {
+        match socket_of(self.signer, self.responder, ticket.wanted) {
+            Some(socket) if !ticket.is_backed_off => self.machine.connect_to_signer(socket),
+            _ => Err(io::Error::from(ErrorKind::NotFound)),
+        }
+    }
+
+    fn answer_deferred(
+        &mut self,
+        line: &[u8],
+        last_reason: &mut Vec<u8>,
+        deferred: Deferred<LineTicket>,
+        link: Option<SignatureRequest>,
+    ) -> Result<Option<Vec<u8>>, EventLoopFault>
+        requires control { IsTrue self.old.is_open }
+        requires line { IsLine line.now }
+        ensures ok { IfOk result (λ answered. MatchOption answered
+            ((self.new.is_open ≡ self.old.is_open) × (self.new.admission ≡ self.old.admission)
+            × KeepsIn M.Office.Office self.old.office self.new.office)
+            (λ text. IsTrue self.old.is_open × IsTrue self.new.is_open
+            × IsAdmissionAfter line.now self.old.admission self.new.admission × LeadsIn M.Office.Office
+            (λ identity before after. AnswersLinesByClock self.old.admission.accepted M.Office.signs M.clock_reached
+            identity before line.now text.items after)
+            self.old.office self.new.office)) }
+        ensures err { OnErr result ((self.new ≡ self.old) × (last_reason.new ≡ last_reason.old)) }
+        ensures fails { OnErr result M.failed }
+    {
+        let Deferred { message, ticket } = deferred;
+        let signed_ticket = ticket;
+        let asked_ticket = ticket;
+        let has_arrived = link.is_some();
+        let signature = line_signature_of::<M>(
+            self.alloc,
+            &mut self.office,
+            self.machine,
+            self.signer,
+            self.responder,
+            signed_ticket,
+            message,
+            link,
+        )?;
+        self.backoff = self.backoff_after(asked_ticket, has_arrived);
+        match signature {
+            Some(signature) => Ok(Some(self.answer_with_signature(
+                line,
+                last_reason,
+                ticket,
+                signature,
+            ))),
+            None => Ok(None),
+        }
+    }
+
+    fn report_lost(&self, client: Option<SocketAddr>, why: ConnectionFault) {
+        self.connection_totals
+            .set(with_loss(self.connection_totals.get(), why));
+        log_lost(self.alloc, self.machine, client, why);
+    }
+
+    fn keep_counts(&self, connection_counts: ConnectionCounts) {
+        self.connection_totals.set(with_connection_counts(
+            self.connection_totals.get(),
+            connection_counts,
+        ));
+    }
+}
+
+fn with_loss(connection_totals: ConnectionTotals, why: ConnectionFault) -> ConnectionTotals {
+    let mut connection_totals = connection_totals;
+    match why {
+        ConnectionFault::Broken => connection_totals.broken = connection_totals
+            .broken
+            .saturating_add(1),
+        ConnectionFault::TimedOut => connection_totals.late = connection_totals
+            .late
+            .saturating_add(1),
+        ConnectionFault::Evicted => connection_totals.evicted = connection_totals
+            .evicted
+            .saturating_add(1),
+        ConnectionFault::Memory => connection_totals.memory = connection_totals
+            .memory
+            .saturating_add(1),
+    }
+    connection_totals
+}
+
+fn with_connection_counts(
+    connection_totals: ConnectionTotals,
+    connection_counts: ConnectionCounts,
+) -> ConnectionTotals {
+    ConnectionTotals {
+        open_http: connection_counts.open_http as u64,
+        open_control: connection_counts.open_control as u64,
+        accepted: connection_counts.accepted,
+        ..connection_totals
+    }
+}

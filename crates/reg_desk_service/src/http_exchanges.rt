@@ -1,0 +1,245 @@
+//! Answers the bytes that came on an HTTP connection, by the register or, for some routes, by the open desk itself.
+
+ghost use Rattle.std.specs.Prelude.{◌≡◌};
+ghost use Rattle.reg_office_api.specs.Calls.{LeadsIn};
+ghost use Rattle.reg_http_head.specs.Bytes.{collected_bytes};
+ghost use Rattle.reg_http_head.specs.Frame.{asked};
+ghost use Rattle.reg_http.specs.RoutedRequests.{path_of};
+ghost use Rattle.reg_http.specs.Exchanges.{IsEmpty, HasNoEffects};
+ghost use Rattle.reg_http.specs.RouteNames.{named_route, route_at};
+ghost use Rattle.reg_http.specs.declared.exchange.Exchange.{Exchange as HttpExchange};
+ghost use Rattle.reg_http.specs.declared.exchange.UnsignedResponse.{UnsignedResponse as UnsignedResponses};
+ghost use Rattle.reg_desk_server.specs.Outcomes.{outcome_of};
+ghost use Rattle.reg_desk_service.specs.RequestOutcomes.{AnswersBegun, BeginsAt, IsBegunRoute, ready_of};
+ghost use Rattle.reg_desk_service.specs.Counted.{CountsBegun};
+ghost use Rattle.reg_desk_service.specs.Admission.{CountsRequest};
+ghost use Rattle.reg_desk_service.specs.Exchanges.{admission_after, dispatch};
+ghost use Rattle.reg_desk_service.specs.SignerAnswers.{AnsweredAtSomePath};
+ghost use Rattle.reg_desk_service.specs.HealthRoutes.{IsRecounted};
+ghost use Rattle.reg_desk_metrics.specs.declared.tally.Tally.{Tally as Tallies};
+ghost use Rattle.reg_io.specs.declared.begun.ReadyOrUnsigned.{ReadyOrUnsigned as BegunOf};
+
+use crate::admission::{Admission, begin_admitted};
+use crate::exchange_log::log_exchange;
+use crate::health_routes::{answer_health, answer_metrics};
+use crate::machine::Machine;
+use crate::unsigned_responses::{Unsigned, unsigned_of};
+use http::Method;
+use reg_core::{Fault, Memory, Moment};
+use reg_desk_metrics::{ConnectionTotals, Tally};
+use reg_http::{
+    Answered, Exchange, Route, UnsignedResponse, answer_list, begin, begun_exchange, refuse,
+    text_buffer,
+};
+use reg_http_head::{Collected, RequestRef};
+use reg_io::ReadyOrUnsigned;
+use reg_ocsp::Draft;
+use reg_office_api::{Office, SignatureOutcome};
+use std::alloc::Global;
+use std::net::SocketAddr;
+
+/// Which part of the desk answers a request.
+#[derive(Clone, Copy, PartialEq, Eq)]
+pub(crate) enum Dispatch {
+    /// The register.
+    ToRegister,
+    /// An open desk refuses requests for revocation beyond its limits, and passes the others to the register.
+    ToLimits,
+    /// An open desk answers with a page of a list.
+    ToList,
+    /// An open desk answers with its health.
+    ToHealth,
+    /// An open desk answers with its metrics.
+    ToMetrics,
+}
+
+/// Which part answers a request at a route: always the register alone if the desk runs as `desk serve`, not as `desk open`.
+fn dispatch_of(is_open: bool, route: Route) -> Dispatch
+    ensures { result ≡ dispatch is_open route }
+{
+    if !is_open {
+        return Dispatch::ToRegister;
+    }
+    match route {
+        Route::Requests => Dispatch::ToLimits,
+        Route::List => Dispatch::ToList,
+        Route::Health => Dispatch::ToHealth,
+        Route::Metrics => Dispatch::ToMetrics,
+        _ => Dispatch::ToRegister,
+    }
+}
+
+/// Answers, as of a moment, the bytes that came on a connection, counts the exchange, and logs it if there is a log; or leaves a response to be
+/// signed, which is counted when it is finished.
+pub(crate) fn answer_http<M: Machine>(
+    alloc: Global,
+    office: &mut M::Office,
+    machine: &M,
+    is_open: bool,
+    tally: &mut Tally,
+    admission: &mut Admission,
+    connection_totals: ConnectionTotals,
+    now: Moment,
+    client: SocketAddr,
+    request: &Collected,
+) -> ReadyOrUnsigned<Vec<u8>, Unsigned>
+    ensures { (begun : BegunOf HttpExchange UnsignedResponses) × (asked : Tallies)
+        × IsRecounted tally.old asked
+        × LeadsIn M.Office.Office
+        (λ signers before after.
+        AnswersBegun (AnsweredAtSomePath M.signer_answered) is_open M.Office.signs now
+        admission.old admission.new signers before (collected_bytes request.now) begun after)
+        office.old office.new
+        × CountsBegun now (collected_bytes request.now) begun (outcome_of result) asked tally.new }
+{
+    let began = machine.micros();
+    match exchange_at::<M>(
+        alloc,
+        office,
+        is_open,
+        tally,
+        admission,
+        connection_totals,
+        now,
+        request,
+    ) {
+        ReadyOrUnsigned::Ready(exchange) => {
+            let micros = machine.micros().saturating_sub(began);
+            tally.count_exchange(now, &exchange, micros);
+            log_exchange(
+                alloc,
+                machine,
+                micros,
+                now,
+                client,
+                request.as_slice(),
+                &exchange,
+            );
+            ReadyOrUnsigned::Ready(exchange.text)
+        }
+        ReadyOrUnsigned::Unsigned(response) => {
+            ReadyOrUnsigned::Unsigned(unsigned_of(
+                alloc, machine, response, now, began, client, request,
+            ))
+        }
+    }
+}
+
+/// Answers, as of a moment, the bytes that came on a connection, or leaves a response to be signed. Memory for the text is reserved first.
+fn exchange_at<M: Machine>(
+    alloc: Global,
+    office: &mut M::Office,
+    is_open: bool,
+    tally: &mut Tally,
+    admission: &mut Admission,
+    connection_totals: ConnectionTotals,
+    now: Moment,
+    request: &Collected,
+) -> ReadyOrUnsigned<Exchange, UnsignedResponse>
+    ensures moves { LeadsIn M.Office.Office
+        (λ signers before after.
+        AnswersBegun (AnsweredAtSomePath M.signer_answered) is_open M.Office.signs now
+        admission.old admission.new signers before (collected_bytes request.now) result after)
+        office.old office.new }
+    ensures route { IsBegunRoute (collected_bytes request.now) result }
+    ensures recounted { IsRecounted tally.old tally.new }
+{
+    let Ok(room) = text_buffer(alloc) else {
+        return ReadyOrUnsigned::Ready(empty(alloc, request));
+    };
+    match request.request(alloc) {
+        Ok(
+            RequestRef::Valid {
+                method,
+                target,
+                body,
+            },
+        ) => {
+            let route = Route::of(target);
+            let begun = begin_at::<M>(
+                alloc,
+                office,
+                is_open,
+                tally,
+                admission,
+                connection_totals,
+                now,
+                route,
+                &method,
+                target,
+                body,
+            );
+            begun_exchange(route, room, begun, now)
+        }
+        Ok(RequestRef::Refused(status)) => {
+            let route = Route::named_in(request.as_slice());
+            begun_exchange(route, room, ready(refuse(alloc, status)), now)
+        }
+        // No whole request came, so there is no response.
+        Err(Fault::Read) => ReadyOrUnsigned::Ready(empty(alloc, request)),
+        Err(_) => {
+            let route = Route::named_in(request.as_slice());
+            ReadyOrUnsigned::Ready(Exchange::out_of_memory(route, room))
+        }
+    }
+}
+
+/// An exchange without a response, at the route that the first line names.
+fn empty(alloc: Global, request: &Collected) -> Exchange
+    ensures empty { IsEmpty result }
+    ensures nothing { HasNoEffects result }
+    ensures route { result.route ≡ named_route (collected_bytes request.now) }
+{
+    let route = Route::named_in(request.as_slice());
+    Exchange::empty(alloc, route, SignatureOutcome::NotRequested)
+}
+
+fn ready(answered: Result<Answered, Memory>) -> Result<ReadyOrUnsigned<Answered, Draft>, Memory>
+    ensures { result ≡ ready_of answered }
+{
+    match answered {
+        Ok(answered) => Ok(ReadyOrUnsigned::Ready(answered)),
+        Err(memory) => Err(memory),
+    }
+}
+
+/// Answers, as of a moment, a request at a route, or leaves a response to be signed.
+fn begin_at<M: Machine>(
+    alloc: Global,
+    office: &mut M::Office,
+    is_open: bool,
+    tally: &mut Tally,
+    admission: &mut Admission,
+    connection_totals: ConnectionTotals,
+    now: Moment,
+    route: Route,
+    method: &Method,
+    target: &str,
+    body: &[u8],
+) -> Result<ReadyOrUnsigned<Answered, Draft>, Memory>
+    requires { route ≡ route_at (path_of target.now) }
+    ensures moves { LeadsIn M.Office.Office
+        (λ signers before after.
+        BeginsAt is_open M.Office.signs now admission.old signers before method.now target.now body.now
+        result after)
+        office.old office.new }
+    ensures counted { CountsRequest result
+        (admission_after is_open now (asked method.now target.now body.now) admission.old)
+        admission.old admission.new }
+    ensures recounted { IsRecounted tally.old tally.new }
+{
+    match dispatch_of(is_open, route) {
+        Dispatch::ToRegister => begin(alloc, method, target, body, now, office),
+        Dispatch::ToLimits => {
+            begin_admitted::<M>(alloc, office, admission, now, method, target, body)
+        }
+        Dispatch::ToList => ready(answer_list(alloc, method, target, now, office)),
+        Dispatch::ToHealth => {
+            let accepted = admission.accepted;
+            ready(answer_health::<M>(alloc, office, method, now, tally, accepted))
+        }
+        Dispatch::ToMetrics => {
+            ready(answer_metrics::<M>(alloc, office, method, now, tally, connection_totals))
+        }
+    }
+}

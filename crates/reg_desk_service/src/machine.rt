@@ -1,0 +1,370 @@
+//! The machine that a job runs on: its files, clock, ports, sockets and standard error.
+
+use crate::clock::moment_at;
+use crate::copies::CopyFault;
+use crate::crl_signer::CrlSigner;
+use crate::deferred_commands::SignatureKind;
+use crate::failure_cause::{FailureCause, Location};
+use mio::net::{TcpListener, TcpStream, UnixListener};
+use mio::{Events, Poll};
+use reg_audit_rows::AuditResult;
+use reg_core::{Cause, Fault, Memory, Moment, Policy};
+use reg_crl_signer::{PresetSignature, SignatureRequest};
+use reg_der::Issuer;
+use reg_desk_cli::{Failure, ResponderChoice};
+use reg_office_api::Office;
+use std::alloc::Global;
+use std::fs::File;
+use std::io;
+use std::net::SocketAddr;
+use std::os::unix::net::UnixStream;
+use std::time::Duration;
+
+/// The machine that a job runs on. A job reaches a register's files only by these methods, and by the office that they open. The methods that create,
+/// open for writing or remove such files take `&mut self`, except `copy_open`. So a contract over the machine before and after a job excludes such
+/// a call at another path. A method's relation, such as `claimed`, states what the method did; no proof covers what the system does. Most methods are
+/// one action of the system. Functions that combine several actions are written over any machine, such as
+/// [`open_signed`](crate::open_signed). Errors that a comment does not name: the system's; in a [`Failure`] or [`CopyFault`], `Memory` and `Store`.
+pub trait Machine {
+    ghost use Rattle.std.specs.Prelude.{◌≡◌, ◌≤◌, ◌+◌, ◌⊎◌, ℕ, List, [], IsTrue, IsFalse, MatchBool, OnOk, OnErr, IfOk, IfErr, IfSome, length};
+    ghost use Rattle.reg_office_api.specs.Calls.{KeepsIn};
+    ghost use Rattle.reg_office_api.specs.LookUps.{IsOfStore};
+    ghost use Rattle.reg_office_api.specs.Signers.{OfficeSigners};
+    ghost use Rattle.reg_core.specs.Records.{no_records};
+    ghost use Rattle.reg_crl.specs.Signing.{Identity};
+    ghost use Rattle.reg_desk_cli.specs.declared.failure.Failure.{Failure as Failing};
+    ghost use Rattle.reg_audit_rows.specs.declared.audit_result.AuditResult.{AuditResult as AuditResults};
+    ghost use Rattle.reg_desk_service.specs.Clocks.{IsClockMoment};
+    ghost use Rattle.reg_desk_service.specs.SignerAnswers.{AnsweredAtSomePath};
+    ghost use Rattle.reg_desk_service.specs.RegisterFailures.{IsCreateFailure, IsOpenFailure, IsReadFailure};
+    ghost use Rattle.reg_desk_service.specs.Signers.{HasCertificate};
+    ghost use Rattle.reg_desk_service.specs.declared.crl_signer.CrlSigner.{CrlSigner as SignsCrls};
+    ghost use Rattle.reg_crl_signer.specs.SignatureRequest.{IsSignatureRequest};
+    ghost use Rattle.reg_crl_signer.specs.Forms.{HasForm};
+    ghost use Rattle.reg_desk_cli.specs.declared.job.ResponderChoice.{ResponderChoice as Answering};
+    ghost use Rattle.std.specs.declared.fs.File.{File as OpenFile};
+    ghost use Rattle.reg_desk_server.specs.Failures.{AcceptFails};
+
+    /// The office over an open register: it runs commands, and answers queries and OCSP requests.
+    type Office: Office + Drop;
+
+    /// A file that is open as a database.
+    type Database: Drop;
+
+    /// A register's files, opened read-only.
+    type Sources: Drop;
+
+    /// The responder to OCSP requests, with the certificate that its answers contain, if any.
+    type Responder: Drop;
+
+    // ---- files; a relation over two machines relates the one before the action to the one after it
+
+    /// There is a file or a link at the path, a WAL beside it, or no file can be created there.
+    ghost taken: { Self → List ℕ → Type 0 };
+    /// Nothing is found at the path.
+    ghost absent: { Self → List ℕ → Type 0 };
+    /// There was nothing at the path, and an empty file was created there.
+    ghost claimed: { Self → List ℕ → Self → Type 0 };
+    /// The program tried to remove the file at the path, and its WAL.
+    ghost removed: { Self → List ℕ → Self → Type 0 };
+    /// The files at the path have the beginning of a database.
+    ghost begun: { Self → List ℕ → Type 0 };
+    /// For this reason the files at the path could not be read.
+    ghost read_failed: { Self → List ℕ → Failing → Type 0 };
+    /// The file at the path was opened as this database.
+    ghost connected: { Self → List ℕ → Self.Database → Self → Type 0 };
+    /// For this reason the file at the path could not be opened as a database.
+    ghost connect_failed: { Self → List ℕ → Failing → Self → Type 0 };
+    /// No statement ran over the database yet.
+    ghost fresh: { Self.Database → Type 0 };
+    /// This is the responder that the options choose, with the certificate that they name, if any.
+    ghost certified: { Answering → Self.Responder → Type 0 };
+    /// The register of the database was opened as this office, with this signer of CRLs and this responder.
+    ghost opened: { Self.Database → SignsCrls → Self.Responder → Self.Office → Type 0 };
+    /// A register was created in the database, and this is the office over it.
+    ghost made: { Self.Database → Self.Office → Type 0 };
+    /// The office whose file is at the path was closed.
+    ghost closed: { Self → List ℕ → Self.Office → Self → Type 0 };
+    /// The files at the path were opened read-only.
+    ghost read: { Self → List ℕ → Self.Sources → Type 0 };
+    /// An audit of the register in the files had this result.
+    ghost audited: { Self.Sources → AuditResults → Type 0 };
+    /// A copy of the register at the path, with this number of bytes, was created at another path, where there was nothing.
+    ghost copied: { Self → List ℕ → List ℕ → ℕ → Self → Type 0 };
+    /// For this reason no copy of the register at the path was created at another path.
+    ghost copy_failed: { Self → List ℕ → List ℕ → Failing → Self → Type 0 };
+    /// A copy of the open register whose file is at the path, with this number of bytes, was created.
+    ghost copied_open: { List ℕ → ℕ → Type 0 };
+
+    // ---- clock, ports and sockets
+
+    /// The clock was read, and showed this number of whole seconds since the start of 1970, or 0 for an earlier time.
+    ghost clock_read: { ℕ → Type 0 };
+    /// The clock has reached this moment.
+    ghost clock_reached: { ℕ → Type 0 };
+    /// The system failed: the clock could not be read, or the sockets could not be used.
+    ghost failed: { Type 0 };
+    /// The program waited for its sockets this number of times.
+    ghost waited: { ℕ → Type 0 };
+    /// At first the program has waited 0 times.
+    ghost not_waited: { waited 0 };
+    /// This port of this address was bound (four bytes, RFC 791 3.1, or sixteen, RFC 4291 2).
+    ghost bound: { List ℕ → ℕ → Type 0 };
+    /// A socket was created at this path.
+    ghost socket_created: { List ℕ → Type 0 };
+    /// The file at this path was given this mode.
+    ghost has_mode: { List ℕ → ℕ → Type 0 };
+    /// This file, as long as it is open, holds the lock of the folder of this path: no other desk, `desk-signer` or `signer.py` holds it meanwhile.
+    ghost locked: { OpenFile → List ℕ → Type 0 };
+    /// While this file held the lock, the socket at this path was stale: no program listened at it.
+    ghost stale: { OpenFile → List ℕ → Type 0 };
+    /// The program connected to the socket at this path.
+    ghost socket_connected: { List ℕ → Type 0 };
+    /// The signer at the socket at this path was asked to sign this message.
+    ghost signature_requested: { List ℕ → List ℕ → Type 0 };
+    /// The program connected to the signer at the socket at this path.
+    ghost reached: { List ℕ → Type 0 };
+    /// The signer at this path gave this answer to this message.
+    ghost signer_answered: { List ℕ → List ℕ → List ℕ → Type 0 };
+    /// The program tried to write this line to standard error.
+    ghost warned: { List ℕ → Type 0 };
+
+    /// Creates an empty file, for its owner alone, at a path where there is neither a file nor its WAL, in one step: if two programs try at once,
+    /// one succeeds. `false` if there is a file or a WAL, even as a dangling link, or if no file can be created there.
+    fn claim(&mut self, path: &str) -> Result<bool, Memory>
+        ensures ours { IfOk result (λ is_ours. IsTrue is_ours → claimed self.old path.now self.new) }
+        ensures taken { IfOk result (λ is_ours. IsFalse is_ours → taken self.old path.now) }
+        ensures same { IfOk result (λ is_ours. IsFalse is_ours → self.new ≡ self.old) }
+        ensures memory { OnErr result (self.new ≡ self.old) };
+
+    /// Whether something is found at a path. Links are followed.
+    fn is_there(&self, path: &str) -> bool
+        ensures { MatchBool result (taken self.now path.now) (absent self.now path.now) };
+
+    /// Removes the file at a path, and its WAL. A file that can't be removed, or is in use, stays.
+    fn remove(&mut self, path: &str)
+        ensures { removed self.old path.now self.new };
+
+    /// Checks that the files at a path, which are only read, have the beginning of a database. `NotARegister` if there is no database in them yet;
+    /// `Store` if there is no file, if the files can't be read, or if something else is in them.
+    fn check_database(&self, path: &str) -> Result<(), Failure>
+        ensures begun { OnOk result (begun self.now path.now) }
+        ensures read_failed { IfErr result (read_failed self.now path.now) }
+        ensures faults { IfErr result IsReadFailure };
+
+    /// Opens the file at a path as a database, and creates the file and the database if they are missing; `Store` if that can't be done.
+    fn connect(&mut self, path: &str) -> Result<Self::Database, Failure>
+        ensures connected { IfOk result (λ database. connected self.old path.now database self.new) }
+        ensures fresh { IfOk result fresh }
+        ensures connect_failed { IfErr result (λ why. connect_failed self.old path.now why self.new) }
+        ensures faults { IfErr result (λ why.
+            (why ≡ Failure.Fault Fault.Memory) ⊎ (why ≡ Failure.Fault Fault.Store)) };
+
+    /// The bytes of the file at a path; `None` if it can't be read.
+    fn file(&self, path: &str) -> Option<Vec<u8>>;
+
+    /// Reads the certificate of the responder to OCSP requests, if one is given; `BadResponder` if it can't be read or parsed, or a delegated
+    /// responder's key is not of the given algorithm.
+    fn read_responder(&self, responder: &ResponderChoice<'_>) -> Result<Self::Responder, Failure>
+        ensures certified { IfOk result (certified responder.now) }
+        ensures told { OnErr result (HasCertificate responder.now) }
+        ensures faults { IfErr result IsOpenFailure };
+
+    /// Opens the register of a database, which is closed if that fails: `NotARegister` if it has none; `NewVersion` if a newer program wrote it;
+    /// `BadSigner` if the latest CRL's algorithm is neither this signer's nor the placeholder digest's, or the issuer's key isn't of the signer's
+    /// algorithm; `BadResponder` if the certificate that the issuer's OCSP responses embed (`--embed`) has another key than the issuer.
+    fn open_in(
+        &self,
+        database: Self::Database,
+        crls: &CrlSigner<'_>,
+        responder: Self::Responder,
+    ) -> Result<Self::Office, Failure>
+        requires { fresh database }
+        ensures opened { IfOk result (opened database crls.now responder) }
+        ensures faults { IfErr result IsOpenFailure };
+
+    /// Makes a register with no records in a database, which is closed if that fails: `NotEmpty` if it has a table, an index or a view.
+    fn create_in(
+        &self,
+        database: Self::Database,
+        issuer: Issuer,
+        policy: Policy,
+    ) -> Result<Self::Office, Failure>
+        requires { fresh database }
+        ensures made { IfOk result (made database) }
+        ensures stands { IfOk result (λ office.
+            (signers : OfficeSigners) × Self.Office.stands signers office (no_records issuer policy)) }
+        ensures faults { IfErr result IsCreateFailure };
+
+    /// Closes the office whose file is at a path.
+    fn close(&mut self, path: &str, office: Self::Office)
+        ensures { closed self.old path.now office self.new };
+
+    /// Opens the files at a path read-only: each byte of them stays, and nothing is created beside them.
+    fn read(&self, path: &str) -> Result<Self::Sources, Failure>
+        ensures read { IfOk result (read self.now path.now) }
+        ensures read_failed { IfErr result (read_failed self.now path.now) }
+        ensures faults { IfErr result (λ why.
+            (why ≡ Failure.Fault Fault.Memory) ⊎ (why ≡ Failure.Fault Fault.Store)) };
+
+    /// Audits the register in files, without migrating an older version; `NotARegister` if there is none; `NewVersion` if a newer program wrote it.
+    fn audit_in(&self, sources: Self::Sources) -> Result<AuditResult, Failure>
+        ensures audited { IfOk result (audited sources) }
+        ensures faults { IfErr result IsOpenFailure };
+
+    /// Copies the register at a path, which is only read, to a path without a file, and returns how many bytes the copy has. The copy is for
+    /// its owner alone, and is synced with its folder. It gets its name once it is whole. `NotARegister` if there is no database yet; `Store` also if
+    /// a program has locked the register for writing, or if there is a file at the second path, or there with `-wal`, `-journal` or `.part`.
+    fn copy(&mut self, path: &str, to: &str) -> Result<u64, Failure>
+        ensures ok { IfOk result (λ bytes. copied self.old path.now to.now bytes self.new) }
+        ensures err { IfErr result (λ why. copy_failed self.old path.now to.now why self.new) }
+        ensures faults { IfErr result IsReadFailure };
+
+    /// In the same way, copies the register that this program has open, between two transactions. `Store` also if another file is at the path now.
+    fn copy_open(&self, path: &str, to: &str) -> Result<u64, CopyFault>
+        ensures ok { IfOk result (copied_open path.now) }
+        ensures err { IfErr result (λ why. IsOfStore why.fault) };
+
+    /// The whole seconds of the clock since the start of 1970; 0 if it shows an earlier time.
+    fn seconds(&self) -> io::Result<u64>
+        ensures stood { IfOk result clock_read }
+        ensures told { IfOk result (λ seconds. (now : ℕ) → now ≤ seconds → clock_reached now) }
+        ensures fails { OnErr result failed };
+
+    /// The microseconds of the monotonic clock; 0 if it can't be read.
+    fn micros(&self) -> u64;
+
+    /// The milliseconds of the monotonic clock.
+    fn millis(&self) -> io::Result<u64>
+        ensures { OnErr result failed };
+
+    /// Blocks until a socket is ready, at most for `longest`.
+    fn wait(&self, poll: &mut Poll, events: &mut Events, longest: Duration) -> io::Result<()>
+        ensures ok { OnOk result ((count : ℕ) → waited count → waited (count + 1)) }
+        ensures fails { OnErr result failed };
+
+    /// Accepts a connection. Errors are those of accept(2): no connection waits, a signal came, the client is gone, no file descriptor is left,
+    /// or the system failed.
+    fn accept(&self, listener: &TcpListener) -> io::Result<(TcpStream, SocketAddr)>
+        ensures { IfErr result (AcceptFails failed) };
+
+    /// Listens at a port of an address, without blocking.
+    fn listen(&self, address: [u8; 4], port: u16) -> io::Result<TcpListener>
+        ensures { OnOk result (bound address port) };
+
+    /// The same at an IPv6 address.
+    fn listen_v6(&self, address: [u8; 16], port: u16) -> io::Result<TcpListener>
+        ensures { OnOk result (bound address port) };
+
+    /// Locks the folder of a path. No other desk, `desk-signer` or `signer.py` creates or removes a socket there before the caller drops the file.
+    /// Error: `AddrInUse` if another program holds the lock for ten seconds.
+    fn lock_folder(&self, path: &str) -> io::Result<File>
+        ensures { IfOk result (λ lock. locked lock path.now) };
+
+    /// Creates a socket at a path, and listens there without blocking; `AddrInUse` if the path exists.
+    fn create_socket(&self, lock: &File, path: &str) -> io::Result<UnixListener>
+        requires { locked lock.now path.now }
+        ensures { OnOk result (socket_created path.now) };
+
+    /// Sets the mode of the file at a path.
+    fn set_mode(&self, path: &str, mode: u32) -> io::Result<()>
+        ensures { OnOk result (has_mode path.now mode) };
+
+    /// Whether the file at a path is a socket.
+    fn is_socket(&self, path: &str) -> io::Result<bool>;
+
+    /// Whether the socket at a path is stale: it refuses connections, because no program listens there.
+    fn is_stale(&self, lock: &File, path: &str) -> bool
+        requires { locked lock.now path.now }
+        ensures { IsTrue result → stale lock.now path.now };
+
+    /// Removes a socket that was stale under this lock, which the caller still holds.
+    fn unlink(&self, lock: &File, path: &str) -> io::Result<()>
+        requires { stale lock.now path.now };
+
+    /// Connects to the socket at a path.
+    fn connect_to_socket(&self, path: &str) -> io::Result<UnixStream>
+        ensures { OnOk result (socket_connected path.now) };
+
+    /// Asks the signer at the socket at a path to sign a message, without blocking. `kept` is an earlier request, whose connection may be used again.
+    /// `WouldBlock` if the socket has no room for one more connection, or no file descriptor is left.
+    fn request_signature(
+        &self,
+        path: &str,
+        message: &[u8],
+        kept: Option<SignatureRequest>,
+    ) -> io::Result<SignatureRequest>
+        ensures asked { OnOk result (signature_requested path.now message.now) }
+        ensures kept { IfOk result (IsSignatureRequest path.now message.now) };
+
+    /// Connects to a signer in the same way, with no message on the connection yet.
+    fn connect_to_signer(&self, path: &str) -> io::Result<SignatureRequest>
+        ensures reached { OnOk result (reached path.now) }
+        ensures kept { IfOk result (IsSignatureRequest path.now []) };
+
+    /// The signer's answer to a request. `None` if it has not arrived, or there is no memory for it.
+    fn receive_answer(alloc: Global, link: &mut SignatureRequest) -> Option<Vec<u8>>
+        ensures given { IfSome result (λ answer.
+            (path message : List ℕ) → IsSignatureRequest path message link.old
+            → signer_answered path message answer.items) }
+        ensures short { IfSome result (λ answer. length answer.items ≤ 4096) };
+
+    /// Presets the next signature of an office: a signer's answer to a message, or that there is none. For that signature the office doesn't ask the
+    /// signer, and a signature of another message fails. `None` removes the preset.
+    fn set_preset(
+        office: &mut Self::Office,
+        wanted: SignatureKind,
+        preset_signature: Option<PresetSignature>,
+    )
+        requires { IfSome preset_signature (λ known.
+            IfSome known.answer (λ answer.
+            AnsweredAtSomePath signer_answered known.message.items answer.items)) }
+        ensures { KeepsIn Self.Office.Office office.old office.new };
+
+    /// Whether there is a log, for exchanges and faults of connections.
+    fn has_log(&self) -> bool;
+
+    /// Appends a line with its LF to the log. If writing fails, the log has none or only a part of the line.
+    fn log(&self, line: &[u8]);
+
+    /// Writes a line with its LF to standard error, for the operator. A failed write is ignored.
+    fn warn(&self, line: &[u8])
+        ensures { warned line.now };
+
+    /// Keeps the cause of a failed call, with the location if that is known. `None` as the cause drops the one that was kept before.
+    fn keep_cause(&self, location: Option<Location>, cause: Option<Cause>);
+
+    /// The cause that was kept last, if it was known.
+    fn last_cause(&self) -> Option<FailureCause>;
+
+    /// The moment of the clock, or the last possible moment if the clock is past it; `Read` if the clock can't be read.
+    final fn moment(&self) -> Result<Moment, Fault>
+        ensures told { IfOk result clock_reached }
+        ensures exact { IfOk result (IsClockMoment clock_read) }
+        ensures err { IfErr result (λ fault. fault ≡ Fault.Read) }
+        ensures fails { OnErr result failed }
+    {
+        match self.seconds() {
+            Ok(seconds) => Ok(moment_at(seconds)),
+            Err(_) => {
+                self.keep_cause(None, Some(Cause::Clock));
+                Err(Fault::Read)
+            }
+        }
+    }
+
+    /// Returns this moment, which the clock showed before. `None` if the clock is behind it now, or can't be read.
+    final fn moment_if_reached(&self, moment: Moment) -> Option<Moment>
+        ensures { IfSome result (λ recalled. clock_reached recalled × (recalled ≡ moment)) }
+    {
+        match self.seconds() {
+            Ok(seconds) if moment <= moment_at(seconds) => Some(moment),
+            _ => None,
+        }
+    }
+
+    /// An answer that a signer gave is a signature, if it has the form of one.
+    ghost answer_in_form_signs: { (identity : Identity) (path message answer : List ℕ)
+        → signer_answered path message answer → HasForm identity answer
+        → Self.Office.signs identity message answer };
+}

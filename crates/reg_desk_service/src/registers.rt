@@ -1,0 +1,108 @@
+//! Opens, creates and audits a register on a machine; and the end of a job, by its run over a register.
+
+ghost use Rattle.std.specs.Prelude.{◌≡◌, IfErr, IfOk};
+ghost use Rattle.reg_office_api.specs.Signers.{OfficeSigners};
+ghost use Rattle.reg_core.specs.Records.{no_records};
+ghost use Rattle.reg_desk_service.specs.RegisterFailures.{IsCreateFailure, IsOpenFailure};
+ghost use Rattle.reg_desk_service.specs.RegisterUses.{exit_of};
+ghost use Rattle.reg_desk_service.specs.Registers.{Audits, Created, Opened, Unaudited, NotCreated, Unopened};
+ghost use Rattle.reg_desk_service.specs.Signers.{signing_with, unsigned};
+
+use crate::crl_signer::CrlSigner;
+use crate::machine::Machine;
+use reg_audit_rows::AuditResult;
+use reg_core::{Fault, Policy};
+use reg_der::Issuer;
+use reg_desk_cli::{Failure, ResponderChoice, SignerAddress};
+
+/// Opens the register at a path for a job that signs nothing. Errors: those of [`Machine::check_database`], [`Machine::connect`] and
+/// [`Machine::open_in`].
+pub fn open_unsigned<M: Machine>(machine: &mut M, path: &str) -> Result<M::Office, Failure>
+    ensures ok { IfOk result (λ office. Opened M.Machine machine.old path.now unsigned office machine.new) }
+    ensures err { IfErr result (λ why. Unopened M.Machine machine.old path.now unsigned why machine.new) }
+    ensures faults { IfErr result IsOpenFailure }
+{
+    let issuer_signs = ResponderChoice::Issuer { certificate: None };
+    open_by(machine, path, &CrlSigner::NoSigner, &issuer_signs)
+}
+
+/// Opens the register at a path with the given signer of its CRLs, and with its OCSP responder. Without a signer, each new CRL gets a placeholder
+/// digest, or fails with a fault of the signer if the responder has a key of its own. Errors: those of [`Machine::read_responder`], and of a register
+/// that [`open_unsigned`] opens.
+pub fn open_signed<M: Machine>(
+    machine: &mut M,
+    path: &str,
+    signer: &Option<SignerAddress<'_>>,
+    responder: &ResponderChoice<'_>,
+) -> Result<M::Office, Failure>
+    ensures ok { IfOk result (λ office.
+        Opened M.Machine machine.old path.now (signing_with signer.now responder.now) office machine.new) }
+    ensures err { IfErr result (λ why.
+        Unopened M.Machine machine.old path.now (signing_with signer.now responder.now) why machine.new) }
+    ensures faults { IfErr result IsOpenFailure }
+{
+    open_by(machine, path, &CrlSigner::of(signer, responder), responder)
+}
+
+/// Checks that there is a database at the path before it connects: connecting would create one.
+fn open_by<M: Machine>(
+    machine: &mut M,
+    path: &str,
+    crl_signer: &CrlSigner<'_>,
+    responder: &ResponderChoice<'_>,
+) -> Result<M::Office, Failure>
+    ensures ok { IfOk result (λ office.
+        Opened M.Machine machine.old path.now (crl_signer.now, responder.now) office machine.new) }
+    ensures err { IfErr result (λ why.
+        Unopened M.Machine machine.old path.now (crl_signer.now, responder.now) why machine.new) }
+    ensures faults { IfErr result IsOpenFailure }
+{
+    let loaded_responder = machine.read_responder(responder)?;
+    machine.check_database(path)?;
+    let database = machine.connect(path)?;
+    machine.open_in(database, crl_signer, loaded_responder)
+}
+
+/// Creates a register without records in the file at a path, which must exist. If that fails, a file without a register may be left there. Errors:
+/// `Store` if there is no file; those of [`Machine::connect`] and [`Machine::create_in`].
+pub fn create_register<M: Machine>(
+    machine: &mut M,
+    path: &str,
+    issuer: Issuer,
+    policy: Policy,
+) -> Result<M::Office, Failure>
+    ensures ok { IfOk result (λ office. Created M.Machine machine.old path.now office machine.new) }
+    ensures stands { IfOk result (λ office.
+        (signers : OfficeSigners) × M.Office.stands signers office (no_records issuer policy)) }
+    ensures err { IfErr result (λ why. NotCreated M.Machine machine.old path.now why machine.new) }
+    ensures faults { IfErr result IsCreateFailure }
+{
+    // The job has called `Machine::claim`. If there still is no file, the call returned `false`: the path is a dangling symbolic link, a WAL without
+    // a register is beside it, or no file can be created there. The machine kept the cause, if it is known.
+    if !machine.is_there(path) {
+        return Err(Failure::Fault(Fault::Store));
+    }
+    let database = machine.connect(path)?;
+    machine.create_in(database, issuer, policy)
+}
+
+/// Audits the register at a path. It only reads: no file changes, none is created, and a register of an older version is not
+/// migrated. Errors: those of [`Machine::read`] and [`Machine::audit_in`].
+pub fn audit_at<M: Machine>(machine: &M, path: &str) -> Result<AuditResult, Failure>
+    ensures ok { IfOk result (Audits M.Machine machine.now path.now) }
+    ensures err { IfErr result (Unaudited M.Machine machine.now path.now) }
+    ensures faults { IfErr result IsOpenFailure }
+{
+    let sources = machine.read(path)?;
+    machine.audit_in(sources)
+}
+
+/// The end of a job, by the result of its run over a register.
+pub fn ended(ran: Result<(), Fault>) -> Result<(), Failure>
+    ensures { result ≡ exit_of ran }
+{
+    match ran {
+        Ok(()) => Ok(()),
+        Err(fault) => Err(Failure::Fault(fault)),
+    }
+}

@@ -1,0 +1,182 @@
+//! OCSP responses that are to be signed, and how they are finished.
+
+ghost use Rattle.std.specs.Prelude.{◌≡◌, ◌≤◌, IfSome, length, option_map};
+ghost use Rattle.reg_desk_service.specs.Counted.{CountsFinished};
+ghost use Rattle.reg_desk_service.specs.LineSignatures.{AnsweredBySigner};
+ghost use Rattle.reg_desk_service.specs.FinishedResponses.{IsFinished, IsSignatureOf, outcome_of_signature};
+ghost use Rattle.reg_desk_service.specs.Signers.{AnsweredByOcspSigner};
+
+use crate::deferred_commands::{SignatureKind, socket_of};
+use crate::exchange_log::log_exchange;
+use crate::machine::Machine;
+use reg_core::Moment;
+use reg_crl_signer::{SignatureRequest, has_form};
+use reg_desk_cli::{ResponderChoice, SignerAddress};
+use reg_desk_metrics::Tally;
+use reg_http::{Exchange, Route, UnsignedResponse};
+use reg_http_head::Collected;
+use reg_ocsp::{Draft, slice_of};
+use reg_office_api::SignatureOutcome;
+use std::alloc::Global;
+use std::net::SocketAddr;
+
+/// The most bytes of a request that are kept for the log, which quotes at most as many of the first line.
+const MOST_KEPT: usize = 256;
+
+/// An OCSP response that is to be signed, with the data that the tally and the log need.
+#[derive(Drop)]
+pub struct Unsigned {
+    /// The message to sign, and the rest of the response.
+    pub(crate) draft: Draft,
+    /// The moment of the clock when the desk began to answer.
+    pub(crate) moment: Moment,
+    /// The route of the request, for the tally.
+    pub(crate) route: Route,
+    /// When the desk began to answer, in microseconds of the monotonic clock.
+    pub(crate) began: u64,
+    pub(crate) client: SocketAddr,
+    /// The first bytes of the request, for the log; empty if there is no log, or no memory.
+    pub(crate) asked: Vec<u8>,
+}
+
+pub(crate) fn unsigned_of<M: Machine>(
+    alloc: Global,
+    machine: &M,
+    response: UnsignedResponse,
+    moment: Moment,
+    began: u64,
+    client: SocketAddr,
+    request: &Collected,
+) -> Unsigned
+    ensures draft { result.draft ≡ response.draft }
+    ensures moment { result.moment ≡ moment }
+    ensures route { result.route ≡ response.route }
+{
+    let UnsignedResponse { route, draft } = response;
+    Unsigned {
+        draft,
+        moment,
+        route,
+        began,
+        client,
+        asked: log_prefix_of(alloc, machine, request.as_slice()),
+    }
+}
+
+fn log_prefix_of<M: Machine>(alloc: Global, machine: &M, request: &[u8]) -> Vec<u8> {
+    if !machine.has_log() {
+        return Vec::new(alloc);
+    }
+    let prefix = &request[..request.len().min(MOST_KEPT)];
+    match Vec::from_slice(alloc, prefix) {
+        Ok(kept) => kept,
+        Err(_) => Vec::new(alloc),
+    }
+}
+
+/// Finishes an OCSP response with the signer's answer to a request, or as internalError without one (RFC 6960 2.3). Returns the text of the HTTP
+/// answer. Counts the exchange under the moment and the route of `unsigned`, and logs it if there is a log.
+pub(crate) fn finish_http<M: Machine>(
+    alloc: Global,
+    machine: &M,
+    tally: &mut Tally,
+    signer: &Option<SignerAddress<'_>>,
+    responder: &ResponderChoice<'_>,
+    unsigned: Unsigned,
+    request: &mut Option<SignatureRequest>,
+) -> Vec<u8>
+    ensures { CountsFinished (AnsweredByOcspSigner M.signer_answered signer.now responder.now) unsigned
+        result.items tally.old tally.new }
+{
+    let signature = signature_of::<M>(alloc, signer, responder, &unsigned.draft, request);
+    let exchange = finish(alloc, &unsigned, &signature);
+    let micros = machine.micros().saturating_sub(unsigned.began);
+    tally.count_exchange(unsigned.moment, &exchange, micros);
+    log_exchange(
+        alloc,
+        machine,
+        micros,
+        unsigned.moment,
+        unsigned.client,
+        &unsigned.asked,
+        &exchange,
+    );
+    exchange.text
+}
+
+fn signature_of<M: Machine>(
+    alloc: Global,
+    signer: &Option<SignerAddress<'_>>,
+    responder: &ResponderChoice<'_>,
+    draft: &Draft,
+    request: &mut Option<SignatureRequest>,
+) -> Option<Vec<u8>>
+    ensures signed { IsSignatureOf (AnsweredByOcspSigner M.signer_answered signer.now responder.now) draft.now
+        (option_map (λ signature. signature.items) result) }
+    ensures short { IfSome result (λ signature. length signature.items ≤ 4096) }
+{
+    let answer = received_answer::<M>(
+        alloc,
+        signer,
+        responder,
+        SignatureKind::Answer,
+        draft.message(),
+        request,
+    )?;
+    if has_form(draft.algorithm(), draft.key(), &answer) {
+        Some(answer)
+    } else {
+        None
+    }
+}
+
+/// The signer's answer to a request. `None` without a signer or a request, if the request is not for this signer and this message, and if
+/// [`Machine::receive_answer`] gives none.
+pub(crate) fn received_answer<M: Machine>(
+    alloc: Global,
+    signer: &Option<SignerAddress<'_>>,
+    responder: &ResponderChoice<'_>,
+    wanted: SignatureKind,
+    message: &[u8],
+    request: &mut Option<SignatureRequest>,
+) -> Option<Vec<u8>>
+    ensures given { IfSome result (λ answer.
+        AnsweredBySigner M.signer_answered signer.now responder.now wanted message.now answer.items) }
+    ensures short { IfSome result (λ answer. length answer.items ≤ 4096) }
+{
+    let socket = socket_of(signer, responder, wanted)?;
+    let request = request.as_mut()?;
+    if !request.is_for(socket, message) {
+        return None;
+    }
+    match M::receive_answer(alloc, request) {
+        Some(answer) => Some(answer),
+        None => None,
+    }
+}
+
+fn finish(alloc: Global, unsigned: &Unsigned, signature: &Option<Vec<u8>>) -> Exchange
+    requires { IfSome signature.now (λ signature. length signature.items ≤ 4096) }
+    ensures finished { IsFinished unsigned.now.draft unsigned.now.moment
+        (option_map (λ signature. signature.items) signature.now) result }
+    ensures route { result.route ≡ unsigned.now.route }
+{
+    let response = unsigned.draft.response(alloc, slice_of(signature));
+    let signature_outcome = signature_outcome_of(signature);
+    Exchange::finished(
+        alloc,
+        unsigned.route,
+        unsigned.moment,
+        response,
+        signature_outcome,
+    )
+}
+
+fn signature_outcome_of(signature: &Option<Vec<u8>>) -> SignatureOutcome
+    ensures { result ≡ outcome_of_signature (option_map (λ signature. signature.items) signature.now) }
+{
+    match signature {
+        Some(_) => SignatureOutcome::Made,
+        None => SignatureOutcome::Failed,
+    }
+}
