@@ -1140,15 +1140,17 @@ def a_copy_reports_milliseconds(t):
     t.true(int(told[1]) <= 1_000 * (time.monotonic() - begun) + 1, f"{told[0]!r} is longer than the whole run")
 
 
-@test(seconds=4)
-def a_connection_without_memory_is_logged_as_that(t):
+@each({"an HTTP connection": False, "a control connection": True}, seconds=4)
+def a_connection_without_memory_is_logged_as_that(t, is_control):
     t.register()
     usual = t.open("ca.db", "--log", faults=faults.environment(count=t.room / "usual"))
     first = faults.counted(t.room / "usual")["alloc"]
     usual.end()
     os.remove(t.room / "counter")
     desk = t.open("ca.db", "--log", faults=faults.environment(fail=f"alloc:{first + 1}"))
-    t.same(desk.send(COUNTS), b"", "the response")
+    with t.control().peer if is_control else desk.connect() as client:
+        client.sendall(b"counts\n" if is_control else COUNTS)
+        t.same(read_all(client), b"", "the response")
     lost = lambda: [it.rsplit(" lost ", 1)[1] for it in desk.log if " lost " in it]
     authority.until(lost, "a line of the log for the lost connection")
     t.same(lost(), ["memory"], "why it was lost")

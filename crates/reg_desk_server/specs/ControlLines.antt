@@ -1,9 +1,11 @@
 -- One control connection: the handler's replies to lines, the bytes that are left after them, and how received bytes are kept until then.
-use Rattle.std.specs.Prelude.{◌≡◌, ℕ, Bool, true, false, List, [], ◌++◌, ◌⊎◌, Option, take, drop}
+use Rattle.std.specs.Prelude.{◌≡◌, ℕ, Bool, true, false, List, [], ◌∷◌, ◌++◌, ◌⊎◌, Option, Some, None, take, drop}
 use Rattle.std.specs.Io.KnownBytes.{Appends, Consumes}
 use Rattle.reg_desk_server.specs.Buffers.{unsent_of}
 use Rattle.reg_desk_server.specs.LineEnds.{EndsLine, FirstLineEnds, HasNoLine}
 use Rattle.reg_desk_server.specs.declared.control_connection.ControlConnection.{ControlConnection}
+use Rattle.reg_desk_server.specs.declared.handler.ConnectionFault.{ConnectionFault}
+use Rattle.reg_desk_server.specs.declared.handler.ConnectionFault.TheVariants as fault
 use Rattle.reg_desk_server.specs.declared.request_bytes.Received.{Received}
 use Rattle.reg_desk_server.specs.declared.request_bytes.Received.TheVariants as received
 
@@ -77,6 +79,20 @@ ends_by received.More = false
 ends_by received.Ended = true
 ends_by received.Broken = true
 ends_by received.OutOfMemory = true
+
+-- the fault of a connection after a read with this result
+abbrev pub fault_by : Received → Option ConnectionFault
+fault_by received.OutOfMemory = Some fault.Memory
+fault_by received.Whole = None
+fault_by received.Blocked = None
+fault_by received.More = None
+fault_by received.Ended = None
+fault_by received.Broken = None
+
+-- Why a connection is lost that is closed with these unsent bytes of a reply and this fault. `None` if it is not lost.
+abbrev pub loss_of : List ℕ → Option ConnectionFault → Option ConnectionFault
+loss_of [] failed = failed
+loss_of (byte ∷ unsent) failed = Some fault.Broken
 
 -- The next bytes of a reply were sent, and then the bytes that came next were kept (`Gathers`); once the connection has ended, no more are kept.
 pub record Advances {S : Type 0} (contents remaining : S → Option (List ℕ))

@@ -1,11 +1,11 @@
 //! One control connection, whose lines are answered in their order.
 
-ghost use Rattle.std.specs.Prelude.{◌≡◌, ◌≤◌, ◌⊎◌, [], length, drop, Some, false, MatchOption, IfNone, OnOk, OnErr};
+ghost use Rattle.std.specs.Prelude.{◌≡◌, ◌≤◌, ◌⊎◌, [], length, drop, Some, None, true, false, MatchOption, IfNone, OnOk, OnErr};
 ghost use Rattle.reg_desk_server.specs.Buffers.{AddsTo, Receives, unsent_of};
 ghost use Rattle.reg_desk_server.specs.LineEnds.{EndsLine, FirstLineEnds, HasNoLine};
-ghost use Rattle.reg_desk_server.specs.ControlLines.{Advances, DefersFirstLine, GathersOn, IsFresh, SameLinkAndEnd, StaysEnded, AnswersFirstLines, AnswersDeferred, ends_by};
+ghost use Rattle.reg_desk_server.specs.ControlLines.{Advances, DefersFirstLine, GathersOn, IsFresh, SameLinkAndEnd, StaysEnded, AnswersFirstLines, AnswersDeferred, ends_by, fault_by, loss_of};
 
-use crate::handler::{Deferred, EventLoopFault, Handler, LineReplies};
+use crate::handler::{ConnectionFault, Deferred, EventLoopFault, Handler, LineReplies};
 use crate::http_connection::Next;
 use crate::link::Link;
 use crate::request_bytes::Received;
@@ -35,6 +35,8 @@ pub struct ControlConnection<S: Link> {
     pub(crate) arrived: Vec<u8>,
     pub(crate) unsent: Unsent,
     pub(crate) has_ended: bool,
+    /// `Memory` if there was none for bytes that came.
+    pub(crate) fault: Option<ConnectionFault>,
     pub(crate) is_registered: bool,
     /// How often the first line was passed to `Handler::defer` since the last reply.
     pub(crate) deferrals: u32,
@@ -77,6 +79,7 @@ impl<S: Link> ControlConnection<S> {
             arrived: Vec::new(alloc),
             unsent: Unsent::new(Vec::new(alloc)),
             has_ended: false,
+            fault: None,
             is_registered: false,
             deferrals: 0,
             last_reason: Vec::new(alloc),
@@ -142,10 +145,23 @@ impl<S: Link> ControlConnection<S> {
         ensures gathers { GathersOn S.Read.remaining self.old self.new }
         ensures unsent { self.new.unsent ≡ self.old.unsent }
         ensures waits { result ≡ false → self.new.arrived.items ≡ self.old.arrived.items }
+        ensures fault { (self.new.fault ≡ None) ⊎ (self.new.has_ended ≡ true) }
     {
         let received = gather(&mut self.link, &mut self.arrived, read_buffer);
         self.has_ended = is_end(received);
+        self.fault = fault_of(received);
         !matches!(received, Received::Blocked)
+    }
+
+    /// Why the connection is lost if it is closed now: a reply was not wholly sent, or there was no memory for bytes that came. `None` if it is not.
+    pub(crate) fn loss(&self) -> Option<ConnectionFault>
+        ensures { result ≡ loss_of (unsent_of self.now.unsent) self.now.fault }
+    {
+        if self.unsent.len() > 0 {
+            Some(ConnectionFault::Broken)
+        } else {
+            self.fault
+        }
     }
 
     fn due_line(&self) -> Option<usize>
@@ -292,6 +308,19 @@ fn is_end(received: Received) -> bool
         Received::Whole => false,
         Received::Blocked => false,
         Received::More => false,
+    }
+}
+
+fn fault_of(received: Received) -> Option<ConnectionFault>
+    ensures { result ≡ fault_by received }
+{
+    match received {
+        Received::OutOfMemory => Some(ConnectionFault::Memory),
+        Received::Ended => None,
+        Received::Broken => None,
+        Received::Whole => None,
+        Received::Blocked => None,
+        Received::More => None,
     }
 }
 

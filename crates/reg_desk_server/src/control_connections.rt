@@ -142,26 +142,29 @@ impl<H: Handler> ControlConnections<H> {
                     self.slots.put(slot, connection);
                 } else {
                     // Reported even if no reply is unsent: the client may be about to send a line.
-                    self.close_broken(slot, connection, shared);
+                    let why = Some(ConnectionFault::Broken);
+                    self.close_lost(slot, connection, shared, why);
                 }
             }
             Next::Park => self.slots.put(slot, connection),
-            Next::Close if connection.unsent.len() > 0 => {
-                self.close_broken(slot, connection, shared);
+            Next::Close => {
+                let why = connection.loss();
+                self.close_lost(slot, connection, shared, why);
             }
-            Next::Close => self.close(slot, connection),
         }
     }
 
-    /// Closes a connection that failed, and reports the loss.
-    fn close_broken(
+    /// Closes a connection, and reports it if it is lost.
+    fn close_lost(
         &mut self,
         slot: usize,
         connection: ControlConnection<UnixStream>,
         shared: &mut Shared,
+        why: Option<ConnectionFault>,
     ) {
-        let why = ConnectionFault::Broken;
-        shared.lost.add_lost(LostConnection { client: None, why });
+        if let Some(why) = why {
+            shared.lost.add_lost(LostConnection { client: None, why });
+        }
         self.close(slot, connection);
     }
 
