@@ -27,7 +27,8 @@ pub fn without_a_key_only_digests_are_made<D: Device>()
     ensures { IsDigestSigner (SignsByKeyOrDigest D.answers) digest }
 {}
 
-/// A stop at any moment of a job leaves the records that its replies reported, or those after the call that it interrupted.
+/// A stop at any moment of a job leaves the records that its replies reported, or those after the call that it interrupted. A closing leaves the
+/// records that its replies reported.
 ///
 /// After a job opened a register, and until it closes it, [`perform`](crate::perform) changes the register's records only as the replies report
 /// (`UsesRegister` of reg_desk_service). A register of this program's version that is opened has the sound records that its file showed (`begins`).
@@ -35,6 +36,9 @@ pub fn without_a_key_only_digests_are_made<D: Device>()
 /// those after the interrupted call (`leaves`). The interrupted call is the last one (`call`); or an earlier one in which the disk's failure closed
 /// the connection, so that each later call failed (`calls`). The interrupted call got no reply of acceptance. So no accepted command is lost,
 /// and at most one other command was carried out.
+///
+/// At its end a job closes the register. If its files are closed without an error, also if the machine stops then, a register that is opened from
+/// them has the records that stood (`closes`). `IsLive` is the clause `live` of `Connection::schema`.
 ///
 /// The model of a stop is a disk that refuses each call from that moment on, and a client that receives no later reply. A reply is written
 /// only after its call.
