@@ -1,5 +1,5 @@
-/* Loaded before desk-signer (LD_PRELOAD). It changes the last octet of each signature of libcrypto, and ends the process if it computes a nonce
-   before a message comes. */
+/* Loaded before desk-signer (LD_PRELOAD). It changes the last octet of each signature of libcrypto. If the process computes a nonce before a message
+   comes, this fails if the variable NO_NONCES is set, and else ends the process. */
 #define _GNU_SOURCE
 #include <dlfcn.h>
 #include <stdlib.h>
@@ -25,5 +25,7 @@ int EVP_DigestSign(EVP_MD_CTX *context, unsigned char *signature, size_t *length
 
 int ECDSA_sign_setup(EC_KEY *key, BN_CTX *context, BIGNUM **inverse, BIGNUM **r) {
     (void)key, (void)context, (void)inverse, (void)r;
-    abort();
+    if (!getenv("NO_NONCES"))
+        abort();
+    return 0;
 }

@@ -1608,7 +1608,7 @@ def an_answer_that_does_not_fit_into_the_signer_s_socket_is_internal_error(t):
     desk = t.open("ca.db", *SIGNING, faults=faults.environment(count=t.room / "count", fail="write:1=EAGAIN", only="socket"))
     t.same(parted(desk.ask("POST", "/ocsp", asks(1)))[2], authority.INTERNAL, "the answer whose message the socket does not take")
     t.true(ANY_SIGNATURE in desk.ask("POST", "/ocsp", asks(1)), "the next answer has no signature")
-    t.same((faults.counted(t.room / "count")["met"], signers.connected), (1, 2), "injected faults, and connections to the signer for both answers")
+    t.same((faults.counted(t.room / "count")["met"], len(signers.clients)), (1, 2), "injected faults, and connections to the signer for both answers")
 
 
 @each({"an answer": "answer", "a line": "line"}, seconds=2)

@@ -141,10 +141,14 @@ def a_key_whose_signatures_don_t_verify(t):
     t.same((ran.returncode, (t.room / "ca.sign").exists(), ran.stderr[:23]), (1, False, b"desk-signer: other.key:"), "status, whether it listens, and the beginning of its reason")
 
 
+def wrong_libcrypto():
+    native.need_libcrypto()
+    return native.made("wrong_libcrypto.so", "cc", "-shared", "-fPIC", "-O2", TESTS / "wrong_libcrypto.c", "-ldl", "-o")
+
+
 def with_wrong_libcrypto():
     """Words before those of the signer: libcrypto changes each signature, and ends a process that draws a nonce ahead (tests/wrong_libcrypto.c)."""
-    native.need_libcrypto()
-    return ["env", f"LD_PRELOAD={native.made('wrong_libcrypto.so', 'cc', '-shared', '-fPIC', '-O2', TESTS / 'wrong_libcrypto.c', '-ldl', '-o')}"]
+    return ["env", f"LD_PRELOAD={wrong_libcrypto()}"]
 
 
 @each(ALGORITHMS, seconds=2)
@@ -1069,6 +1073,22 @@ def it_polls_for_the_next_message(t):
     authority.until(lambda: state() == "S", "the signer to sleep after a millisecond")
 
 
+@each({"with nonces": (), "without nonces, which libcrypto does not draw": ("NO_NONCES=1",)}, seconds=2)
+def on_the_only_processor_it_does_not_poll(t, *variables):
+    """There it sleeps as soon as it has answered, because polling would keep the client from running. No time passes for it."""
+    need("taskset")
+    it = Authority(t)
+    (t.room / "passed").write_bytes(struct.pack("=Q", 1_000_000))
+    processor = min(os.sched_getaffinity(0))
+    loaded = [os.environ["DESK_FAULTS_LIBRARY"], *([wrong_libcrypto()] if variables else [])]
+    before = ["taskset", "-c", processor, "env", *variables, f"LD_PRELOAD={':'.join(map(str, loaded))}", f"FAULTS_PASSED={t.room / 'passed'}"]
+    process = started(t, "--persistent", it.key, before=before)
+    client = persistent(t)
+    for _ in range(3):
+        t.true(asked(client, b"a message"), "no signature")
+    authority.until(lambda: Path(f"/proc/{process.pid}/stat").read_text().rpartition(") ")[2][0] == "S", "the signer to sleep")
+
+
 @test(seconds=4)
 def a_rate_counts_each_message(t):
     """At --rate 20 with two processes, 20 signatures over two persistent connections take at least 0.95 s. Refused messages don't count."""
@@ -1188,6 +1208,29 @@ def what_is_at_its_path(t):
     (t.room / "link.sign").symlink_to("other.sign")
     ran = t.tried(native.signer(), it.key, "link.sign", timeout=30)
     t.same((ran.returncode, ran.stderr, os.readlink(t.room / "link.sign")), (1, b"desk-signer: link.sign: Address already in use\n", "other.sign"), "at a link to a socket")
+
+
+@test(seconds=2)
+def a_socket_to_which_it_may_not_connect_is_not_replaced(t):
+    """Another user's signer listens at the path, in a folder in which this user may remove files."""
+    if os.geteuid():
+        raise Skipped("only root can make a socket of another user")
+    need("setpriv")
+    it = Authority(t)
+    shutil.copy(native.signer(), t.room / "desk-signer")
+    for path, mode in (("", 0o755), ("ca.key", 0o644), ("desk-signer", 0o755)):
+        (t.room / path).chmod(mode)
+    (t.room / "theirs").mkdir()
+    os.chown(t.room / "theirs", 65534, 65534)
+    with socket.socket(socket.AF_UNIX) as listener:
+        listener.bind(str(t.room / "theirs/ca.sign"))
+        listener.listen(8)
+        (t.room / "theirs/ca.sign").chmod(0o600)
+        as_nobody = ("setpriv", "--reuid", "65534", "--regid", "65534", "--clear-groups")
+        ran = t.tried(*as_nobody, t.room / "desk-signer", "--allow-swap", it.key, "theirs/ca.sign", timeout=20)
+        t.same((ran.returncode, ran.stdout, ran.stderr), (1, b"", f"{NAME}theirs/ca.sign: Permission denied\n".encode()), "status, output and reason")
+        with connected(t.room / "theirs/ca.sign"):
+            t.true(select.select([listener], [], [], 20)[0], "the other signer's socket is not at its path any more")
 
 
 @test(seconds=3)

@@ -205,7 +205,11 @@ def recent(t, desk, browser):
 
 
 def later(t, year, desk, browser, overdue):
-    """After Reload the page shows new entries. If no desk runs, it reports that and keeps its old contents."""
+    """Each minute the page reads all again. After Reload it shows new entries. If no desk runs, it reports that and keeps its old contents."""
+    numbers = [row.split("|")[2] for row in rows(browser, "requestrows")]
+    browser.value("PARTS.forEach(part => part.next = 0), round()")
+    later_numbers = [row.split("|")[2] for row in rows(browser, "requestrows")]
+    t.same((later_numbers, browser.text_of("open")), (numbers, str(len(year.open))), "open requests a minute later")
     control = t.control()
     first = sorted(year.open)[0][1]
     t.same(control.ask(f"revoke {first}"), "revoked late")
@@ -224,6 +228,29 @@ def later(t, year, desk, browser, overdue):
     t.open("ca.db", "--port", desk.port, "--control", "second")
     again(browser)
     t.same(texts(browser, "fault", "health"), ["", "all is well"], "once a desk runs again")
+
+
+@test(seconds=15)
+def a_register_that_was_left_alone(t):
+    """Its latest CRL has ended, and it has revocations of more than a year ago, which are in one row. The browser's clock is two days ahead, so the
+    page takes the clock from the answers."""
+    now = authority.now()
+    ago = lambda days: moment_of(now - days * DAY)
+    days = [(480, "subscriber acme"), *[(480, "order 1 398")] * 2, *[(480, f"register {at} 0{at} {ago(480)} {ago(90)}") for at in (1, 2)],
+            (450, "request 01 key-compromise"), (450, "revoke 1"), (410, "request 02 superseded"), (410, "revoke 2"),
+            *[(200, "order 1 398")] * 2, *[(200, f"register {at} 0{at} {ago(200)} {ago(-190)}") for at in (3, 4)],
+            (100, "request 03 asked"), (100, "revoke 3"), (20, "crl"), (0, "request 04 asked")]
+    _, _, front, browser = opened(t, "".join(f"{ago(day)} {line}\n" for day, line in days))
+    browser.ask("Page.addScriptToEvaluateOnNewDocument", source=f"Date.now = (now => () => now() + {2 * DAY} * 1000)(Date.now)")
+    load(browser, front)
+    [gap] = [row.removeprefix("!").split("|") for row in rows(browser, "gaprows")]
+    since = spans(now, now - 12 * DAY)
+    t.has([f"No valid CRL for {it}" for it in since], gap[0], "the gap")
+    t.same(gap[1:], [f"from {shown(now - 12 * DAY)}, when CRL 1 ended,", "until now"], "its ends")
+    t.has([f"ended {it} ago" for it in since], browser.value("document.querySelector('#crlsnote span').innerText"), "the latest CRL")
+    t.same(rows(browser, "monthrows")[-1].split("|"), ["before", "", "2", "1", "1", "·"], "revocations of more than a year ago")
+    t.same(texts(browser, "open", "overdue"), ["1", "0"], "open and overdue requests")
+    t.has({f"read at {shown(at)} UTC" for at in (now, authority.now())}, browser.text_of("asof"), "when the page was read")
 
 
 @test(seconds=15)

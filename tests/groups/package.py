@@ -169,6 +169,30 @@ def a_desk_that_ends_is_started_again_unless_its_command_line_is_wrong(t):
     t.same(t.desk("open", "ca.db", "--port", "8080", "--control", "control").status, 2, "the status of `desk open` without a signer")
 
 
+@each({"signer": "signer", "responder": "responder"})
+def a_signer_that_fails_is_started_again_every_two_seconds(t, name):
+    """Otherwise systemd would soon give its socket up, for example while its user can't read the key, and refuse all clients from then on."""
+    found = units("service")[f"desk-{name}@.service"].splitlines()
+    t.same([it for it in ("Restart=on-failure", "RestartSec=2", "StartLimitIntervalSec=0") if it not in found], [], "settings that the service lacks")
+
+
+@each({"signer": "signer", "responder": "responder"})
+def only_the_desk_can_connect_to_a_signer(t, name):
+    """Whoever can connect to the socket can have CRLs and OCSP answers signed. Its folder, which systemd makes, can be entered by the desk's user."""
+    found = units("socket")[f"desk-{name}@.socket"].splitlines()
+    told = [it for it in found if re.match("(Socket(User|Group|Mode)|DirectoryMode|Accept|RemoveOnStop)=", it)]
+    t.same(told, ["SocketUser=durshavon", "SocketMode=0600", "DirectoryMode=0755", "RemoveOnStop=yes"], "its settings")
+
+
+@test
+def without_its_desk_no_crl_is_issued_or_published(t):
+    """A desk that was stopped makes neither unit fail every five minutes, and neither unit starts a desk."""
+    for name in ("desk-crl@", "desk-publish@"):
+        lines = units("service")[f"{name}.service"].splitlines()
+        told = [it for it in lines if re.match(r"(Requisite|Requires|BindsTo|PartOf)=", it)]
+        t.same(told, ["Requisite=desk@%i.service"], f"what {name}.service requires")
+
+
 # The folders that each service may write, since the rest of the system is read-only to it, and their modes.
 FOLDERS = {
     "desk@": ["StateDirectory=durshavon", "StateDirectoryMode=0700", "RuntimeDirectory=durshavon/%i", "RuntimeDirectoryMode=0700", "LogsDirectory=durshavon", "LogsDirectoryMode=0750"],
@@ -325,13 +349,18 @@ def completion_in_bash(t):
 
     def completed(*words):
         script = 'PATH=$0/bin:$PATH; . "$1"; shift; COMP_WORDS=("$@"); COMP_CWORD=$(($# - 1)); _desk; printf "%s\\n" "${COMPREPLY[@]}"'
-        return t.tool("bash", "-c", script, t.room, TOP / "packaging/desk.bash", *words).decode().splitlines()
+        return t.tool("env", "TZ=Asia/Tokyo", "bash", "-c", script, t.room, TOP / "packaging/desk.bash", *words).decode().splitlines()
 
     for before in ((), ("--why",)):
         t.same(sorted(completed("desk", *before, "s")), ["schedule", "script", "serve"])
         t.same(sorted(completed("desk", *before, "script", "ca.db", "--s")), ["--signer", "--strict"])
         t.same(completed("desk", *before, "audit", "a r"), ["a register.db"])
     t.same(sorted(completed("desk", "list", "ca.db", "o")), ["open-requests", "orders", "overdue"])
+    for option in ("--algorithm", "--responder-algorithm"):
+        t.same(sorted(completed("desk", "open", "ca.db", option, "")), ["ecdsa-sha256", "ecdsa-sha384", "ed25519", "rsa-sha256"], f"after {option}")
+    before = authority.now()
+    [moment] = completed("desk", "list", "ca.db", "orders", "--now", "")
+    t.true(before <= program.seconds_of(moment) <= authority.now(), f"{moment} is not the present moment in UTC")
     paths = ("--signer", "--responder", "--published", "--log-file", "--port")
     t.same({it: completed("desk", "open", "ca.db", it, "a r") for it in paths}, {it: ["a register.db"] if it != "--port" else [""] for it in paths}, "after each option")
 

@@ -9,7 +9,7 @@ import time
 from concurrent.futures import ThreadPoolExecutor
 
 from groups.waiting import SIGNING, asked_for, files, names, ocsp_answer, own_signature
-from lib import authority, native, program
+from lib import authority, faults, native, program
 from lib.authority import INTERNAL, Authority
 from lib.native import ANNOUNCEMENT, frame
 from lib.passing import Passing
@@ -17,40 +17,27 @@ from lib.program import P256_KEY, read_all
 from lib.trial import each, test
 
 
-class Keeping:
-    """A signer that announces persistent connections, and serves each connection on its own thread. `reply(message)` returns the octets that it sends
-    on a persistent connection for a message. `single` has the messages of the other connections, and `kept` a list of messages for each persistent one."""
+class Keeping(program.Signers):
+    """A signer that announces persistent connections. `reply(message)` returns the octets that it sends on a persistent connection for a message.
+    `asked` has the messages of the other connections, and `kept` a list of messages for each persistent one. `gone` counts connections that ended."""
 
     def __init__(self, path, reply=lambda message: frame(own_signature(message))):
-        self.path, self.reply, self.single, self.kept, self.clients, self.gone = str(path), reply, [], [], [], 0
-        self.lock = threading.Lock()
-        self.server = socket.socket(socket.AF_UNIX)
-        self.server.bind(self.path)
-        self.server.listen(128)
-        threading.Thread(target=self.serve, daemon=True).start()
-
-    def serve(self):
-        with contextlib.suppress(OSError):
-            while True:
-                client, _ = self.server.accept()
-                self.clients.append(client)
-                threading.Thread(target=self.sign, args=(client,), daemon=True).start()
+        self.reply, self.kept, self.gone = reply, [], 0
+        super().__init__(path, lambda message: ANNOUNCEMENT + own_signature(message))
 
     def sign(self, client):
         with client, contextlib.suppress(OSError):
             first = client.recv(1, socket.MSG_PEEK)
-            if first and first != b"\0":
-                message = read_all(client)
-                self.single.append(message)
-                client.sendall(ANNOUNCEMENT + own_signature(message))
-            elif first:
+            if first == b"\0":
                 self.keep(client)
+            elif first:
+                super().sign(client)
         self.gone += 1
 
     def keep(self, client):
+        """Serves a persistent connection until its client closes it."""
         messages = []
-        with self.lock:
-            self.kept.append(messages)
+        self.kept.append(messages)
         while (head := native.exactly(client, 4)) is not None:
             message = native.exactly(client, struct.unpack(">I", head)[0])
             messages.append(message)
@@ -58,20 +45,30 @@ class Keeping:
 
     def close(self):
         """Ends the signer as a signal would: its socket refuses, and all its connections are closed."""
-        with contextlib.suppress(OSError):
-            self.server.shutdown(socket.SHUT_RDWR)
-        self.server.close()
+        super().__exit__()
         for client in self.clients:
             with contextlib.suppress(OSError):
                 client.shutdown(socket.SHUT_RDWR)
-        os.unlink(self.path)
-
-    def __enter__(self):
-        return self
 
     def __exit__(self, *_):
-        with contextlib.suppress(OSError):
-            self.close()
+        self.close()
+
+
+class Holding:
+    """The reply of a persistent signer that keeps the answer for one serial number back until `release`."""
+
+    def __init__(self, t, serial):
+        self.serial, self.held, self.release = serial, threading.Event(), threading.Event()
+        t.callback(self.release.set)
+
+    def signature(self, message):
+        if names(message, self.serial):
+            self.held.set()
+            self.release.wait(60 * program.PATIENCE)
+        return own_signature(message)
+
+    def __call__(self, message):
+        return frame(self.signature(message))
 
 
 def is_own(response, serial):
@@ -97,8 +94,8 @@ def each_of_many_answers_has_the_signature_of_its_own_message(t):
         answers = list(pool.map(lambda serial: ocsp_answer(desk, serial), serials))
     t.same([hex(serial) for serial, it in zip(serials, answers) if not is_own(it, serial)], [], "serial numbers with a wrong answer")
     kept = sum(map(len, signer.kept))
-    t.same(kept + len(signer.single), len(serials), "messages")
-    t.true(len(signer.single) <= 32, f"{len(signer.single)} messages on connections of their own")
+    t.same(kept + len(signer.asked), len(serials), "messages")
+    t.true(len(signer.asked) <= 32, f"{len(signer.asked)} messages on connections of their own")
     t.true(len(signer.kept) <= 32, f"{len(signer.kept)} persistent connections")
 
 
@@ -109,21 +106,13 @@ def one_client_uses_one_connection(t):
     desk = opened(t)
     for at in range(50):
         t.true(is_own(ocsp_answer(desk, 0x1100 + at), 0x1100 + at), f"answer {at}")
-    t.same((len(signer.single), [len(it) for it in signer.kept]), (1, [49]), "messages on each connection")
+    t.same((len(signer.asked), [len(it) for it in signer.kept]), (1, [49]), "messages on each connection")
 
 
 @test(seconds=3)
 def a_late_signature_reaches_nobody(t):
     """A persistent signer answers after the ten seconds. Its client got internalError, and the next client gets its own signature."""
-    release, held = threading.Event(), threading.Event()
-    t.callback(release.set)
-
-    def reply(message):
-        if names(message, 0x2222):
-            held.set()
-            release.wait(60 * program.PATIENCE)
-        return frame(own_signature(message))
-
+    reply = Holding(t, 0x2222)
     signer = t.enter_context(Keeping(t.room / "ca.sign", reply))
     t.register(key=P256_KEY)
     passing = Passing(t, *SIGNING)
@@ -131,10 +120,10 @@ def a_late_signature_reaches_nobody(t):
         t.true(is_own(ocsp_answer(passing.desk, 0x1111), 0x1111), f"answer {at}")
     with ThreadPoolExecutor(1) as pool:
         late = pool.submit(ocsp_answer, passing.desk, 0x2222)
-        t.true(held.wait(60), "the signer to get the message")
+        t.true(reply.held.wait(60), "the signer to get the message")
         passing.advance(10_000)
         t.same(late.result(), INTERNAL)
-    release.set()
+    reply.release.set()
     for serial in (0x3333, 0x4444):
         t.true(is_own(ocsp_answer(passing.desk, serial), serial), f"the answer for {serial:x}")
     t.same([names(it[-1], 0x2222) for it in signer.kept], [True, False], "whether the last message of each connection is the late one")
@@ -143,15 +132,7 @@ def a_late_signature_reaches_nobody(t):
 @test(seconds=3)
 def a_signature_whose_client_has_gone_reaches_nobody(t):
     """A client resets its connection while a persistent signer signs. The next client gets its own signature, on another connection."""
-    release, held = threading.Event(), threading.Event()
-    t.callback(release.set)
-
-    def reply(message):
-        if names(message, 0x2222):
-            held.set()
-            release.wait(60 * program.PATIENCE)
-        return frame(own_signature(message))
-
+    reply = Holding(t, 0x2222)
     t.enter_context(Keeping(t.room / "ca.sign", reply))
     t.register(key=P256_KEY)
     passing = Passing(t, *SIGNING)
@@ -161,12 +142,12 @@ def a_signature_whose_client_has_gone_reaches_nobody(t):
     body, gone = asked_for(0x2222), t.enter_context(passing.desk.connect())
     authority.until(lambda: program.is_read(gone), "the desk to accept the connection")
     gone.sendall(b"POST /ocsp HTTP/1.1\r\nContent-Length: %d\r\n\r\n" % len(body) + body)
-    t.true(held.wait(60), "the signer to get the message")
+    t.true(reply.held.wait(60), "the signer to get the message")
     # With this option, `close` sends a reset.
     gone.setsockopt(socket.SOL_SOCKET, socket.SO_LINGER, b"\1\0\0\0\0\0\0\0")
     gone.close()
     authority.until(lambda: passing.lost, "the lost connection in the log")
-    release.set()
+    reply.release.set()
     for serial in (0x3333, 0x4444, 0x5555):
         t.true(is_own(ocsp_answer(passing.desk, serial), serial), f"the answer for {serial:x}")
 
@@ -228,7 +209,79 @@ def a_reply_that_is_no_answer_signs_nothing(t, reply, is_signed, is_kept):
             passing.advance(10_000)
         t.same(is_own(second.result(), 0x2222), is_signed, "whether the second answer is signed")
     t.true(is_own(ocsp_answer(passing.desk, 0x3333), 0x3333), "the third answer")
-    t.same(len(signer.single), 1 if is_kept else 2, "messages on connections of their own")
+    t.same(len(signer.asked), 1 if is_kept else 2, "messages on connections of their own")
+
+
+@each({"on a connection of its own": (True,), "on a persistent connection": (False,)}, seconds=2)
+def a_signer_that_sends_without_end_fills_no_memory(t, is_single):
+    """The desk closes the connection after some thousand octets, and answers internalError. No time passes for it."""
+    sent = []
+
+    def send(client):
+        """Sends octets until the client closes the connection, at most 64 MiB."""
+        sent.append(0)
+        with contextlib.suppress(OSError):
+            while sent[-1] < 64 << 20:
+                sent[-1] += client.send(b"\0" * 65_536)
+
+    class Endless(Keeping):
+        def sign(self, client):
+            if not is_single:
+                return super().sign(client)
+            with client:
+                read_all(client)
+                send(client)
+
+        def keep(self, client):
+            native.exactly(client, 4)
+            send(client)
+
+    t.enter_context(Endless(t.room / "ca.sign"))
+    t.register(key=P256_KEY)
+    desk = Passing(t, *SIGNING).desk
+    if not is_single:
+        t.true(is_own(ocsp_answer(desk, 0x1111), 0x1111), "the answer of another connection")
+    t.same(ocsp_answer(desk, 0x2222), INTERNAL, "the answer")
+    t.true(sent[0] < 8 << 20, f"the desk has taken {sent[0]} octets")
+
+
+@each({"no room": "EAGAIN", "no signer": "EPIPE"}, seconds=2)
+def a_message_that_a_kept_connection_does_not_take_goes_on_another_one(t, error):
+    """The third write to a socket is that of the second message: the first message and the first answer come before."""
+    signer = t.enter_context(Keeping(t.room / "ca.sign"))
+    t.register(key=P256_KEY)
+    how = faults.environment(count=t.room / "count", fail=f"write:3={error}", only="socket")
+    desk = t.open("ca.db", *SIGNING, faults=how)
+    with t.at_once("three answers"):
+        for serial in (0x1111, 0x2222, 0x3333):
+            t.true(is_own(ocsp_answer(desk, serial), serial), f"the answer for {serial:x}")
+    t.same(faults.counted(t.room / "count")["met"], 1, "injected faults")
+    t.same((len(signer.asked), sum(map(len, signer.kept))), (2, 1), "messages on connections of their own, and on persistent ones")
+
+
+@each({"on a connection of its own": (0x1111,), "on a persistent connection": (0x2222,)}, seconds=2)
+def the_desk_polls_for_an_answer_before_it_waits(t, serial):
+    """Most answers come at once, and waking up takes as long as signing. So the desk polls some hundred times, and then waits for the signer."""
+    polls = lambda: faults.counted(t.room / "count")["poll"]
+    reply = Holding(t, serial)
+    signer = t.enter_context(Keeping(t.room / "ca.sign", reply))
+    signer.answer = lambda message: ANNOUNCEMENT + reply.signature(message)
+    t.register(key=P256_KEY)
+    desk = t.open("ca.db", *SIGNING, faults=faults.environment(count=t.room / "count"))
+    if serial != 0x1111:
+        t.true(is_own(ocsp_answer(desk, 0x1111), 0x1111), "the first answer")
+        # The desk makes the polls for the first answer.
+        time.sleep(0.2)
+    before = polls()
+    with ThreadPoolExecutor(1) as pool:
+        answer = pool.submit(ocsp_answer, desk, serial)
+        t.true(reply.held.wait(60), "the signer to get the message")
+        # Time for many more polls.
+        time.sleep(0.5)
+        count = polls() - before
+        reply.release.set()
+        t.true(is_own(answer.result(), serial), "the answer")
+    t.true(50 <= count <= 1_000, f"{count} polls")
 
 
 @test(seconds=2)

@@ -146,7 +146,7 @@ def an_answer_whose_turn_comes_too_late_is_not_signed(t):
         t.same([is_signed(program.parted(program.read_all(it))[2]) for it in clients], [False] * len(clients), "which answers are signed")
     held.release.set()
     t.true(is_signed(ocsp_answer(desk.desk, 0x2200)), "the next answer is not signed")
-    t.same(held.signers.connected, AT_ONCE + 1, "connections to the signer")
+    t.same(len(held.signers.clients), AT_ONCE + 1, "connections to the signer")
 
 
 @test(seconds=3)
@@ -162,7 +162,7 @@ def clients_that_reset_make_room_for_others(t):
         it.setsockopt(socket.SOL_SOCKET, socket.SO_LINGER, b"\1\0\0\0\0\0\0\0")
         it.close()
     desk.comes(request)
-    authority.until(lambda: held.signers.connected == AT_ONCE + 1, "a request for the next signature", seconds=10)
+    authority.until(lambda: len(held.signers.clients) == AT_ONCE + 1, "a request for the next signature", seconds=10)
 
 
 @test(seconds=3)

@@ -302,10 +302,10 @@ class Signer:
 
 class Signers:
     """A signer that answers all connections at once, each on its own thread. `answer(message)` returns a signature, or None. `now` counts the requests
-    that are being answered, `most` is the highest count so far, and `connected` counts all connections."""
+    that are being answered, `most` is the highest count so far, and `clients` has all connections."""
 
     def __init__(self, path, answer=lambda message: ANY_SIGNATURE):
-        self.path, self.answer, self.asked, self.now, self.most, self.connected = str(path), answer, [], 0, 0, 0
+        self.path, self.answer, self.asked, self.now, self.most, self.clients = str(path), answer, [], 0, 0, []
         self.lock = threading.Lock()
         self.server = socket.socket(socket.AF_UNIX)
         self.server.bind(self.path)
@@ -316,7 +316,7 @@ class Signers:
         with contextlib.suppress(OSError):
             while True:
                 peer, _ = self.server.accept()
-                self.connected += 1
+                self.clients.append(peer)
                 threading.Thread(target=self.sign, args=(peer,), daemon=True).start()
 
     def sign(self, peer):
