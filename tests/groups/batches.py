@@ -97,6 +97,7 @@ SYNCED_ONCE = {
     "registrations": (lambda at: f"register {at + 1} {at + 1:x} {DAY} {END}", {"registered"}, DAY),
     "refusals among them": (lambda at: f"subscriber name{at}" if at % 2 else "order 777 398", {"subscriber", "E06"}, DAY),
     "commands at a moment that the operator accepted": (lambda at: f"subscriber name{at}", {"subscriber"}, "2026-03-01T00:00:00Z"),
+    "a query behind them": (lambda at: "counts" if at == 255 else f"subscriber name{at}", {"subscriber", "good"}, DAY),
     "a CRL among them": (lambda at: "crl" if at == 200 else f"subscriber name{at}", {"subscriber", "crl"}, DAY),
 }
 

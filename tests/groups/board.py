@@ -177,6 +177,23 @@ def the_board_shows_what_the_desk_says(t):
     little(t, it, desk, browser)
 
 
+@test(seconds=15)
+def a_crl_of_2050(t):
+    """From 2050 on, the moments of a CRL are GeneralizedTime, and no UTCTime (RFC 5280 5.1.2.4)."""
+    need("chromium", "nginx")
+    it = Authority(t, subject="/O=Example/CN=Example CA")
+    certificates(t)
+    it.register()
+    t.done("script", "ca.db", given="2049-12-30T00:00:00Z crl\n2050-01-02T03:04:05Z crl\n")
+    t.clock("2050-01-02T03:04:05Z")
+    desk = t.open("ca.db", "--requests", "1000", command="serve")
+    browser = Browser(t)
+    browser.ask("Page.navigate", url=Front(t, desk.port, seconds=1).url("/board/", tls=True))
+    loaded(browser)
+    wanted = {"number": "2", "this": "2050-01-02 03:04:05 UTC", "next": "2050-01-10 03:04:05 UTC", "fault": ""}
+    t.same({name: browser.text_of(name) for name in wanted}, wanted, "what the page shows")
+
+
 def little(t, it, desk, browser):
     """The page shows an empty register. Once no desk runs, it shows an error."""
     desk.end()

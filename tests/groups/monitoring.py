@@ -392,7 +392,7 @@ rule_files: [{rules}]
 evaluation_interval: 1m
 tests:
 """
-# Series with a value for each minute, and the alerts that fire after nine minutes, and still after 59.
+# Series with a value for each minute, and the alerts that fire after nine minutes, and still after 59 (or only at the given moments).
 CASES = {
     "all is well": (["desk_requests_overdue{job='desk'} 0x60", "up{job='desk'} 1x60", "desk_clock_behind_seconds 0x60", "desk_signer_failing_since_timestamp_seconds{of='crl'} 0x60",
                      "desk_clock_timestamp_seconds 0+60x60", "desk_crl_due_timestamp_seconds 604800x60"], []),
@@ -409,6 +409,8 @@ CASES = {
     "a request that is overdue": (["desk_requests_overdue 2x60"], ["DeskRequestOverdue"]),
     "a flood that was refused": (["desk_http_responses_total{route='/requests',code='429'} 1+1x60"], ["DeskFlooded"]),
     "a flood that found little room": (["desk_http_responses_total{route='/requests',code='503'} 1+1x60", "desk_http_responses_total{route='/health',code='503'} 1+1x60"], ["DeskFlooded"]),
+    "a first flood within a minute": (["desk_http_responses_total{route='/requests',code='429'} _x49 100x60"], ["DeskFlooded"], "50m", "63m"),
+    "a flood that was over long ago": (["desk_http_responses_total{route='/requests',code='429'} 1+9x3 37x60"], [], "19m", "59m"),
     "tables with room": (["desk_rows{table='requests'} 800000x60", "desk_rows{table='crls'} 10x60", "desk_rows_cap 1000000x60"], []),
     "a table that fills up": (["desk_rows{table='requests'} 800001x60", "desk_rows{table='crls'} 10x60", "desk_rows_cap 1000000x60"], ["DeskTableFilling"]),
     "a disk that fills up": (["node_filesystem_avail_bytes{mountpoint='/var'} 9x60", "node_filesystem_size_bytes{mountpoint='/var'} 100x60"], ["DeskDiskFilling"]),
@@ -420,7 +422,7 @@ CASES = {
 
 
 @each(CASES)
-def each_alert_fires_and_no_other(t, series, fires):
+def each_alert_fires_and_no_other(t, series, fires, *moments):
     need("promtool")
     names = re.findall(r"- alert: (\w+)", ALERTS.read_text())
     case = RULES.format(rules=ALERTS) + "  - interval: 1m\n    input_series:\n"
@@ -430,7 +432,7 @@ def each_alert_fires_and_no_other(t, series, fires):
     case += "    promql_expr_test:\n"
     for name in names:
         wanted = "\n        exp_samples: [{labels: '{}', value: 1}]" if name in fires else "\n        exp_samples: []"
-        for moment in ("9m", "59m"):
+        for moment in moments or ("9m", "59m"):
             case += f"""      - expr: count(ALERTS{{alertname="{name}",alertstate="firing"}})\n        eval_time: {moment}{wanted}\n"""
     (t.room / "case.yml").write_text(case)
     t.tool("promtool", "test", "rules", "case.yml")

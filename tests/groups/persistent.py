@@ -259,6 +259,19 @@ def a_message_that_a_kept_connection_does_not_take_goes_on_another_one(t, error)
     t.same((len(signer.asked), sum(map(len, signer.kept))), (2, 1), "messages on connections of their own, and on persistent ones")
 
 
+@test(seconds=2)
+def a_long_answer_takes_few_reads(t):
+    """The second answer of a signer has 4,096 octets, and is no signature."""
+    t.enter_context(Keeping(t.room / "ca.sign", lambda message: frame(bytes(4_096))))
+    t.register(key=P256_KEY)
+    desk = t.open("ca.db", *SIGNING, faults=faults.environment(count=t.room / "count", only="socket"))
+    t.true(is_own(ocsp_answer(desk, 0x1111), 0x1111), "the first answer")
+    before = faults.counted(t.room / "count")["read"]
+    t.same(ocsp_answer(desk, 0x2222), INTERNAL, "the second answer")
+    count = faults.counted(t.room / "count")["read"] - before
+    t.true(count <= 20, f"{count} reads of the client's request and the signer's answer")
+
+
 @each({"on a connection of its own": (0x1111,), "on a persistent connection": (0x2222,)}, seconds=2)
 def the_desk_polls_for_an_answer_before_it_waits(t, serial):
     """Most answers come at once, and waking up takes as long as signing. So the desk polls some hundred times, and then waits for the signer."""
