@@ -225,9 +225,13 @@ def remove_stale(path):
     if not stat.S_ISSOCK(os.lstat(path).st_mode):
         sys.exit(f"{path} is no socket")
     with socket.socket(socket.AF_UNIX) as probe:
+        probe.setblocking(False)
         fault = probe.connect_ex(path)
+    # EAGAIN: the queue of a signer that is busy has no room.
+    if fault in (0, errno.EAGAIN):
+        sys.exit(f"something listens at {path} already")
     if fault != errno.ECONNREFUSED:
-        sys.exit(f"{path}: {os.strerror(fault)}" if fault else f"something listens at {path} already")
+        sys.exit(f"{path}: {os.strerror(fault)}")
     os.remove(path)
 
 

@@ -18,6 +18,7 @@ import time
 from concurrent.futures import ThreadPoolExecutor
 from pathlib import Path
 
+from groups.limits import full_queue
 from groups.only_ours import forms_of_answer, handed, other_crls, to_be_signed
 from lib import authority, native, program
 from lib.authority import EXAMPLES, KEYS, Authority, values_of
@@ -1210,16 +1211,41 @@ def what_is_at_its_path(t):
     t.same((ran.returncode, ran.stderr, os.readlink(t.room / "link.sign")), (1, b"desk-signer: link.sign: Address already in use\n", "other.sign"), "at a link to a socket")
 
 
-@test(seconds=2)
-def a_socket_to_which_it_may_not_connect_is_not_replaced(t):
+SIGNERS = {it: (it,) for it in ("desk-signer", "signer.py")}
+
+
+def signer_words(t, name):
+    """The words that start a signer, which every user may run from the test's folder."""
+    if name == "signer.py":
+        authority.need_cryptography(t)
+        for module in (name, "only_ours.py"):
+            shutil.copy(EXAMPLES / module, t.room)
+        return [sys.executable, t.room / name]
+    shutil.copy(native.signer(), t.room)
+    return [t.room / name, "--allow-swap"]
+
+
+@each(SIGNERS, seconds=2)
+def a_busy_signer_at_its_path_is_not_replaced(t, name):
+    """The queue of that signer's socket is full, so a client would have to wait."""
+    it, words = Authority(t), signer_words(t, name)
+    with full_queue(t):
+        made = (t.room / "ca.sign").stat().st_ino
+        ran = t.tried(*words, it.key, "ca.sign", timeout=20)
+        t.same((ran.returncode, ran.stdout), (1, b""), f"status and output; it reported {ran.stderr!r}")
+        t.has(ran.stderr, b"something listens at ca.sign already")
+        t.same((t.room / "ca.sign").stat().st_ino, made, "the socket at its path")
+
+
+@each(SIGNERS, seconds=2)
+def a_socket_to_which_it_may_not_connect_is_not_replaced(t, name):
     """Another user's signer listens at the path, in a folder in which this user may remove files."""
     if os.geteuid():
         raise Skipped("only root can make a socket of another user")
     need("setpriv")
-    it = Authority(t)
-    shutil.copy(native.signer(), t.room / "desk-signer")
-    for path, mode in (("", 0o755), ("ca.key", 0o644), ("desk-signer", 0o755)):
-        (t.room / path).chmod(mode)
+    it, words = Authority(t), signer_words(t, name)
+    for path in (t.room, it.key):
+        path.chmod(0o755)
     (t.room / "theirs").mkdir()
     os.chown(t.room / "theirs", 65534, 65534)
     with socket.socket(socket.AF_UNIX) as listener:
@@ -1227,8 +1253,9 @@ def a_socket_to_which_it_may_not_connect_is_not_replaced(t):
         listener.listen(8)
         (t.room / "theirs/ca.sign").chmod(0o600)
         as_nobody = ("setpriv", "--reuid", "65534", "--regid", "65534", "--clear-groups")
-        ran = t.tried(*as_nobody, t.room / "desk-signer", "--allow-swap", it.key, "theirs/ca.sign", timeout=20)
-        t.same((ran.returncode, ran.stdout, ran.stderr), (1, b"", f"{NAME}theirs/ca.sign: Permission denied\n".encode()), "status, output and reason")
+        ran = t.tried(*as_nobody, *words, it.key, "theirs/ca.sign", timeout=20)
+        t.same((ran.returncode, ran.stdout), (1, b""), f"status and output; it reported {ran.stderr!r}")
+        t.has(ran.stderr, b"theirs/ca.sign: Permission denied\n")
         with connected(t.room / "theirs/ca.sign"):
             t.true(select.select([listener], [], [], 20)[0], "the other signer's socket is not at its path any more")
 

@@ -184,13 +184,35 @@ def only_the_desk_can_connect_to_a_signer(t, name):
     t.same(told, ["SocketUser=durshavon", "SocketMode=0600", "DirectoryMode=0755", "RemoveOnStop=yes"], "its settings")
 
 
+# What each unit requires, and the files without which it is left out: a unit that is enabled or wanted does not fail before these are there.
+REQUIRED = {
+    "desk@.service": ["ConditionPathExists=/var/lib/durshavon/%i.db"],
+    "desk-crl@.service": ["Requisite=desk@%i.service"],
+    "desk-crl@.timer": [],
+    "desk-publish@.service": ["Requisite=desk@%i.service", "ConditionPathExists=/etc/durshavon/%i.pem"],
+    "desk-signer@.service": ["Requires=desk-signer@%i.socket"],
+    "desk-signer@.socket": ["ConditionPathExists=/etc/durshavon/%i.pem", "ConditionPathExists=/var/lib/durshavon-signer/%i.key"],
+    "desk-responder@.service": ["Requires=desk-responder@%i.socket"],
+    "desk-responder@.socket": [f"ConditionPathExists={it}" for it in ("/etc/durshavon/%i.pem", "/etc/durshavon/%i.ocsp.der", "/var/lib/durshavon-signer/%i.ocsp.key")],
+}
+
+
 @test
-def without_its_desk_no_crl_is_issued_or_published(t):
-    """A desk that was stopped makes neither unit fail every five minutes, and neither unit starts a desk."""
-    for name in ("desk-crl@", "desk-publish@"):
-        lines = units("service")[f"{name}.service"].splitlines()
-        told = [it for it in lines if re.match(r"(Requisite|Requires|BindsTo|PartOf)=", it)]
-        t.same(told, ["Requisite=desk@%i.service"], f"what {name}.service requires")
+def what_each_unit_requires(t):
+    """Neither unit for CRLs starts a desk that was stopped."""
+    found = units("service", "socket", "timer")
+    told = {name: [it for it in text.splitlines() if re.match(r"(Requisite|Requires|BindsTo|PartOf|Condition\w+)=", it)] for name, text in found.items()}
+    t.same(told, REQUIRED)
+
+
+@test
+def a_desk_starts_after_a_check_of_both_its_signers(t):
+    """Both programs get the options of the signer and those of the responder. The control socket has its older name, too."""
+    found = units("service")["desk@.service"].splitlines()
+    told = {line.split("=")[0]: line.split("=", 1)[1].split() for line in found if line.startswith(("ExecStartPre=", "ExecStart="))}
+    t.same(told["ExecStartPre"], ["/usr/lib/durshavon/check-signer.py", "--allow-absent", "/etc/durshavon/%i.pem", "$OPTIONS", "$RESPONDER"], "the check")
+    t.same(told["ExecStart"][-3:], ["$OPTIONS", "$RESPONDER", "--why"], "the end of the desk's command line")
+    t.has(found, "ExecStartPost=-/bin/ln -sfn control /run/durshavon/%i/counter")
 
 
 # The folders that each service may write, since the rest of the system is read-only to it, and their modes.

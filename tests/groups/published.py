@@ -410,10 +410,10 @@ def of_a_crl_alone(t):
     serves(t)
 
 
-@test
-def an_open_request_led_to_an_entry(t):
+@each({ground: (ground,) for ground in GROUNDS if ground != "asked"}, seconds=2)
+def an_open_request_led_to_an_entry(t, ground):
     """The script revokes an open request of the register if its ground has the entry's reason."""
-    t.register(lines=ENTERED + lines("request 06 asked", "request 06 misuse", "decline 3", "request 06 inaccurate"))
+    t.register(lines=ENTERED + lines("request 06 asked", f"request 06 {ground}", "decline 3", f"request 06 {ground}"))
     t.done("copy", "ca.db", "copy.db")
     run(t, "ca.db", lines("revoke 4", "crl", at=NEXT))
     t.same(again(t, "--published", "published.crl", file="copy.db")[0], [f"{NEXT} revoke 4", f"{NEXT} crl"])
