@@ -1254,6 +1254,8 @@ def a_socket_to_which_it_may_not_connect_is_not_replaced(t, name):
         (t.room / "theirs/ca.sign").chmod(0o600)
         as_nobody = ("setpriv", "--reuid", "65534", "--regid", "65534", "--clear-groups")
         ran = t.tried(*as_nobody, *words, it.key, "theirs/ca.sign", timeout=20)
+        if ran.stderr.startswith(b"setpriv: failed to execute"):
+            raise Skipped(f"another user can't run {words[0]}")
         t.same((ran.returncode, ran.stdout), (1, b""), f"status and output; it reported {ran.stderr!r}")
         t.has(ran.stderr, b"theirs/ca.sign: Permission denied\n")
         with connected(t.room / "theirs/ca.sign"):

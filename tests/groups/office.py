@@ -254,6 +254,15 @@ def a_register_that_was_left_alone(t):
 
 
 @test(seconds=15)
+def a_crl_of_2050(t):
+    """From 2050 on, the moments of a CRL are GeneralizedTime, and no UTCTime (RFC 5280 5.1.2.4)."""
+    t.clock("2050-01-02T03:04:05Z")
+    _, _, front, browser = opened(t, "2049-12-30T00:00:00Z crl\n2050-01-02T03:04:05Z crl\n")
+    load(browser, front)
+    t.has(browser.text_of("crlsnote"), "2; the latest, of 2050-01-02 03:04 with 0 entries and ", "the latest CRL")
+
+
+@test(seconds=15)
 def a_new_register(t):
     _, _, front, browser = opened(t)
     load(browser, front)

@@ -507,6 +507,13 @@ def a_socket_that_is_handed_over(t):
     t.true((t.room / "handed.sign").exists(), "the signer removed the socket, which is not its own")
     ran = t.tried(*words)
     t.same((ran.returncode, b"no socket was handed over" in ran.stderr), (1, True), "status, and whether the cause is reported, without a socket")
+    with socket.socket(socket.AF_UNIX) as listener:
+        listener.bind(str(t.room / "other.sign"))
+        listener.listen(8)
+        for told in ("LISTEN_PID=1 LISTEN_FDS=1", "LISTEN_PID=$$ LISTEN_FDS=2"):
+            script = f'exec 3<&"$0"; export {told}; exec "$@"'
+            ran = t.tried("bash", "-c", script, listener.fileno(), *words, pass_fds=[listener.fileno()], timeout=20)
+            t.same((ran.returncode, b"no socket was handed over" in ran.stderr), (1, True), f"with {told}")
     ran = t.tried(*words, "ca.sign")
     t.same(ran.returncode, 2, "status with a path as well")
 

@@ -193,7 +193,8 @@ REQUIRED = {
     "desk-signer@.service": ["Requires=desk-signer@%i.socket"],
     "desk-signer@.socket": ["ConditionPathExists=/etc/durshavon/%i.pem", "ConditionPathExists=/var/lib/durshavon-signer/%i.key"],
     "desk-responder@.service": ["Requires=desk-responder@%i.socket"],
-    "desk-responder@.socket": [f"ConditionPathExists={it}" for it in ("/etc/durshavon/%i.pem", "/etc/durshavon/%i.ocsp.der", "/var/lib/durshavon-signer/%i.ocsp.key")],
+    "desk-responder@.socket": ["ConditionPathExists=/etc/durshavon/%i.pem", "ConditionPathExists=/etc/durshavon/%i.ocsp.der",
+                               "ConditionPathExists=/var/lib/durshavon-signer/%i.ocsp.key"],
 }
 
 
@@ -201,16 +202,19 @@ REQUIRED = {
 def what_each_unit_requires(t):
     """Neither unit for CRLs starts a desk that was stopped."""
     found = units("service", "socket", "timer")
-    told = {name: [it for it in text.splitlines() if re.match(r"(Requisite|Requires|BindsTo|PartOf|Condition\w+)=", it)] for name, text in found.items()}
-    t.same(told, REQUIRED)
+    is_told = re.compile(r"(Requisite|Requires|BindsTo|PartOf|Condition\w+)=").match
+    t.same({name: list(filter(is_told, text.splitlines())) for name, text in found.items()}, REQUIRED)
 
 
 @test
 def a_desk_starts_after_a_check_of_both_its_signers(t):
-    """Both programs get the options of the signer and those of the responder. The control socket has its older name, too."""
+    """Both programs get the options of the signer and those of the responder, whose sockets are there by then. The control socket has its older name,
+    too."""
     found = units("service")["desk@.service"].splitlines()
+    t.has(found, "After=network.target desk-signer@%i.socket desk-responder@%i.socket")
     told = {line.split("=")[0]: line.split("=", 1)[1].split() for line in found if line.startswith(("ExecStartPre=", "ExecStart="))}
-    t.same(told["ExecStartPre"], ["/usr/lib/durshavon/check-signer.py", "--allow-absent", "/etc/durshavon/%i.pem", "$OPTIONS", "$RESPONDER"], "the check")
+    check = ["/usr/lib/durshavon/check-signer.py", "--allow-absent", "/etc/durshavon/%i.pem", "$OPTIONS", "$RESPONDER"]
+    t.same(told["ExecStartPre"], check, "the check")
     t.same(told["ExecStart"][-3:], ["$OPTIONS", "$RESPONDER", "--why"], "the end of the desk's command line")
     t.has(found, "ExecStartPost=-/bin/ln -sfn control /run/durshavon/%i/counter")
 

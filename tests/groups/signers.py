@@ -1,6 +1,5 @@
 """Signers at a Unix socket: keys and signatures of openssl for each algorithm, bytes that are no signature, and signers that fail or hang."""
 
-import contextlib
 import hashlib
 import json
 import os
@@ -180,31 +179,6 @@ def examples_signer_py_waits_ten_seconds_for_a_silent_client(t):
         t.true(signature(t.room / "ca.sign", b"a message") != b"", "the signer does not sign for the next client")
     process.terminate()
     t.same(process.stderr.read(), b"a connection failed: nothing came in time\n", "standard error")
-
-
-@test(seconds=3)
-def examples_signer_py_has_ten_seconds_for_a_message_in_pieces(t):
-    """A client sends an octet now and then. After ten seconds the signer closes its connection, and signs for the next client. Here its clock runs ten
-    times as fast."""
-    authority.need_cryptography(t)
-    it, path = Authority(t), t.room / "ca.sign"
-    (t.room / "sitecustomize.py").write_text(
-        "import select, time\nselect.select = lambda r, w, x, wait, real=select.select: real(r, w, x, wait and wait / 10)\n"
-        "time.monotonic = lambda real=time.monotonic: real() * 10\n")
-    authority.started(t, ["env", f"PYTHONPATH={t.room}", "python3", authority.EXAMPLES / "signer.py", it.key, "ca.sign"], path)
-    slow, sent = t.enter_context(connected(path)), 1
-    slow.sendall(b"a")
-    authority.until(lambda: program.is_read(slow), "the signer to read the first octet")
-    with ThreadPoolExecutor(1) as pool:
-        signed = pool.submit(signature, path, b"a message")
-        with contextlib.suppress(BrokenPipeError, ConnectionResetError):
-            while sent < 100:
-                time.sleep(0.05)
-                slow.sendall(b"a")
-                sent += 1
-        slow.close()
-        t.true(sent < 100, "the signer still reads the message after fifty of its seconds")
-        t.true(signed.result() != b"", "the next client gets no signature")
 
 
 @test(seconds=2)
