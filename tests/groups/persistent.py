@@ -2,6 +2,7 @@
 
 import contextlib
 import os
+import resource
 import socket
 import struct
 import threading
@@ -13,7 +14,7 @@ from lib import authority, faults, native, program
 from lib.authority import INTERNAL, Authority
 from lib.native import ANNOUNCEMENT, frame
 from lib.passing import Passing
-from lib.program import P256_KEY, read_all
+from lib.program import P256_KEY, Control, read_all
 from lib.trial import each, test
 
 
@@ -330,6 +331,34 @@ def the_connections_of_a_signer_that_ends_are_closed(t):
     authority.until(lambda: files(desk) == before + 32, "32 kept connections")
     signer.close()
     authority.until(lambda: files(desk) == before, "the desk to close them")
+
+
+@test(seconds=5)
+def kept_connections_leave_descriptors_for_the_operator(t):
+    """The desk has 1,024 descriptors, as is usual, and keeps 32 connections to its signer. Silent clients take all others at the port."""
+    _, hard = resource.getrlimit(resource.RLIMIT_NOFILE)
+    resource.setrlimit(resource.RLIMIT_NOFILE, (2_500, hard))
+    barrier = threading.Barrier(32)
+
+    class Together(Keeping):
+        def sign(self, client):
+            if client.recv(1, socket.MSG_PEEK) not in (b"", b"\0"):
+                barrier.wait(60)
+            super().sign(client)
+
+    t.enter_context(Together(t.room / "ca.sign"))
+    t.register(key=P256_KEY)
+    # No time passes for the desk, so no client is late.
+    desk = Passing(t, *SIGNING).desk
+    before = files(desk)
+    with ThreadPoolExecutor(32) as pool:
+        list(pool.map(lambda at: ocsp_answer(desk, 0x1100 + at), range(32)))
+    authority.until(lambda: files(desk) == before + 32, "32 kept connections")
+    t.tool("prlimit", "--pid", desk.process.pid, "--nofile=1024:1024")
+    clients = [t.enter_context(desk.connect()) for _ in range(1_100)]
+    authority.until(lambda: program.is_read(clients[-1]), "the desk to accept all")
+    with Control(t.room / "counter", timeout=20) as control:
+        t.same(control.ask("counts"), "good 0 revoked 0 expired 0", "a line at the control socket")
 
 
 @test(seconds=6)

@@ -499,6 +499,25 @@ def replies_come_in_the_order_of_their_lines(t):
     t.same(told, ["crl 1 entries 0", "good", "crl 2 entries 0", "good 1 revoked 0 expired 0"])
 
 
+@test(seconds=3)
+def many_crls_of_one_client_hold_up_another_one_for_one_signature(t):
+    """The later client has the lower slot. It sends five lines at once, and the earlier client one."""
+    release = threading.Semaphore(0)
+    t.callback(release.release, 100)
+    signers = t.enter_context(Signers(t.room / "ca.sign", lambda message: release.acquire(timeout=60) and ANY_SIGNATURE))
+    certified(t)
+    earlier, later = t.control(), t.control()
+    t.same([it.ask("counts") for it in (earlier, later)], ["good 1 revoked 0 expired 0"] * 2)
+    later.peer.sendall(b"crl\n" * 5)
+    t.true(signers.until(1), "no signature is requested")
+    earlier.peer.sendall(b"counts\n")
+    authority.until(lambda: program.is_read(earlier.peer), "the desk to read the line")
+    release.release()
+    t.same(later.file.readline(), b"crl 1 entries 0\n")
+    earlier.peer.settimeout(20)
+    t.same(earlier.file.readline(), b"good 1 revoked 0 expired 0\n", "the reply to the other client")
+
+
 @test
 def lines_that_come_at_once_with_a_crl_are_answered(t):
     t.register(key=P256_KEY)

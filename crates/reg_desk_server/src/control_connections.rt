@@ -32,6 +32,9 @@ pub(crate) struct ControlConnections<H: Handler> {
     pub(crate) lacks_descriptors: bool,
     /// Whether a connection may have a line without a reply.
     has_lines: bool,
+    /// The slot after that of the last line that waited for a signature. Its connection is the first to be answered, so that a client with many such
+    /// lines holds up another one for one signature at most.
+    first_slot: usize,
 }
 
 impl<H: Handler> ControlConnections<H> {
@@ -51,6 +54,7 @@ impl<H: Handler> ControlConnections<H> {
             may_accept: true,
             lacks_descriptors: false,
             has_lines: false,
+            first_slot: 0,
         })
     }
 
@@ -193,7 +197,9 @@ impl<H: Handler> ControlConnections<H> {
             return Ok(());
         }
         self.has_lines = false;
-        for slot in 0..MOST_CONTROL_CONNECTIONS {
+        let first = self.first_slot;
+        for turn in 0..MOST_CONTROL_CONNECTIONS {
+            let slot = first.wrapping_add(turn) % MOST_CONTROL_CONNECTIONS;
             self.answer_lines_at(slot, shared, handler, now)?;
         }
         Ok(())
@@ -250,6 +256,7 @@ impl<H: Handler> ControlConnections<H> {
                 let mut waiting = WaitingLine::new(slot, connection, deferred, now);
                 waiting.connect_and_send(handler, &shared.poller);
                 self.waiting = Some(waiting);
+                self.first_slot = slot.wrapping_add(1);
                 Ok(())
             }
             None => {

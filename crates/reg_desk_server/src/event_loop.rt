@@ -137,6 +137,9 @@ impl<H: Handler> EventLoop<H> {
                 self.advance(token, now);
             }
         }
+        if self.control.lacks_descriptors {
+            self.signatures.close_idle();
+        }
         self.control.accept_all(&mut self.shared);
         self.acceptor
             .accept_all(limit, &mut self.http, &mut self.shared, handler, now)?;

@@ -175,6 +175,18 @@ impl SignatureRequests {
         }
     }
 
+    /// Closes one of the connections to the signer that are kept and not in use, if there is one, so that its descriptor is free.
+    pub(crate) fn close_idle(&mut self) {
+        for index in 0..self.places.len() {
+            if let Some(place) = self.places.get_mut(index) {
+                if place.wanted.is_none() && place.request.is_some() {
+                    place.request = None;
+                    return;
+                }
+            }
+        }
+    }
+
     fn put_polled(
         &mut self,
         index: usize,

@@ -33,7 +33,9 @@ use std::time::Duration;
 pub struct Desk<'a, 'w, M: Machine> {
     /// The open register.
     pub office: M::Office,
+    /// Gives the memory for answers.
     pub alloc: Global,
+    /// Has the clock, the sockets and the log.
     pub machine: &'a M,
     /// Whether this is `desk open`, and not `desk serve`.
     pub is_open: bool,
