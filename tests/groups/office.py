@@ -244,13 +244,13 @@ def a_register_that_was_left_alone(t):
     browser.ask("Page.addScriptToEvaluateOnNewDocument", source=f"Date.now = (now => () => now() + {2 * DAY} * 1000)(Date.now)")
     load(browser, front)
     [gap] = [row.removeprefix("!").split("|") for row in rows(browser, "gaprows")]
-    since = spans(now, now - 12 * DAY)
+    since = spans(now - 12 * DAY, now)
     t.has([f"No valid CRL for {it}" for it in since], gap[0], "the gap")
     t.same(gap[1:], [f"from {shown(now - 12 * DAY)}, when CRL 1 ended,", "until now"], "its ends")
     t.has([f"ended {it} ago" for it in since], browser.value("document.querySelector('#crlsnote span').innerText"), "the latest CRL")
     t.same(rows(browser, "monthrows")[-1].split("|"), ["before", "", "2", "1", "1", "·"], "revocations of more than a year ago")
     t.same(texts(browser, "open", "overdue"), ["1", "0"], "open and overdue requests")
-    t.has({f"read at {shown(at)} UTC" for at in (now, authority.now())}, browser.text_of("asof"), "when the page was read")
+    t.has({f"read at {shown(at)} UTC" for at in range(now, authority.now() + 1)}, browser.text_of("asof"), "when the page was read")
 
 
 @test(seconds=15)
