@@ -620,7 +620,8 @@ def a_rate(t):
     t.same([it for it in (signature(path, message) for _ in range(11)) if not it], [], "clients without a signature after a pause")
     waited = time.monotonic() - began
     t.true(waited >= 0.5, f"11 signatures after a pause took {waited:.2f} s")
-    t.same(len(ended(process)[1]), 1, "lines on standard error")
+    # On a busy machine, a client may disconnect while its message is signed.
+    t.same(len([it for it in ended(process)[1] if "a connection failed" not in it]), 1, "lines on standard error")
 
 
 @test(seconds=3)
