@@ -25,7 +25,7 @@ LINES = ["subscriber acme", "order 1 90", "register 1 05 2026-01-01T00:00:00Z 20
 OCSP = bytes.fromhex("30423040303E303C303A300906052B0E03021A05000414" + "00" * 20 + "0414" + "00" * 20 + "020105")
 ENDS = ("0.0001", "0.0003", "0.001", "0.003", "0.01", "0.03", "0.1", "0.3", "1", "3", "10", "+Inf")
 
-ROUTES = ("/ocsp", "/ocsp/{request}", "/crl", "/crl/{number}", "/status/{serial}", "/counts", "/requests", "/list/{word}", "/health", "/metrics", "other")
+ROUTES = ("/ocsp", "/ocsp/{request}", "/crl", "/crl/{number}", "/status/{serial}", "/counts", "/requests", "/list/{word}", "/health", "/metrics", "/changes", "other")
 
 
 def opened(t, *words, clock=DAY, key=program.KEY):
@@ -163,7 +163,7 @@ def answers_by_route_and_status(t):
 
 @test
 def answers_of_each_status_at_each_route(t):
-    """The text then has some 130 samples more than that of a desk that has just begun."""
+    """The text then has some 140 samples more than that of a desk that has just begun."""
     desk, many, long = opened(t), "a: b\r\n" * 65, "Content-Length: 65537\r\n"
     for path in ROUTES:
         path = "/nowhere" if path == "other" else path.format(request="AAAA", number=1, serial="05", word="subscribers")
@@ -172,7 +172,7 @@ def answers_of_each_status_at_each_route(t):
         desk.send(f"GET {path} HTTP/2.0\r\n\r\n".encode())
     text = asked(t, desk, "/metrics")[2]
     t.true(len(text) > 10_000, f"the text has only {len(text)} bytes")
-    t.same(sum(of(metrics(t, desk), "desk_http_responses_total").values()), 67, "answers in all, with the text before")
+    t.same(sum(of(metrics(t, desk), "desk_http_responses_total").values()), 6 * len(ROUTES) + 1, "answers in all, with the text before")
 
 
 @test

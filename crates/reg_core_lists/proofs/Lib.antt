@@ -1,3 +1,4 @@
+pub mod FeedCuts
 pub mod Numbers
 pub mod Orders
 pub mod Pieces

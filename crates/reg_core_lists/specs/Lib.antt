@@ -5,3 +5,6 @@ pub mod Filters
 pub mod Lists
 pub mod Pages
 pub mod Texts
+pub mod FeedLines
+pub mod Positions
+pub mod Feed

@@ -263,7 +263,7 @@ pub(crate) fn serial_cell(serial: Option<Serial>) -> Cell
     }
 }
 
-fn ground_cell(ground: Ground) -> Cell
+pub(crate) fn ground_cell(ground: Ground) -> Cell
     ensures { result ≡ Cell.Text (ground_name ground) }
 {
     match ground {

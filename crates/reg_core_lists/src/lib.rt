@@ -2,15 +2,21 @@
 #![tactic(auto)]
 
 mod cursor;
+mod feed;
+mod feed_lines;
 mod fields;
 mod filter;
 mod list_parameters;
+mod positions;
 mod rows;
 mod texts;
 
 pub use cursor::Cursor;
+pub use feed::{FeedCrl, FeedPage, FeedRows, MOST_ROWS, before_later, digest_of};
+pub use feed_lines::{FeedLine, put_head};
 pub use filter::Filter;
 pub use list_parameters::{PageQuery, read_page, read_prefix};
+pub use positions::{Declines, Positions, RowCounts, WINDOW, no_declines, zero_counts};
 pub use rows::{
     ListedCertificate, ListedOrder, ListedRequest, ListedRevocation, Page, RequestWithState, Row,
 };

@@ -102,7 +102,7 @@ fn put_record_rest(out: &mut Vec<u8>, fields: &[Field]) -> Result<(), AllocError
 }
 
 #[tactic(auto, unfolding(crate::specs::Fields::plain_text))]
-fn put_plain(out: &mut Vec<u8>, cell: &Cell) -> Result<(), AllocError>
+pub(crate) fn put_plain(out: &mut Vec<u8>, cell: &Cell) -> Result<(), AllocError>
     ensures { AppendsOnOk out.old out.new result (plain_text cell.now) }
 {
     match cell {

@@ -86,6 +86,7 @@ route_name index =
     else if index == 7 then codes "/list/{word}"
     else if index == 8 then codes "/health"
     else if index == 9 then codes "/metrics"
+    else if index == 10 then codes "/changes"
     else codes "other"
 
 -- the label of a status, by its index; `none` for any other status, and for no answer
@@ -119,7 +120,7 @@ answers_prefix answers (suc index) =
 
 -- the answers, by route and status
 abbrev pub answers_text : List ℕ → List ℕ
-answers_text answers = ANSWERED.now ++ answers_prefix answers 132
+answers_text answers = ANSWERED.now ++ answers_prefix answers 144
 
 -- the lines at the control socket, by their reply
 unfoldable pub lines_text : Tally → List ℕ
@@ -211,7 +212,7 @@ routes_prefix tally (suc index) =
     (slice_index_or tally.route_counts index 0)
 
 abbrev pub routes_text : Tally → List ℕ
-routes_text tally = ROUTE_SECONDS.now ++ routes_prefix tally 11
+routes_text tally = ROUTE_SECONDS.now ++ routes_prefix tally 12
 
 -- the OCSP responses that were internalError, by cause
 unfoldable pub failures_text : Tally → List ℕ

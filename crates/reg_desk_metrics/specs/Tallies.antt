@@ -47,7 +47,8 @@ route_number routes.Requests = 6
 route_number routes.List = 7
 route_number routes.Health = 8
 route_number routes.Metrics = 9
-route_number routes.Other = 10
+route_number routes.Changes = 10
+route_number routes.Other = 11
 
 -- the index of a status; the last one is for no answer, and for any other status
 unfoldable pub code_number : Option ℕ → ℕ
@@ -108,9 +109,9 @@ store_after store.Failed now since = option_or since (Some now)
 -- nothing is counted yet, at a desk whose CRLs are signed in this way, with notAfter of its responder's certificate
 abbrev pub IsNewTally : CrlSigning → Option ℕ → Tally → Type 0
 IsNewTally signing ends tally =
-    (tally.answers ≡ replicate 132 0) × (tally.accepted ≡ 0) × (tally.refused ≡ 0) × (tally.faults ≡ 0)
+    (tally.answers ≡ replicate 144 0) × (tally.accepted ≡ 0) × (tally.refused ≡ 0) × (tally.faults ≡ 0)
     × (tally.buckets ≡ replicate 12 0)
-    × (tally.micros ≡ 0) × (tally.route_counts ≡ replicate 11 0) × (tally.route_micros ≡ replicate 11 0)
+    × (tally.micros ≡ 0) × (tally.route_counts ≡ replicate 12 0) × (tally.route_micros ≡ replicate 12 0)
     × (tally.ocsp_signer_failures ≡ 0) × (tally.ocsp_store_failures ≡ 0)
     × (tally.crls ≡ nothing_requested) × (tally.ocsp ≡ nothing_requested) × (tally.store_failing_since ≡ None)
     × (tally.requests ≡ None)

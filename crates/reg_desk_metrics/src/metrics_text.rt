@@ -184,6 +184,7 @@ fn route_name(index: usize) -> &'static str
         7 => "/list/{word}",
         8 => "/health",
         9 => "/metrics",
+        10 => "/changes",
         _ => "other",
     }
 }

@@ -13,13 +13,13 @@ use reg_office_api::{LineEffects, LineReply, SignatureOutcome, StoreEffect};
 pub(crate) const CODES: usize = 12;
 
 /// How many pairs of a route and a status there are.
-pub(crate) const ANSWERS: usize = 132;
+pub(crate) const ANSWERS: usize = 144;
 
 /// How many buckets the histogram of times has.
 pub(crate) const BUCKETS: usize = 12;
 
 /// How many routes there are; the last is for any other path.
-pub(crate) const ROUTES: usize = 11;
+pub(crate) const ROUTES: usize = 12;
 
 /// The counters of an open desk, and its signers' settings.
 #[derive(Clone, Copy)]
@@ -88,7 +88,7 @@ fn has_ocsp_response(exchange: &Exchange) -> bool
 
 fn route_number(route: Route) -> usize
     ensures number { result ≡ number_of_route route }
-    ensures within { result < 11 }
+    ensures within { result < 12 }
 {
     match route {
         Route::Ocsp => 0,
@@ -101,7 +101,8 @@ fn route_number(route: Route) -> usize
         Route::List => 7,
         Route::Health => 8,
         Route::Metrics => 9,
-        Route::Other => 10,
+        Route::Changes => 10,
+        Route::Other => 11,
     }
 }
 
@@ -278,7 +279,7 @@ impl Tally {
     }
 
     fn add_route(&mut self, number: usize, micros: u64)
-        requires { number < 11 }
+        requires { number < 12 }
         ensures { self.new ≡ with_route number micros self.old }
     {
         bump(&mut self.route_counts, number);

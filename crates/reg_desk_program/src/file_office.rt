@@ -1,12 +1,12 @@
 //! The office of a register in a file.
 
 use reg_core::{Command, Fault, Label, Memory, Moment, Outcome, Query, Schedule, Serial};
-use reg_core_lists::{Cursor, Page};
+use reg_core_lists::{Cursor, Page, Positions};
 use reg_crl_signer::{BackoffDevice, RegisterSigner, SocketDevice, UnixConnection};
 use reg_io::ReadyOrUnsigned;
 use reg_ocsp::Draft;
 use reg_office::Office;
-use reg_office_api::{OcspResponse, RegisterSummary, RequestLoad};
+use reg_office_api::{Changes, OcspResponse, RegisterSummary, RequestLoad};
 use sqlite::{FileFrom, FileStore};
 use sqlite_disk::Unknown;
 use std::alloc::Global;
@@ -77,6 +77,10 @@ impl reg_office_api::Office for FileOffice {
 
     fn page(&mut self, alloc: Global, now: Moment, from: Cursor, most: u64) -> Result<Page, Fault> {
         self.office.page(alloc, now, from, most)
+    }
+
+    fn changes(&mut self, alloc: Global, after: &Option<Positions>) -> Result<Changes, Fault> {
+        self.office.changes(alloc, after)
     }
 
     fn summary(&mut self) -> Result<RegisterSummary, Fault> {

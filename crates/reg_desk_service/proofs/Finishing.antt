@@ -33,7 +33,7 @@ use Rattle.reg_desk_service.specs.SignerAnswers.{AtGivenPath, AnsweredAtPath, An
 use Rattle.reg_desk_service.specs.FinishedResponses.{FinishesUnsigned, FinishesAt, IsSignatureOf, Meets}
 use Rattle.reg_desk_service.specs.declared.unsigned_responses.Unsigned.{Unsigned}
 use Rattle.reg_desk_service.specs.declared.http_exchanges.Dispatch.{Dispatch}
-use Rattle.reg_desk_service.specs.declared.http_exchanges.Dispatch.TheVariants.{ToRegister, ToLimits, ToList, ToHealth, ToMetrics}
+use Rattle.reg_desk_service.specs.declared.http_exchanges.Dispatch.TheVariants.{ToRegister, ToLimits, ToList, ToHealth, ToMetrics, ToChanges}
 use Rattle.reg_desk_service.specs.declared.admission.Admission.{Admission}
 
 -- The signer gave this, and what that is.
@@ -93,6 +93,7 @@ module _ (signs : Signs) (signer_answered : List ℕ → List ℕ → Type 0)
     says_left admission ToList method target body request it to asks_it answers = absurd to
     says_left admission ToHealth method target body request it to asks_it answers = absurd to
     says_left admission ToMetrics method target body request it to asks_it answers = absurd to
+    says_left admission ToChanges method target body request it to asks_it answers = absurd to
 
     -- the exchange of the register
     pub left_exchange : (admission admission' : Admission) (is_open : Bool) (line_outcome method target body request text : List ℕ) (draft : Drafted)

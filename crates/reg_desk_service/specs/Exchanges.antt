@@ -11,27 +11,29 @@ use Rattle.reg_http.specs.Answers.{Answers}
 use Rattle.reg_http.specs.RoutedRequests.{RoutedRequest, path_of, requested_serial, asked as asks_for}
 use Rattle.reg_http.specs.Bodies.{http_refusal}
 use Rattle.reg_http.specs.Exchanges.{IsEmpty, IsMemoryAnswer, HasNoEffects, HasEffects}
+use Rattle.reg_http.specs.Changes.{RespondsChanges, changes_request}
 use Rattle.reg_http.specs.Lists.{RespondsList, list_request}
 use Rattle.reg_http.specs.RouteNames.{named_route, route_at}
 use Rattle.reg_http.specs.AnswerEffects.{AnswerEffects, plain}
 use Rattle.reg_http.specs.declared.exchange.Exchange.{Exchange as HttpExchange}
 use Rattle.reg_http.specs.declared.route.Route.{Route}
-use Rattle.reg_http.specs.declared.route.Route.TheVariants.{Requests, List as ListOf, Health, Metrics}
+use Rattle.reg_http.specs.declared.route.Route.TheVariants.{Requests, List as ListOf, Health, Metrics, Changes}
 use Rattle.reg_desk_service.specs.Admission.{AnswersAdmitted, after_request_if}
 use Rattle.reg_desk_service.specs.HealthRoutes.{ByGet, AnswersHealth, AnswersMetrics}
 use Rattle.reg_desk_service.specs.declared.admission.Admission.{Admission}
 use Rattle.reg_desk_service.specs.declared.http_exchanges.Dispatch.{Dispatch}
-use Rattle.reg_desk_service.specs.declared.http_exchanges.Dispatch.TheVariants.{ToRegister, ToLimits, ToList, ToHealth, ToMetrics}
+use Rattle.reg_desk_service.specs.declared.http_exchanges.Dispatch.TheVariants.{ToRegister, ToLimits, ToList, ToHealth, ToMetrics, ToChanges}
 
 -- ---- requests
 
 -- which part answers a request: the register; or an open desk, which refuses requests for revocation beyond its limits, and answers with a page of a
--- list, its health or its metrics
+-- list, its health, its metrics or a page of the changes feed
 abbrev pub dispatch : Bool → Route → Dispatch
 dispatch true Requests = ToLimits
 dispatch true ListOf = ToList
 dispatch true Health = ToHealth
 dispatch true Metrics = ToMetrics
+dispatch true Changes = ToChanges
 dispatch true _ = ToRegister
 dispatch false _ = ToRegister
 
@@ -61,6 +63,8 @@ module _ (signs : Signs) (now : ℕ) (admission : Admission) (signers : OfficeSi
   AnswersAtRoute ToHealth method target body =
       ByGet method (AnswersHealth admission.accepted now before) it × (after ≡ before)
   AnswersAtRoute ToMetrics method target body = ByGet method (AnswersMetrics now before) it × (after ≡ before)
+  AnswersAtRoute ToChanges method target body =
+      RespondsChanges before (changes_request method target) it × (after ≡ before)
 
   -- by a desk that is open or not
   abbrev pub Says : Bool → RequestMeaning → Type 0

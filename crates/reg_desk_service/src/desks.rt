@@ -27,8 +27,8 @@ use std::io::ErrorKind;
 use std::net::SocketAddr;
 use std::time::Duration;
 
-/// A desk that answers HTTP requests, each at a moment of the clock. An open desk also answers `/health`, `/metrics`, lists, and lines at the
-/// control socket.
+/// A desk that answers HTTP requests, each at a moment of the clock. An open desk also answers `/health`, `/metrics`, lists, the changes feed,
+/// and lines at the control socket.
 #[derive(Drop)]
 pub struct Desk<'a, 'w, M: Machine> {
     /// The open register.

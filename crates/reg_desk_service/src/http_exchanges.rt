@@ -28,8 +28,8 @@ use http::Method;
 use reg_core::{Fault, Memory, Moment};
 use reg_desk_metrics::{ConnectionTotals, Tally};
 use reg_http::{
-    Answered, Exchange, Route, UnsignedResponse, answer_list, begin, begun_exchange, refuse,
-    text_buffer,
+    Answered, Exchange, Route, UnsignedResponse, answer_changes, answer_list, begin,
+    begun_exchange, refuse, text_buffer,
 };
 use reg_http_head::{Collected, RequestRef};
 use reg_io::ReadyOrUnsigned;
@@ -51,6 +51,8 @@ pub(crate) enum Dispatch {
     ToHealth,
     /// An open desk answers with its metrics.
     ToMetrics,
+    /// An open desk answers with a page of the changes feed.
+    ToChanges,
 }
 
 /// Which part answers a request at a route: always the register alone if the desk runs as `desk serve`, not as `desk open`.
@@ -65,6 +67,7 @@ fn dispatch_of(is_open: bool, route: Route) -> Dispatch
         Route::List => Dispatch::ToList,
         Route::Health => Dispatch::ToHealth,
         Route::Metrics => Dispatch::ToMetrics,
+        Route::Changes => Dispatch::ToChanges,
         _ => Dispatch::ToRegister,
     }
 }
@@ -234,6 +237,7 @@ fn begin_at<M: Machine>(
             begin_admitted::<M>(alloc, office, admission, now, method, target, body)
         }
         Dispatch::ToList => ready(answer_list(alloc, method, target, now, office)),
+        Dispatch::ToChanges => ready(answer_changes(alloc, method, target, office)),
         Dispatch::ToHealth => {
             let accepted = admission.accepted;
             ready(answer_health::<M>(alloc, office, method, now, tally, accepted))

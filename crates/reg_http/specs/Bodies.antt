@@ -71,6 +71,10 @@ fault_status other = 500
 unfoldable pub fault_response : Fault → Response
 fault_response fault = json (fault_status fault) (error_text (fault_line fault))
 
+-- the response to a request for changes after positions that are not in the history of the register
+unfoldable pub diverged_response : Response
+diverged_response = json 409 (error_text (codes "diverged"))
+
 -- an OCSP response, of any status (RFC 6960 A.2); out of memory is a fault
 abbrev pub ocsp_reply : Result (List ℕ) NoMemory → Response
 ocsp_reply (Ok body) = der (codes "application/ocsp-response") body

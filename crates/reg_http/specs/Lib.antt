@@ -2,6 +2,7 @@ pub mod Added
 pub mod Answers
 pub mod RoutedRequests
 pub mod Bodies
+pub mod Changes
 pub mod Exchanges
 pub mod Lists
 pub mod Meanings

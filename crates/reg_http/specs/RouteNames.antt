@@ -3,7 +3,7 @@ use Rattle.std.specs.Prelude.{ℕ, Bool, ◌==◌, ◌||◌, ◌+◌, nat_eq, Li
 use Rattle.std.specs.List.{position, starts_with}
 use Rattle.std.specs.declared.option.Option.{Option}
 use Rattle.reg_http.specs.declared.route.Route.{Route}
-use Rattle.reg_http.specs.declared.route.Route.TheVariants.{Ocsp, OcspRest, Crl, CrlNumber, Status, Counts, Requests, List as ListOf, Health, Metrics, Other}
+use Rattle.reg_http.specs.declared.route.Route.TheVariants.{Ocsp, OcspRest, Crl, CrlNumber, Status, Counts, Requests, List as ListOf, Health, Metrics, Changes, Other}
 
 -- the route of a path; a route with a variable part is found by the start of the path
 unfoldable pub route_at : List ℕ → Route
@@ -18,6 +18,7 @@ route_at path =
     else if starts_with nat_eq path (codes "/list/") then ListOf
     else if bytes_eq path (codes "/health") then Health
     else if bytes_eq path (codes "/metrics") then Metrics
+    else if bytes_eq path (codes "/changes") then Changes
     else Other
 
 -- whether a byte is a space

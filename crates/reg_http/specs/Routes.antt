@@ -21,7 +21,7 @@ pub record RouteLine : Type 0 where
 abbrev pub route_line : List ℕ → Ending → Route → RouteLine
 route_line prefix ending to = record { prefix = prefix; ending = ending; to = to }
 
--- the routes that `begin` answers: without `/list/`, `/health` and `/metrics`, which only an open desk has
+-- the routes that `begin` answers: without `/list/`, `/health`, `/metrics` and `/changes`, which only an open desk has
 abbrev pub table : List RouteLine
 table =
     route_line (codes "/counts") here Counts

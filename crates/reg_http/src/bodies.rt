@@ -2,7 +2,7 @@
 
 ghost use Rattle.std.specs.Prelude.{◌≡◌, ◌≤◌, [], IfOk, length, vec_capacity};
 ghost use Rattle.reg_http_head.specs.Response.{shown};
-ghost use Rattle.reg_http.specs.Bodies.{counts_text, der, due_text, error_text, fault_response, fault_status, json, method_not_allowed, http_refusal as refusal_of, status_text};
+ghost use Rattle.reg_http.specs.Bodies.{counts_text, der, due_text, error_text, diverged_response, fault_response, fault_status, json, method_not_allowed, http_refusal as refusal_of, status_text};
 
 use reg_core::{Counts, Decimal, Fault, Memory, Moment, Refusal, Status};
 use reg_http_head::{Answer, put, status};
@@ -139,6 +139,17 @@ pub(crate) fn method_not_allowed(mut buffer: Vec<u8>, method: &'static str) -> A
         allow: Some(method),
         body: buffer,
     }
+}
+
+/// The answer to a request for changes after positions that are not in the history of the register.
+#[tactic(auto, unfolding(crate::specs::Bodies::diverged_response))]
+pub(crate) fn diverged_answer(mut buffer: Vec<u8>) -> Answer
+    requires empty { buffer.items ≡ [] }
+    requires buffer { 256 ≤ vec_capacity buffer }
+    ensures { shown result ≡ diverged_response }
+{
+    put_error(&mut buffer, b"diverged");
+    json(status::CONFLICT, buffer)
 }
 
 /// The status code of a refusal or a fault: 400 if the request can't be read, 404 if there is no such CRL, 409 for other refusals, 500 for faults.

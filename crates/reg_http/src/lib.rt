@@ -3,6 +3,7 @@
 
 mod answered;
 mod bodies;
+mod changes;
 mod exchange;
 mod lists;
 mod meaning;
@@ -14,6 +15,7 @@ mod serve;
 
 pub use answered::{Answered, LoggedRequest};
 pub use bodies::json;
+pub use changes::answer_changes;
 pub use exchange::{Exchange, UnsignedResponse, begun_exchange, text_buffer};
 pub use lists::answer_list;
 pub use reg_http_head::Answer;

@@ -160,7 +160,7 @@ fn meaning_at(
     let is_get = method.as_str() == "GET";
     let is_post = method.as_str() == "POST";
     match found.route {
-        Route::List | Route::Health | Route::Metrics | Route::Other => {
+        Route::List | Route::Health | Route::Metrics | Route::Changes | Route::Other => {
             Ok(Meaning::Other(Call::Refused(status::NOT_FOUND)))
         }
         Route::Ocsp if is_post => Ok(Meaning::OcspByPost),

@@ -24,6 +24,8 @@ pub enum Route {
     Health,
     /// `/metrics`, only at an open desk.
     Metrics,
+    /// `/changes`, only at an open desk.
+    Changes,
     /// Any other path.
     Other,
 }
@@ -109,6 +111,7 @@ fn route_at(path: &[u8]) -> Route
         _ if path.starts_with(b"/list/") => Route::List,
         _ if path == b"/health".as_slice() => Route::Health,
         _ if path == b"/metrics".as_slice() => Route::Metrics,
+        _ if path == b"/changes".as_slice() => Route::Changes,
         _ => Route::Other,
     }
 }

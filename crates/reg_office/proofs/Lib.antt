@@ -7,6 +7,7 @@ pub mod Composing
 pub mod CommandsRun
 pub mod Deciding
 pub mod Facts
+pub mod FeedPages
 pub mod Following
 pub mod Identified
 pub mod Interrupting

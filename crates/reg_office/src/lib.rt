@@ -3,6 +3,7 @@
 
 mod batches;
 mod certificates;
+mod changes;
 mod commands;
 mod crls;
 mod decision_head;

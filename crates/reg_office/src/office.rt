@@ -3,6 +3,7 @@
 ghost use Rattle.std.specs.Prelude.{◌≡◌, None};
 ghost use Rattle.reg_office.specs.declared.responder.Responder.TheVariants.{Issuer};
 
+use crate::changes::changes_in;
 use crate::commands::decide;
 use crate::crls::{issue_crl, latest, next_message, numbered};
 use crate::identifiers::set_key_identifier;
@@ -12,11 +13,11 @@ use crate::queries::answer;
 use crate::register_state::{last_in, longest_in, open_count_in, request_load_in, summary_in};
 use crate::responder::{Responder, failures_in};
 use reg_core::{Command, Fault, Label, Memory, Moment, Outcome, Query, Refusal, Schedule, Serial};
-use reg_core_lists::{Cursor, Page};
+use reg_core_lists::{Cursor, Page, Positions};
 use reg_crl::Signer;
 use reg_io::ReadyOrUnsigned;
 use reg_ocsp::Draft;
-use reg_office_api::{OcspResponse, RegisterSummary, RequestLoad};
+use reg_office_api::{Changes, OcspResponse, RegisterSummary, RequestLoad};
 use reg_store::{DatabaseFault, Store};
 use sqlite::Alter;
 use std::alloc::Global;
@@ -88,7 +89,7 @@ impl<C: Alter, S: Signer> reg_office_api::Office for Office<C, S> {
     ghost use Rattle.reg_office_api.specs.CallSteps.{BatchStep, CommandStep, QueryStep, OcspStep, CrlStep};
     ghost use Rattle.reg_office_api.specs.Drafts.{BeginStep, IsSignerFailure};
     ghost use Rattle.reg_office_api.specs.Items.{items_of};
-    ghost use Rattle.reg_office_api.specs.LookUps.{HasLastMoment, HasLongest, HasOpen, HasRequestLoad, HasSummary, IsOfStore, PageStep};
+    ghost use Rattle.reg_office_api.specs.LookUps.{HasChanges, HasLastMoment, HasLongest, HasOpen, HasRequestLoad, HasSummary, IsOfStore, PageStep};
     ghost use Rattle.reg_office_api.specs.Ocsp.{IsNoOcspRequest, IsOcspReply};
     ghost use Rattle.reg_office_api.specs.Settings.{SetsKeyIdentifier, ReplacesSchedule};
     ghost use Rattle.reg_store_changes.specs.AfterStoppedChange.{IsScheduled};
@@ -267,6 +268,16 @@ impl<C: Alter, S: Signer> reg_office_api::Office for Office<C, S> {
         ensures faults { IfErr result IsTableFault }
     {
         page(&mut self.store, alloc, now, from, most)
+    }
+
+    fn changes(&mut self, alloc: Global, after: &Option<Positions>) -> Result<Changes, Fault>
+        ensures looks { OfficeTells C.Store S.Signer
+            (λ records. HasChanges records after.now result) self.old self.new }
+        ensures looked { OfficeLooks C.Store S.Signer
+            (λ records. HasChanges records after.now result) self.old self.new }
+        ensures faults { IfErr result IsOfStore }
+    {
+        changes_in(&mut self.store, alloc, after)
     }
 
     fn summary(&mut self) -> Result<RegisterSummary, Fault>

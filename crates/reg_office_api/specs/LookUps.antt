@@ -1,15 +1,20 @@
 -- The results of calls that look up an office's records, besides the answers to queries.
-use Rattle.std.specs.Prelude.{◌≡◌, ℕ, ◌==◌, ◌&&◌, min, filter, length, Option, option_map, Result, IfOk}
+use Rattle.std.specs.Prelude.{◌≡◌, ℕ, ◌==◌, ◌&&◌, min, filter, length, Option, Some, None, option_map, Result, IfOk}
 use Rattle.reg_core.specs.Crls.{latest, row_of}
 use Rattle.reg_core.specs.Due.{is_open}
 use Rattle.reg_core.specs.Records.{Records, order_in}
 use Rattle.reg_core.specs.Schedule.{longest_at}
 use Rattle.reg_core.specs.declared.refusal.Fault.{Fault}
 use Rattle.reg_core.specs.declared.refusal.Fault.TheVariants.{Memory, Store}
+use Rattle.reg_core_lists.specs.Feed.{IsInHistory, IsPage, no_declines, zero_counts}
+use Rattle.reg_core_lists.specs.declared.positions.Positions.{Positions}
 use Rattle.reg_core_lists.specs.Pages.{Pages}
 use Rattle.reg_core_lists.specs.declared.cursor.Cursor.{Cursor}
 use Rattle.reg_core_lists.specs.declared.rows.Page.{Page}
+use Rattle.reg_der.specs.Authority.{name_of}
 use Rattle.reg_office_api.specs.Signers.{OfficeSigners}
+use Rattle.reg_office_api.specs.declared.changes.Changes.{Changes}
+use Rattle.reg_office_api.specs.declared.changes.Changes.TheVariants.{Page as PageOfChanges, Diverged}
 use Rattle.reg_office_api.specs.declared.register_summary.RequestLoad.{RequestLoad}
 use Rattle.reg_office_api.specs.declared.register_summary.Rows.{Rows}
 use Rattle.reg_office_api.specs.declared.register_summary.RegisterSummary.{RegisterSummary}
@@ -80,3 +85,17 @@ HasLongest records order not_before result =
 -- the result for a page of a list over sound records, as a step that does not change the records
 abbrev pub PageStep : ℕ → ℕ → Cursor → Result Page Fault → OfficeSigners → Records → Records → Type 0
 PageStep now most from given = λ signers before after. Pages before now most from given after
+
+-- the page after positions that are in the history of the records, or after none; or that they are not in it
+abbrev pub GivesChanges : Records → Option Positions → Changes → Type 0
+GivesChanges records None (PageOfChanges text) =
+    IsPage (name_of records.issuer) records zero_counts no_declines text.items
+GivesChanges records None Diverged = ⊥
+GivesChanges records (Some positions) (PageOfChanges text) =
+    IsInHistory (name_of records.issuer) records positions
+    × IsPage (name_of records.issuer) records positions.counts positions.declines text.items
+GivesChanges records (Some positions) Diverged = ¬ (IsInHistory (name_of records.issuer) records positions)
+
+-- the same, if the call succeeds
+abbrev pub HasChanges : Records → Option Positions → Result Changes Fault → Type 0
+HasChanges records after result = IfOk result (GivesChanges records after)

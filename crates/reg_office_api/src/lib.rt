@@ -1,11 +1,13 @@
 //! The interface of a register's office, which runs commands and answers queries, for the front ends. It does not say where records are stored.
 #![tactic(auto)]
 
+mod changes;
 mod effects;
 mod office;
 mod register_summary;
 mod response;
 
+pub use changes::Changes;
 pub use effects::{LineEffects, LineReply, SignatureOutcome, StoreEffect};
 pub use office::Office;
 pub use register_summary::{RegisterSummary, RequestLoad, Rows};

@@ -1,9 +1,10 @@
 //! An office that keeps the records of a register.
 
+use crate::changes::Changes;
 use crate::register_summary::{RegisterSummary, RequestLoad};
 use crate::response::OcspResponse;
 use reg_core::{Command, Fault, Label, Memory, Moment, Outcome, Query, Schedule, Serial};
-use reg_core_lists::{Cursor, Page};
+use reg_core_lists::{Cursor, Page, Positions};
 use reg_io::ReadyOrUnsigned;
 use reg_ocsp::Draft;
 use std::alloc::Global;
@@ -16,7 +17,7 @@ pub trait Office {
     ghost use Rattle.reg_office_api.specs.Drafts.{BeginStep, IsSignerFailure};
     ghost use Rattle.reg_office_api.specs.Items.{items_of};
     ghost use Rattle.reg_office_api.specs.Leads.{Leads, Looks};
-    ghost use Rattle.reg_office_api.specs.LookUps.{HasRequestLoad, HasLastMoment, HasLongest, HasOpen, HasSummary, IsOfStore, PageStep};
+    ghost use Rattle.reg_office_api.specs.LookUps.{HasChanges, HasRequestLoad, HasLastMoment, HasLongest, HasOpen, HasSummary, IsOfStore, PageStep};
     ghost use Rattle.reg_office_api.specs.Settings.{SetsKeyIdentifier, ReplacesSchedule};
     ghost use Rattle.reg_office_api.specs.Signers.{OfficeSigners};
     ghost use Rattle.reg_core.specs.Records.{Records};
@@ -89,6 +90,12 @@ pub trait Office {
     /// A page of a list from a cursor on, at a moment, over at most `most` rows of its table. Errors: `ClockEnd`, `ClockBack`; `Memory`, `Store`.
     fn page(&mut self, alloc: Global, now: Moment, from: Cursor, most: u64) -> Result<Page, Fault>
         ensures { Leads is_clean stands (PageStep now most from result) self.old self.new };
+
+    /// The page of the changes feed after some positions, or from the first row on. Errors: `Memory`, `Store`.
+    fn changes(&mut self, alloc: Global, after: &Option<Positions>) -> Result<Changes, Fault>
+        ensures looks { Looks is_clean stands (λ records. HasChanges records after.now result)
+            self.old self.new }
+        ensures faults { IfErr result IsOfStore };
 
     /// The register's summary. Errors: `Memory`, `Store`.
     fn summary(&mut self) -> Result<RegisterSummary, Fault>

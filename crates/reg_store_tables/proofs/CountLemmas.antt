@@ -73,7 +73,7 @@ one_summary order (row ∷ other ∷ more) h = absurd h.1
 abbrev staged_by : Row → List Row → List Env
 staged_by params rows = filter (λ (env : Env). true) (map (λ (r : Row). params ∷ r ∷ []) rows)
 
-counted : (tree : ℕ) (terms : List Term) (names : List (List ℕ)) (db : Database) (params : Row) (rows : List Row) → overlay db.trees [] tree ≡ db.trees tree → Reads (as_command (counts_of tree terms) names) db params rows
+pub counted : (tree : ℕ) (terms : List Term) (names : List (List ℕ)) (db : Database) (params : Row) (rows : List Row) → overlay db.trees [] tree ≡ db.trees tree → Reads (as_command (counts_of tree terms) names) db params rows
     → rows ≡ (count (length (filter (passes terms params) (db.trees tree))) ∷ []) ∷ []
 counted tree terms names db params rows plain reads =
     let q = counts_of tree terms in
@@ -106,7 +106,7 @@ one_aggregate : (k : ℕ) (a : Aggregate) → k < 1 → slice_index_or (count_ro
 one_aggregate zero a within is = is
 one_aggregate (suc k) a within is = absurd (omega (arith, within))
 
-never_overflows : (tree : ℕ) (terms : List Term) (params : Row) (db : Trees) → QueryOverflows (counts_of tree terms) db params → ⊥
+pub never_overflows : (tree : ℕ) (terms : List Term) (params : Row) (db : Trees) → QueryOverflows (counts_of tree terms) db params → ⊥
 never_overflows tree terms params db (inl overflows) =
     let over = overflows.2 in
     let any = over.4 in
@@ -132,14 +132,14 @@ ended_test row now =
     let second = and_true (compares Lt (number row.not_after) (number now)) ∙ lt_number row.not_after now in
     λ i. first i && second i
 
-at_most_all : {A : Type 0} (p : A → Bool) (xs : List A) → length (filter p xs) ≤ length xs
+pub at_most_all : {A : Type 0} (p : A → Bool) (xs : List A) → length (filter p xs) ≤ length xs
 at_most_all p [] = omega arith
 at_most_all p (x ∷ xs) = let rest = at_most_all p xs in elim (cases_Bool (p x)) [
   | inl passed ↦ rw passed (omega arith)
   | inr failed ↦ rw failed (omega arith)
 ]
 
-min_is : (n most : ℕ) → n ≤ most → min n most ≡ n
+pub min_is : (n most : ℕ) → n ≤ most → min n most ≡ n
 min_is n most le = grind (arith, nat_tests)
 
 abbrev blank : Row → Output

@@ -27,6 +27,7 @@ pub mod Few
 pub mod FailingLemmas
 pub mod Written
 pub mod PageLemmas
+pub mod EnteredLemmas
 pub mod LookingUp
 pub mod PublicLaws
 pub mod Committing

@@ -70,7 +70,7 @@ undeclined row = not row.declined
 kept_above : (p : RequestRow → Bool) (low : ℕ) (xs : List RequestRow) → AllByRecursion (λ row. low < id_of row) xs → AllByRecursion (λ row. low < id_of row) (filter p xs)
 kept_above p low xs all = kept_have (λ (row : RequestRow). low < id_of row) p xs all
 
-kept_rises : (p : RequestRow → Bool) (xs : List RequestRow) → Rises id_of xs → Rises id_of (filter p xs)
+pub kept_rises : (p : RequestRow → Bool) (xs : List RequestRow) → Rises id_of xs → Rises id_of (filter p xs)
 kept_rises p [] rises = tt
 kept_rises p (x ∷ xs) rises = elim (cases_Bool (p x)) [
   | inl passed ↦ rw passed (kept_above p (id_of x) xs rises.0, kept_rises p xs rises.1)

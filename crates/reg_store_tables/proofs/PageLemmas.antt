@@ -20,17 +20,21 @@ use Rattle.sqlite.specs.Effect.{Database, Reads}
 use Rattle.sqlite.specs.Listing.{understood}
 use Rattle.sqlite_resolve.specs.Compile.{first}
 use Rattle.sqlite_tied.specs.Compute.{everything}
+use Rattle.reg_core.specs.Calendar.{clock_end}
 use Rattle.reg_core.specs.Crls.{row_of}
 use Rattle.reg_core.specs.Records.{Records, Crl}
 use Rattle.reg_core.specs.Serial.{IsSerial, serial_bytes}
 use Rattle.reg_core.specs.Sound.{KeysDiffer}
 use Rattle.reg_core.specs.declared.rows.CertRow.{CertRow}
+use Rattle.reg_core.specs.declared.rows.CrlRow.{CrlRow}
 use Rattle.reg_core.specs.declared.rows.RevocationRow.{RevocationRow}
+use Rattle.reg_core_laws.proofs.PublicLaws.{all_map}
 use Rattle.reg_core_lists.specs.Lists.{in_order, past, insert_by_key}
 use Rattle.reg_core_lists.proofs.PublicLaws.{all_ordered, order_filter, order_rises, kept_rises}
 use Rattle.reg_core_lists.proofs.PublicLaws as orders
 use Rattle.reg_store_tables.specs.Schema.{register_schema}
 use Rattle.reg_store_tables.specs.Rows.{number, serial_value, counted_rows, stored_certificate, stored_crl, stored_revocation}
+use Rattle.reg_store_tables.specs.Pages.{ReadsPage}
 use Rattle.reg_store_tables.specs.Shows.{IsShownBy}
 use Rattle.reg_store_tables.specs.ReadStatements.{command_of, shown_certificate, shown_crl, shown_revocation}
 use Rattle.reg_store_tables.specs.declared.sql.TheConstants.{CERTS_AFTER, CRLS_AFTER, REVOCATIONS_AFTER}
@@ -40,6 +44,7 @@ use Rattle.reg_store_tables.proofs.Few.{numbers_differ}
 use Rattle.reg_store_tables.proofs.Queries.{selects, as_command, passes, shows, Given, all_of, counted_given, keyed_given, kept_have}
 use Rattle.reg_store_tables.proofs.Selecting.{select_never}
 use Rattle.reg_store_tables.proofs.Sorting.{ascending_key, ascends, Rises, sorted_same}
+use Rattle.reg_store_tables.proofs.Written.{updated_early}
 
 -- ---- rows in order
 
@@ -101,7 +106,7 @@ abbrev by_serial : List (Term × Key)
 by_serial = (col 1 1, ascending_key) ∷ []
 
 -- the second parameter
-abbrev as_many : Term
+abbrev pub as_many : Term
 as_many = col 0 1
 
 module _ {A : Type 0} (serial : A → ℕ) (stored view : A → Row) (xs : List A) (serials : AllByRecursion (λ a. IsSerial (serial a)) xs) (tree : ℕ) (project : List Term) (text : List ℕ) (names : List (List ℕ))
@@ -122,10 +127,10 @@ module _ {A : Type 0} (serial : A → ℕ) (stored view : A → Row) (xs : List 
 
 -- ---- certificates
 
-abbrev cert_columns : List Term
+abbrev pub cert_columns : List Term
 cert_columns = col 1 1 ∷ col 1 2 ∷ col 1 3 ∷ col 1 4 ∷ []
 
-abbrev cert_names : List (List ℕ)
+abbrev pub cert_names : List (List ℕ)
 cert_names = codes "serial" ∷ codes "order_id" ∷ codes "not_before" ∷ codes "not_after" ∷ []
 
 pub certs_text : IsSelect CERTS_AFTER.now (selects 4 past_serial cert_columns by_serial as_many) cert_names (λ (it : ℕ × ℕ). serial_value it.0 ∷ number it.1 ∷ [])
@@ -145,10 +150,10 @@ module _ (db : Database) (records : Records) (shown : IsShownBy db records) (aft
 
 -- ---- revocations
 
-abbrev revocation_columns : List Term
+abbrev pub revocation_columns : List Term
 revocation_columns = col 1 1 ∷ col 1 2 ∷ col 1 3 ∷ col 1 4 ∷ col 1 5 ∷ []
 
-abbrev revocation_names : List (List ℕ)
+abbrev pub revocation_names : List (List ℕ)
 revocation_names = codes "serial" ∷ codes "at" ∷ codes "reason" ∷ codes "request" ∷ codes "first_crl" ∷ []
 
 pub revocations_text : IsSelect REVOCATIONS_AFTER.now (selects 8 past_serial revocation_columns by_serial as_many) revocation_names (λ (it : ℕ × ℕ). serial_value it.0 ∷ number it.1 ∷ [])
@@ -168,13 +173,13 @@ module _ (db : Database) (records : Records) (shown : IsShownBy db records) (aft
 
 -- ---- CRLs
 
-abbrev past_number : List Term
+abbrev pub past_number : List Term
 past_number = op2 (Compare Gt Binary) (col 1 0) (col 0 0) ∷ []
 
-abbrev by_number : List (Term × Key)
+abbrev pub by_number : List (Term × Key)
 by_number = (col 1 0, ascending_key) ∷ []
 
-pub crls_text : IsSelect CRLS_AFTER.now (selects 11 past_number (col 1 0 ∷ col 1 2 ∷ []) by_number as_many) (codes "number" ∷ codes "this_update" ∷ []) (λ (it : ℕ × ℕ). number it.0 ∷ number it.1 ∷ [])
+crls_text : IsSelect CRLS_AFTER.now (selects 11 past_number (col 1 0 ∷ col 1 2 ∷ []) by_number as_many) (codes "number" ∷ codes "this_update" ∷ []) (λ (it : ℕ × ℕ). number it.0 ∷ number it.1 ∷ [])
 unfolding understood everything register_schema first
 crls_text =
     select CRLS_AFTER.now 11 past_number (col 1 0 ∷ col 1 2 ∷ []) by_number as_many (codes "number" ∷ codes "this_update" ∷ []) (λ (it : ℕ × ℕ). number it.0 ∷ number it.1 ∷ []) refl (refl, refl) refl (select_never CRLS_AFTER.now _ _ refl refl refl) (λ it. (omega arith, refl)) (λ it. refl)
@@ -201,7 +206,18 @@ module _ (db : Database) (records : Records) (shown : IsShownBy db records) (aft
       let n : Crl → ℕ = λ crl. crl.number in
       past_given n after records.crls crls_given.to (numbers_differ n 1 records.crls shown.rows.crls_numbered) crls_given.same (ascends n crls_given.to crls_given.sorted)
 
-  pub crls_shown : rows ≡ map shown_crl (map row_of (take most (past (λ (crl : Crl). crl.number) after records.crls)))
+  crls_shown : rows ≡ map shown_crl (map row_of (take most (past (λ (crl : Crl). crl.number) after records.crls)))
   crls_shown =
       crls_given.shown ∙ take-map (λ (crl : Crl). shown_crl (row_of crl)) most crls_given.to ∙ ap (λ l. map (λ (crl : Crl). shown_crl (row_of crl)) (take most l)) crls_are
       ∙ map-twice shown_crl row_of (take most (past (λ (crl : Crl). crl.number) after records.crls))
+
+pub crls_page : ReadsPage (λ (crl : CrlRow). Unit {0}) (λ (crl : CrlRow). crl.this_update < clock_end) shown_crl (λ records after most. map row_of (take most (past (λ (crl : Crl). crl.number) after records.crls))) CRLS_AFTER.now
+crls_page = record {
+  reading = crls_text.reading;
+  asked = λ after most. crls_text.asked (after, most);
+  rows = λ records db shown. crls_shown db records shown;
+  serials = λ records db shown after most. all_of (λ (crl : CrlRow). Unit {0}) (λ crl. tt) (map row_of (take most (past (λ (crl : Crl). crl.number) after records.crls)));
+  values = λ records sound values after most.
+      all_map (λ (crl : CrlRow). crl.this_update < clock_end) row_of (take most (past (λ (crl : Crl). crl.number) after records.crls))
+      (past_have (λ (crl : Crl). crl.number) (λ (crl : Crl). crl.this_update < clock_end) after most records.crls (updated_early records sound));
+}

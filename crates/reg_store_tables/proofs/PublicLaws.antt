@@ -38,7 +38,7 @@ use Rattle.sqlite_trees.specs.declared.store.Store.{Ghosts}
 use Rattle.sqlite.specs.Held.{Held, state}
 use Rattle.reg_core.specs.Records.{Records}
 use Rattle.reg_core.specs.Sound.{SoundRows}
-use Rattle.reg_store_tables.specs.Kept.{ShowsKept, ShowsKeptNow, ShowsKeptUntil}
+use Rattle.reg_store_tables.specs.Kept.{ShowsKept, ShowsKeptNow}
 use Rattle.reg_store_tables.specs.LookUps.{FindsIf, LooksUp}
 use Rattle.reg_store_tables.specs.Shows.{Shows}
 use Rattle.reg_store_tables.specs.Stays.{IsRegister, Looked, Stays}

@@ -11,6 +11,7 @@ pub mod ReadStatements
 pub mod Tables
 pub mod Failing
 pub mod LookUps
+pub mod Pages
 pub mod AfterStop
 pub mod Commits
 pub mod Staged

@@ -3,6 +3,7 @@
 
 mod certificates;
 mod crls;
+mod entry_order;
 mod fault;
 mod listed;
 mod office;
@@ -24,6 +25,7 @@ mod tables;
 pub mod write_statements;
 
 pub use crls::crl;
+pub use entry_order::Entered;
 pub use fault::{DatabaseFault, RowFault, StoreFault};
 pub use office::{issuer, policy};
 pub use schedule_rows::put_schedule_steps;

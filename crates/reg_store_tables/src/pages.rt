@@ -8,7 +8,7 @@ ghost use Rattle.reg_core_lists.specs.Lists.{key_of, past};
 ghost use Rattle.reg_store_tables.specs.LookUps.{FindsIf};
 
 use crate::fault::DatabaseFault;
-use crate::read_statements::look_up_all;
+use crate::read_statements::{look_up_all, look_up_page};
 use crate::sql::{CERTS_AFTER, CRLS_AFTER, REVOCATIONS_AFTER};
 use crate::sql_values::sql_number;
 use crate::tables::Tables;
@@ -72,8 +72,6 @@ impl<S: Alter> Tables<S> {
             S.Store self.old self.new result (λ records found.
             found.items ≡ map row_of (take most (past (λ crl. crl.number) after records.crls))) }
     {
-        let limit = sql_number(most)?;
-        let key = sql_number(after)?;
-        look_up_all::<S, CrlRow>(&mut self.connection, CRLS_AFTER, params![&key, &limit])
+        look_up_page::<S, CrlRow>(&mut self.connection, CRLS_AFTER, after, most)
     }
 }

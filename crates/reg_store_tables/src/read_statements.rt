@@ -1,16 +1,19 @@
 //! Statements that only read.
 
-ghost use Rattle.std.specs.Prelude.{◌≡◌, ◌≢◌, ◌≤◌, false, [], ◌∷◌, length, IfOk, OnErr, MatchOption};
+ghost use Rattle.std.specs.Prelude.{◌≡◌, ◌≢◌, ◌≤◌, ◌<◌, ◌^◌, ℕ, false, List, [], ◌∷◌, length, IfOk, OnErr, MatchOption};
 ghost use Rattle.sqlite_value.specs.Order.{Row as Values};
 ghost use Rattle.sqlite.specs.Values.{bound};
-ghost use Rattle.reg_store_tables.specs.LookUps.{Queries, ReadsBy, ReadsOne, ReadsRow};
+ghost use Rattle.reg_core.specs.Records.{Records};
+ghost use Rattle.reg_store_tables.specs.LookUps.{FindsIf, Queries, ReadsBy, ReadsOne, ReadsRow};
+ghost use Rattle.reg_store_tables.specs.Pages.{ReadsPage};
 ghost use Rattle.reg_store_tables.specs.ReadStatements.{IsReading};
 ghost use Rattle.reg_store_tables.specs.ShownRows.{ShowsAll};
 
 use crate::fault::DatabaseFault;
 use crate::rows::{RowKind, row_in, rows_in};
+use crate::sql_values::sql_number;
 use sqlite::types::ValueRef;
-use sqlite::{Alter, Connection, Row};
+use sqlite::{Alter, Connection, Row, params};
 
 pub(crate) fn read<S: Alter>(
     conn: &mut Connection<S>,
@@ -71,6 +74,23 @@ pub(crate) fn look_up_all<S: Alter, T: RowKind>(
 {
     let rows = read(conn, sql, params)?;
     Ok(rows_in::<T>(*rows.allocator(), &rows)?)
+}
+
+/// The page that a statement reads: at most `most` rows after the number `after`. `Store` too for a number above 2^63 - 1.
+pub(crate) fn look_up_page<S: Alter, T: RowKind>(
+    conn: &mut Connection<S>,
+    sql: &str,
+    after: u64,
+    most: u64,
+) -> Result<Vec<T::Record>, DatabaseFault>
+    ensures { (page : Records → ℕ → ℕ → List T.Record)
+        → ReadsPage T.has_valid_serial T.has_values T.shown page sql.now
+        → FindsIf (λ _. (after < 2 ^ 63) × (most < 2 ^ 63)) S.Store conn.old conn.new result
+        (λ records found. found.items ≡ page records after most) }
+{
+    let limit = sql_number(most)?;
+    let key = sql_number(after)?;
+    look_up_all::<S, T>(conn, sql, params![&key, &limit])
 }
 
 /// The one row, or none. `Store` for more.

@@ -71,6 +71,27 @@ pub(crate) const REVOCATIONS_AFTER: &str =
 /// The first CRLs past a number, without their bytes, at most `?2` of them. It reads the index `crl_at`.
 pub(crate) const CRLS_AFTER: &str =
     "SELECT number, this_update FROM crl WHERE number > ?1 ORDER BY number LIMIT ?2";
+/// The first rows past an id or a rowid, in the order of entry, at most `?2` of them. Each statement reads no others.
+pub(crate) const SUBSCRIBERS_ENTERED_AFTER: &str =
+    "SELECT id, name FROM subscriber WHERE id > ?1 ORDER BY id LIMIT ?2";
+
+pub(crate) const ORDERS_ENTERED_AFTER: &str =
+    "SELECT id, subscriber, days FROM orders WHERE id > ?1 ORDER BY id LIMIT ?2";
+
+pub(crate) const CERTS_ENTERED_AFTER: &str =
+    "SELECT serial, order_id, not_before, not_after FROM cert WHERE rowid > ?1 ORDER BY rowid LIMIT ?2";
+
+pub(crate) const REQUESTS_ENTERED_AFTER: &str =
+    "SELECT id, serial, ground, received, declined FROM request WHERE id > ?1 ORDER BY id LIMIT ?2";
+
+pub(crate) const REVOCATIONS_ENTERED_AFTER: &str =
+    "SELECT serial, at, reason, request, first_crl FROM revocation WHERE rowid > ?1 ORDER BY rowid LIMIT ?2";
+/// The ids of the first declined requests past an id, at most `?2` of them. It scans the table `request` from that id on.
+pub(crate) const DECLINED_AFTER: &str =
+    "SELECT id FROM request WHERE declined = 1 AND id > ?1 ORDER BY id LIMIT ?2";
+/// How many requests up to the id `?1` are declined. It scans the table `request` up to that id.
+pub(crate) const DECLINED_UP_TO: &str =
+    "SELECT count(*) FROM request WHERE declined = 1 AND id <= ?1";
 
 pub(crate) const SET_COUNTS: &str = "UPDATE kept SET n_good = ?1, n_revoked = ?2, n_expired = ?3";
 

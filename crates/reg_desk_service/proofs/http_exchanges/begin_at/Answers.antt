@@ -4,7 +4,7 @@ use Rattle.reg_http.specs.RoutedRequests.{asked}
 use Rattle.reg_desk_service.specs.Admission.{BeginsAdmitted}
 use Rattle.reg_desk_service.specs.RequestOutcomes.{BeginsAt}
 use Rattle.reg_desk_service.specs.Exchanges.{dispatch}
-use Rattle.reg_desk_service.specs.declared.http_exchanges.Dispatch.TheVariants.{ToHealth, ToLimits, ToList, ToMetrics, ToRegister}
+use Rattle.reg_desk_service.specs.declared.http_exchanges.Dispatch.TheVariants.{ToChanges, ToHealth, ToLimits, ToList, ToMetrics, ToRegister}
 use Rattle.reg_desk_service.proofs.Admitting.{was_counted}
 use Rattle.reg_desk_service.proofs.Answering.{counted_at, limited_begins}
 use Rattle.reg_desk_service.proofs.http_exchanges.begin_at.Goals as goal
@@ -49,3 +49,8 @@ pub returns-in-ToMetrics-clause-counted : goal.returns-in-ToMetrics-clause-count
 returns-in-ToMetrics-clause-counted g c =
     let to = ap (dispatch c.args.is_open) (sym c.requires) ∙ sym c.dispatch_of.ensures ∙ c.in-ToMetrics.is in
     counted_at _ c.args.is_open c.args.now c.args.method.now c.args.target.now c.args.body.now c.args.admission.now _ ToMetrics to (was_counted _ _ _ _ refl)
+
+pub returns-in-ToChanges-clause-counted : goal.returns-in-ToChanges-clause-counted
+returns-in-ToChanges-clause-counted g c =
+    let to = ap (dispatch c.args.is_open) (sym c.requires) ∙ sym c.dispatch_of.ensures ∙ c.in-ToChanges.is in
+    counted_at _ c.args.is_open c.args.now c.args.method.now c.args.target.now c.args.body.now c.args.admission.now _ ToChanges to (was_counted _ _ _ _ refl)

@@ -1,0 +1,109 @@
+//! Requests for the changes of the register: `GET /changes?after=POSITIONS`, or without a query from the first row on. Only an open desk has them.
+
+ghost use Rattle.std.specs.Prelude.{◌≡◌, IfOk};
+ghost use Rattle.reg_office_api.specs.Calls.{LooksIn};
+ghost use Rattle.reg_http.specs.AnswerEffects.{answer_effects};
+ghost use Rattle.reg_http.specs.Changes.{RespondsChanges, changes_in, changes_request, changes_wanted, given_changes, positions_after};
+
+use crate::answered::Answered;
+use crate::bodies::{der, diverged_answer, json_buffer};
+use crate::routes::{only_get, report_fault};
+use http::Method;
+use reg_core::{Fault, Memory, Refusal};
+use reg_core_lists::Positions;
+use reg_office_api::{Changes, Office};
+use std::alloc::Global;
+
+/// The media type of a page: its lines are text, but the octets of a CRL may be any.
+const PAGE: &str = "application/octet-stream";
+
+/// The meaning of a request for changes.
+#[derive(Clone, Copy)]
+pub(crate) enum ChangesRequest {
+    /// The method is not GET, the only one of the route.
+    OnlyGet,
+    /// The query can't be read.
+    Unreadable,
+    /// From the first row on.
+    FromFirst,
+    After(Positions),
+}
+
+/// Answers a request for the changes of the register. No record changes. [`Memory`] if out of memory.
+pub fn answer_changes<O: Office>(
+    alloc: Global,
+    method: &Method,
+    target: &str,
+    office: &mut O,
+) -> Result<Answered, Memory>
+    ensures { LooksIn O.Office
+        (λ records. IfOk result
+        (λ answered. RespondsChanges records (changes_request method.now target.now) (answer_effects answered)))
+        office.old office.new }
+{
+    match read_changes(method, target) {
+        ChangesRequest::FromFirst => {
+            let given = office.changes(alloc, &None);
+            answer_given(alloc, given)
+        }
+        ChangesRequest::After(positions) => {
+            let given = office.changes(alloc, &Some(positions));
+            answer_given(alloc, given)
+        }
+        ChangesRequest::OnlyGet => only_get(alloc),
+        ChangesRequest::Unreadable => report_fault(alloc, Fault::Refused(Refusal::Syntax)),
+    }
+}
+
+fn read_changes(method: &Method, target: &str) -> ChangesRequest
+    ensures { result ≡ changes_request method.now target.now }
+{
+    if method.as_str() != "GET" {
+        return ChangesRequest::OnlyGet;
+    }
+    changes_at(target)
+}
+
+#[tactic(auto, unfolding(crate::specs::Changes::changes_in))]
+fn changes_at(target: &str) -> ChangesRequest
+    ensures { result ≡ changes_in target.now }
+{
+    let query = match target.split_once('?') {
+        Some((_, query)) => query,
+        None => "",
+    };
+    changes_wanted(query.as_bytes())
+}
+
+fn changes_wanted(query: &[u8]) -> ChangesRequest
+    ensures { result ≡ changes_wanted query.now }
+{
+    if query.is_empty() {
+        return ChangesRequest::FromFirst;
+    }
+    match positions_after(query) {
+        Some(positions) => ChangesRequest::After(positions),
+        None => ChangesRequest::Unreadable,
+    }
+}
+
+/// The positions in a query `after=POSITIONS`.
+fn positions_after(query: &[u8]) -> Option<Positions>
+    ensures { result ≡ positions_after query.now }
+{
+    if !query.starts_with(b"after=") {
+        return None;
+    }
+    Positions::read(&query[b"after=".len()..])
+}
+
+/// The answer with a page, with `diverged`, or with the fault that the office returned.
+fn answer_given(alloc: Global, given: Result<Changes, Fault>) -> Result<Answered, Memory>
+    ensures { IfOk result (λ answered. answer_effects answered ≡ given_changes given) }
+{
+    match given {
+        Ok(Changes::Page(text)) => Ok(Answered::plain(der(PAGE, text))),
+        Ok(Changes::Diverged) => Ok(Answered::plain(diverged_answer(json_buffer(alloc)?))),
+        Err(fault) => report_fault(alloc, fault),
+    }
+}

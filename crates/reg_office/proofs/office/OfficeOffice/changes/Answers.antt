@@ -1,0 +1,16 @@
+use Rattle.std.proofs.Common.{◌≡◌, refl}
+use Rattle.reg_core.specs.Records.{Records}
+use Rattle.reg_office_api.specs.LookUps.{HasChanges}
+use Rattle.reg_office.proofs.Leading.{office_leads, office_looks}
+use Rattle.reg_office.proofs.Looking.{lent}
+use Rattle.reg_office.proofs.office.OfficeOffice.changes.Goals as goal
+
+pub returns-clause-looked : goal.returns-clause-looked
+returns-clause-looked g c =
+    let Told : Records → Type 0 = λ records. HasChanges records c.args.after.now c.changes_in.result in
+    office_looks g.C.Store g.S.Signer _ _ Told Told (lent c.deref_mut.ensures.shows c.changes_in.ensures.looks) refl (λ records sound told. told)
+
+pub returns-clause-looks : goal.returns-clause-looks
+returns-clause-looks g c =
+    let Told : Records → Type 0 = λ records. HasChanges records c.args.after.now c.changes_in.result in
+    office_leads g.C.Store g.S.Signer _ _ Told (λ signers before after. Told before × (after ≡ before)) (returns-clause-looked g c) (λ records told. (told, refl))
