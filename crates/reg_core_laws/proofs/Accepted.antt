@@ -1,6 +1,5 @@
 -- A command is accepted if none of its checks gives a refusal.
 use Rattle.std.proofs.Common.{◌≡◌, ℕ, ◌<◌, ◌≤◌, false, length, Some, None, IsFalse, IsSome, arith}
-use Rattle.std.specs.List.{AllByRecursion}
 use Rattle.std.proofs.lemmas.Bool.Decides.{nat_tests}
 use Rattle.reg_core.specs.Checks.{clock_end, is_too_long}
 use Rattle.reg_core.specs.Records.{Records, order_in, certificate_in, certificate_of_order, request_in, revocation_in}
@@ -11,7 +10,7 @@ use Rattle.reg_core.specs.declared.command.Command.TheVariants.{Register, Revoke
 use Rattle.reg_core.specs.declared.rows.CertRow.{CertRow}
 use Rattle.reg_core.specs.declared.rows.OrderRow.{OrderRow}
 use Rattle.reg_core.specs.declared.rows.RequestRow.{RequestRow}
-use Rattle.reg_core_laws.proofs.Lists.{all_found, all_weaker, some_and_some}
+use Rattle.reg_core_laws.proofs.Lists.{all_found}
 
 -- the clock of an accepted command
 pub record OnClock (records : Records) (now : ℕ) : Type 0 where

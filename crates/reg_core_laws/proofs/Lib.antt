@@ -4,6 +4,7 @@ pub mod CountFacts
 pub mod Counted
 pub mod Decided
 pub mod Entries
+pub mod Extended
 pub mod Imported
 pub mod Kept
 pub mod KeptReached

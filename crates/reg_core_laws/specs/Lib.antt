@@ -1,4 +1,5 @@
 pub mod Examples
+pub mod Extends
 pub mod Headline
 pub mod History
 pub mod Import

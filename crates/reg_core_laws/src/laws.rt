@@ -1,6 +1,7 @@
 //! Each function here does nothing when it runs: its contract is a law, which the prover checks.
 
 ghost use Rattle.reg_core_laws.specs.Headline.{CreatedSound, KeepsSound, RunsInParts, HasExactlyOneStatus, CountsMoveExactly, ListsRevoked, RefusalsChangeNothing};
+ghost use Rattle.reg_core_laws.specs.Extends.{RunsExtend};
 ghost use Rattle.reg_core_laws.specs.History.{HistoryIsKept};
 ghost use Rattle.reg_core_laws.specs.Import.{ImportsTwice};
 ghost use Rattle.reg_core_laws.specs.Reached.{ReachedIsSound, CreatedReached, KeepsReached, SchedulesKeepReached};
@@ -36,6 +37,13 @@ pub fn reached<S: SignsCrls>()
 /// signed in it, and it stays signed.
 pub fn history<S: SignsCrls>()
     ensures { (signer : S) → HistoryIsKept (S.signed signer) }
+{}
+
+/// Nothing that was entered is ever removed or changed, except that a request may be declined: after every list of commands, each table has the rows
+/// that it had before, in the same order, and perhaps more rows behind them. The issuer and the policy stay, and the last accepted moment does not go
+/// back.
+pub fn additions<S: SignsCrls>()
+    ensures { (signer : S) → RunsExtend (S.signed signer) }
 {}
 
 /// A revocation is added only by a command with the reply `Revoked`: it is of its request's serial number, at the command's moment,
