@@ -361,6 +361,19 @@ def kept_connections_leave_descriptors_for_the_operator(t):
         t.same(control.ask("counts"), "good 0 revoked 0 expired 0", "a line at the control socket")
 
 
+@test(seconds=2)
+def a_connection_that_ends_as_the_message_comes_loses_no_answer(t):
+    """The signer closes each persistent connection at its first octets, as one that ends or makes room does."""
+
+    class Ends(Keeping):
+        def keep(self, client):
+            native.exactly(client, 4)
+
+    t.enter_context(Ends(t.room / "ca.sign"))
+    desk = opened(t)
+    t.same([is_own(ocsp_answer(desk, 0x1100 + at), 0x1100 + at) for at in range(4)], [True] * 4, "whether each answer is signed")
+
+
 @test(seconds=6)
 def real_signatures_verify(t):
     """The native signer with --persistent signs CRLs and OCSP answers of scripts, lines and HTTP, on both kinds of connections."""

@@ -18,7 +18,7 @@ pub const MOST_ROWS: u64 = 1_000;
 /// How many of the last octets of a CRL the digest of positions has.
 const END_OCTETS: usize = 64;
 
-/// RowLists of the changes feed, but for CRLs.
+/// Rows of the changes feed, but for CRLs.
 #[derive(Drop)]
 pub struct FeedRows {
     pub subscribers: Vec<SubscriberRow>,

@@ -85,6 +85,11 @@ impl SignatureRequest {
         self.connection.has_ended()
     }
 
+    /// Whether a kept connection failed before a byte of the answer came, as when the signer was restarted: on a new one the message may be signed.
+    pub fn failed_unanswered(&self) -> bool {
+        self.connection.failed_unanswered()
+    }
+
     /// The signature in the answer, once the answer has arrived; it may be empty. `None` also if there is no memory.
     pub fn take_signature(&mut self, alloc: Global) -> Option<Vec<u8>>
         ensures { IfSome result (λ signature. length signature.items ≤ 4096) }

@@ -50,7 +50,7 @@ pub struct SignerConnection<S> {
 }
 
 impl<S: Drop> SignerConnection<S> {
-    ghost use Rattle.reg_crl_signer.specs.SignerConnections.{FramesAnswer, HasEnded, IsNewConnection, LeadsOn, TakesAnswer};
+    ghost use Rattle.reg_crl_signer.specs.SignerConnections.{FailedUnanswered, FramesAnswer, HasEnded, IsNewConnection, LeadsOn, TakesAnswer};
 
     /// A connection for one message, whose answer is awaited, though the message is not sent yet.
     pub fn for_one(alloc: Global, stream: S) -> SignerConnection<S>
@@ -92,6 +92,15 @@ impl<S: Drop> SignerConnection<S> {
             Progress::Idle | Progress::Waiting => false,
             Progress::Arrived | Progress::Failed => true,
         }
+    }
+
+    /// Whether the connection is persistent and failed before a byte of the answer came, as when its signer has ended.
+    pub fn failed_unanswered(&self) -> bool
+        ensures { IsTrue result ↔ FailedUnanswered self.now }
+    {
+        self.framing == Framing::ByLength
+            && self.progress == Progress::Failed
+            && self.received.is_empty()
     }
 
     /// The answer, once it has arrived. On a persistent connection the next message may be sent then. `None` also if there is no memory.

@@ -335,12 +335,19 @@ impl<H: Handler> EventLoop<H> {
             deadline,
         } = wanted;
         let has_arrived = self.signatures.has_arrived(index);
-        if has_arrived || deadline <= now || !self.http.is_waiting(requester) {
-            let request = self.signatures.take(index);
-            let mut answered = if has_arrived { request } else { None };
-            self.complete(requester, &mut answered, handler, now);
-            self.signatures.keep(index, answered, &self.shared.poller);
+        let is_awaited = deadline > now && self.http.is_waiting(requester);
+        if is_awaited && !has_arrived {
+            return;
         }
+        let request = self.signatures.take(index);
+        let mut answered = if has_arrived { request } else { None };
+        if is_awaited && failed_unanswered(&answered) {
+            // The place has no kept connection now, so this request is sent on a new one.
+            self.request(wanted, index, handler, now);
+            return;
+        }
+        self.complete(requester, &mut answered, handler, now);
+        self.signatures.keep(index, answered, &self.shared.poller);
     }
 
     /// Finishes the answer of a waiting connection, with the signature from its request or without one, and sends it.
@@ -355,5 +362,12 @@ impl<H: Handler> EventLoop<H> {
             connection.complete(handler, answered, now);
             self.send_on(requester.slot, connection, 0, now);
         }
+    }
+}
+
+fn failed_unanswered(request: &Option<SignatureRequest>) -> bool {
+    match request {
+        Some(request) => request.failed_unanswered(),
+        None => false,
     }
 }
