@@ -27,8 +27,8 @@ pub fn without_a_key_only_digests_are_made<D: Device>()
     ensures { IsDigestSigner (SignsByKeyOrDigest D.answers) digest }
 {}
 
-/// A stop at any moment of a job leaves the records that its replies reported, or those after the call that it interrupted. A closing leaves the
-/// records that its replies reported.
+/// A stop at any moment of a job leaves the records that its replies reported, or those after the call that it interrupted. A closing without an
+/// error leaves the records that its replies reported.
 ///
 /// After a job opened a register, and until it closes it, [`perform`](crate::perform) changes the register's records only as the replies report
 /// (`UsesRegister` of reg_desk_service). A register of this program's version that is opened has the sound records that its file showed (`begins`).
