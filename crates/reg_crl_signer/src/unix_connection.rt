@@ -37,7 +37,7 @@ impl Read for UnixConnection {
                 .set_read_timeout(Some(time_left_now(&self.rt, self.began)?))?;
             match self.stream.read(buf) {
                 Err(error) if error.kind() == ErrorKind::Interrupted => {}
-                ended => return ended,
+                outcome => return outcome,
             }
         }
         Err(io::Error::from(ErrorKind::TimedOut))
@@ -52,7 +52,7 @@ impl Write for UnixConnection {
                 .set_write_timeout(Some(time_left_now(&self.rt, self.began)?))?;
             match self.stream.write(piece) {
                 Err(error) if error.kind() == ErrorKind::Interrupted => {}
-                ended => return ended,
+                outcome => return outcome,
             }
         }
         Err(io::Error::from(ErrorKind::TimedOut))

@@ -36,7 +36,7 @@ impl<T: Drop> Slots<T> {
 
     pub(crate) fn get(&self, slot: usize) -> Option<&T> {
         match self.entries.get(slot) {
-            Some(entries) => entries.as_ref(),
+            Some(entry) => entry.as_ref(),
             None => None,
         }
     }
@@ -44,14 +44,14 @@ impl<T: Drop> Slots<T> {
     /// Takes the connection out of a slot, which stays reserved.
     pub(crate) fn take(&mut self, slot: usize) -> Option<T> {
         match self.entries.get_mut(slot) {
-            Some(entries) => entries.take(),
+            Some(entry) => entry.take(),
             None => None,
         }
     }
 
     pub(crate) fn put(&mut self, slot: usize, connection: T) {
-        if let Some(entries) = self.entries.get_mut(slot) {
-            *entries = Some(connection);
+        if let Some(entry) = self.entries.get_mut(slot) {
+            *entry = Some(connection);
         }
     }
 }
