@@ -33,21 +33,21 @@ use Rattle.reg_desk_cli.specs.declared.job.Usage.{Usage}
 use Rattle.reg_desk_cli.specs.declared.job.ScriptOptions.{ScriptOptions}
 use Rattle.reg_desk_cli.specs.declared.job.Usage.TheVariants.{Help, Version, Bad, Memory}
 
--- the number of an option, or the default if the option is not given
+-- the number of an option, or the default if the option is not given; `None` if its value is no number
 abbrev pub value_or_default : ℕ → Text → List Row → Option ℕ
 value_or_default usual id rows = option_map_or number_of (first_of id rows) (Some usual)
 
--- the number of an option, if it is given
+-- the number of an option; `Some None` if the option is not given, `None` if its value is no number
 abbrev pub given : Text → List Row → Option (Option ℕ)
 given id rows =
     option_map_or (λ text. option_map (λ n. Some n) (number_of text)) (first_of id rows) (Some None)
 
--- the number of an option, within bounds
+-- the number of an option; `None` if it is not given, no number, or out of bounds
 abbrev pub number_in : ℕ → ℕ → Text → List Row → Option ℕ
 number_in least most id rows =
     option_and_then (within least most) (option_and_then number_of (first_of id rows))
 
--- the signer, with both options or neither; one option alone is an error, and so is an unknown name of an algorithm
+-- the signer; `Some None` with neither option; `None` with one option alone, or an unknown name of an algorithm
 abbrev pub signer_of_options : Option Text → Option Text → Option (Option SignerAddress)
 signer_of_options (Some socket) (Some name) =
     option_map (λ algorithm. Some (record { socket = socket; algorithm = algorithm })) (algorithm_named name)
@@ -59,7 +59,7 @@ signer_of_options None None = Some None
 abbrev pub signer_by_options : Text → Text → List Row → Option (Option SignerAddress)
 signer_by_options socket algorithm rows = signer_of_options (first_of socket rows) (first_of algorithm rows)
 
--- the signer, if one is given
+-- the signer of `--signer` and `--algorithm`
 abbrev pub signer_in : List Row → Option (Option SignerAddress)
 signer_in rows = signer_by_options (codes "signer") (codes "algorithm") rows
 
@@ -97,7 +97,7 @@ chosen None true false = Some None
 chosen None false true = Some None
 chosen None true true = None
 
--- the signer of CRLs, from `--signer` with `--algorithm`; none with `--unsigned`, or with neither and a responder
+-- the signer of CRLs, from `--signer` with `--algorithm`; `Some None` with `--unsigned`, or with neither and a delegated responder
 abbrev pub signer_or_unsigned : ResponderChoice → List Row → Option (Option SignerAddress)
 signer_or_unsigned responder rows =
     option_and_then (λ signer. chosen signer (has_flag (codes "unsigned") rows) (has_own_key responder))
@@ -164,12 +164,12 @@ script_of rows = do
   signer ← signer_in rows
   script_by (first_of (codes "file") rows) signer (script_options_in rows)
 
--- a moment that is given, if one is
+-- the moment of an option; `Some None` if the option is not given, `None` if its value is no moment
 abbrev pub moment_given : Text → List Row → Option (Option ℕ)
 moment_given id rows =
     option_map_or (λ text. option_map (λ moment. Some moment) (moment_of text)) (first_of id rows) (Some None)
 
--- the moment of an import, or `None` for that of the machine's clock: exactly one of `--now` and `--clock` is given
+-- the moment of an import; `Some None` for that of the machine's clock; `None` unless exactly one of `--now` and `--clock` is given
 abbrev pub one_moment : Option ℕ → Bool → Option (Option ℕ)
 one_moment (Some now) false = Some (Some now)
 one_moment None true = Some None
@@ -230,7 +230,7 @@ open_of rows = do
     published = first_of (codes "published") rows;
   }))
 
--- the terms of the orders, if they are given
+-- the terms of the orders; `Some None` if `--orders` is not given, `None` if its values are not two numbers
 abbrev pub order_terms_given : List Row → Option (Option OrderTerms)
 order_terms_given rows =
     option_map_or (λ texts. option_map (λ terms. Some terms) (order_terms_of texts))
@@ -273,7 +273,7 @@ key_id_of rows = do
 abbrev pub form_in : List Row → Format
 form_in rows = if has_flag (codes "json") rows then Json else Csv
 
--- the text of an option, if it is given: for `label_given` 1 to 64 bytes, for `prefix_given` 1 to 40 hexadecimal digits
+-- the text of an option, for `label_given` 1 to 64 bytes, for `prefix_given` 1 to 40 hexadecimal digits; `Some None` if the option is not given
 abbrev pub label_given : Text → List Row → Option (Option Text)
 label_given id rows =
     option_map_or (λ text. option_map (λ label. Some label) (label_of text)) (first_of id rows) (Some None)

@@ -8,7 +8,7 @@ use Rattle.reg_desk_cli.specs.declared.table.CommandEntry.{CommandEntry}
 use Rattle.reg_desk_cli.specs.declared.table.Part.{Part}
 use Rattle.reg_desk_cli.specs.declared.table.Part.TheVariants.{RequiredArgument, OptionalArgument, Rest, RequiredOption, Renamed, OptionalOption, Several, Flag}
 
--- an argument or an option
+-- the rule of an argument or an option
 abbrev pub rule_of_part : Part → Rule
 rule_of_part (RequiredArgument id name help) = must id.now
 rule_of_part (OptionalArgument id name help) = may id.now
@@ -19,7 +19,7 @@ rule_of_part (OptionalOption id name help) = takes_value id.now
 rule_of_part (Several id names help) = takes_several id.now (length names.now)
 rule_of_part (Flag id help) = flag id.now
 
--- a command
+-- the command line of one command
 abbrev pub app_of_entry : CommandEntry → App
 app_of_entry entry = with_rules (new_app entry.name.now) (map rule_of_part entry.parts.now)
 

@@ -9,7 +9,7 @@ use Rattle.reg_desk_cli.specs.declared.job.OrderTerms.{OrderTerms}
 abbrev pub within : ℕ → ℕ → ℕ → Option ℕ
 within least most n = if nat_le least n && nat_le n most then Some n else None
 
--- the step with a moment and days, if the texts are these
+-- the step with this moment and these days; none if the first text is no moment, or the second no number
 abbrev pub step_from : List ℕ → List ℕ → Option (ℕ × ℕ)
 step_from from days =
     option_and_then (λ days. option_map (λ from. (from, days)) (moment_of from)) (number_of days)
@@ -18,7 +18,7 @@ step_from from days =
 unfoldable pub step_of : List ℕ → Option (ℕ × ℕ)
 step_of text = step_from (before_first (λ b. b == 61) text) (after_first (λ b. b == 61) text)
 
--- the terms of an order, if the texts are the subscriber's id and the days
+-- the terms of an order, if there are two texts, both numbers: the subscriber's id and the days
 abbrev pub order_terms_of : List (List ℕ) → Option OrderTerms
 order_terms_of (subscriber ∷ days ∷ []) =
     option_and_then
@@ -28,7 +28,7 @@ order_terms_of [] = None
 order_terms_of (text ∷ []) = None
 order_terms_of (first ∷ second ∷ third ∷ rest) = None
 
--- each of the texts is a step
+-- the steps that the texts are; none if one of them is no step
 abbrev pub steps_of : List (List ℕ) → Option (List (ℕ × ℕ))
 steps_of [] = Some []
 steps_of (text ∷ rest) =

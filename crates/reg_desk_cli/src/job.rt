@@ -189,7 +189,7 @@ pub enum Job<'a> {
         rows: Argument<'a>,
         task: RowTask,
     },
-    /// Sends the accepted commands of the log at a path to the control socket at a path again.
+    /// Sends the accepted commands of the log file `log` to the control socket at `control_path` again.
     Replay {
         control_path: Argument<'a>,
         log: Argument<'a>,
