@@ -4,7 +4,7 @@ use Rattle.std.specs.Io.KnownBytes.{Appends, Consumes, IsAtEnd}
 use Rattle.reg_crl_signer.specs.Announcement.{signature_in}
 
 module _ {L : Type 0} (remaining contents : L → Option (List ℕ)) (finished : L → L → Type 0) where
-  -- The whole message was sent, then the sending side was shut down, and then octets were received, up to the end. The answer is the signature in them.
+  -- The whole message was sent, the sending side was shut down, and octets were received up to the end. The answer is the signature in them.
   pub record ExchangesMessage (link : L) (message answer : List ℕ) : Type 0 where
     pub sent : L
     pub told : L

@@ -9,7 +9,7 @@ use Rattle.reg_crl_signer.specs.declared.signer_connection.Progress.{Progress}
 use Rattle.reg_crl_signer.specs.declared.signer_connection.Progress.TheVariants.{Idle, Waiting, Arrived, Failed}
 use Rattle.reg_crl_signer.specs.declared.signer_connection.SignerConnection.{SignerConnection}
 
--- this many messages were sent, and this many answers were taken: each message has its answer, but for the last one while its answer is awaited
+-- this many messages were sent, and this many answers were taken: one for each message, but for the last one until its answer is taken
 abbrev pub HasAnswered : Progress → ℕ → ℕ → Type 0
 HasAnswered Idle messages answers = messages ≡ answers
 HasAnswered Waiting messages answers = messages ≡ answers + 1

@@ -37,11 +37,11 @@ module _ {S : Type 0} where
     pub progress_is : it.progress ≡ progress
     pub none : it.received.items ≡ []
 
-  -- the connection is persistent, and failed before an octet of the answer came
+  -- the connection is persistent, and failed without a stored octet of the answer
   abbrev pub FailedUnanswered : SignerConnection S → Type 0
   FailedUnanswered it = (it.framing ≡ ByLength) × (it.progress ≡ Failed) × (it.received.items ≡ [])
 
-  -- Octets came, and were appended to those received, unless the connection failed. If none was awaited, and one came, it failed.
+  -- Octets came, and were appended to those received, unless the connection failed. It is idle only if it was idle before and no octet came.
   pub record Receives (remaining : S → Option (List ℕ)) (old new : SignerConnection S) : Type 0 where
     pub came : List ℕ
     pub consumed : Consumes (remaining old.stream) (remaining new.stream) came

@@ -49,7 +49,7 @@ impl Backoff {
     }
 }
 
-/// A device with a back-off. After the device failed to answer for ten seconds or more, exchanges fail for ten seconds, and the device is not asked.
+/// A device with a back-off. If an exchange takes ten seconds or more and fails, exchanges in the next ten seconds fail without asking the device.
 /// [`Device::reset_backoff`] ends that. While the clock can't be read, each exchange asks the device.
 #[derive(Drop)]
 pub struct BackoffDevice<D: Device, C: Clock> {

@@ -36,8 +36,8 @@ pub trait DeviceConnection: Read + Write {
         ensures { OnOk result (finished self.old self.new) };
 }
 
-/// A device that listens at a path. Each exchange opens a connection, sends the message and shuts down the sending side. The
-/// answer is all that the device sends until it closes the connection, without an announcement of persistent connections before it.
+/// A device that listens at a path. Each exchange opens a connection, sends the message, shuts down the sending side, and reads up to the end, which
+/// must come before `room` is full. The answer is what was read, without an announcement of persistent connections at its beginning.
 #[derive(Drop)]
 pub struct SocketDevice<L: DeviceConnection> {
     rt: HostRuntime,

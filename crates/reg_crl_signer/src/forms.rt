@@ -7,10 +7,10 @@ ghost use Rattle.reg_crl_signer.specs.Forms.{HasForm, IsEcdsaValue, HasKeyForm, 
 use crate::algorithm::Algorithm;
 use crate::numbers::octets_of_pair;
 
-/// How many octets a coordinate of a point of P-256 has (SEC 1 2.3.5), and r and s of a signature have at most.
+/// The octets of a coordinate of a point of P-256 (SEC 1 2.3.5), and the most octets of r and of s in a signature.
 const P256_OCTETS: usize = 32;
 
-/// How many octets a coordinate of a point of P-384 has, and r and s of a signature have at most.
+/// The octets of a coordinate of a point of P-384, and the most octets of r and of s in a signature.
 const P384_OCTETS: usize = 48;
 
 /// How many octets a public key of Ed25519 has (RFC 8032 5.1.5).

@@ -23,7 +23,7 @@ pub enum RegisterSigner<D: Device> {
 }
 
 impl<D: Device + Drop> RegisterSigner<D> {
-    /// The same signer; but instead of the placeholder digest `NoSigner`, with 0 as the count of failures.
+    /// The same signer, except that `NoSigner`, with no failure counted, replaces the placeholder digest.
     pub fn without_digest(self) -> RegisterSigner<D>
         ensures key { key_of D.Device result ≡ key_of D.Device self }
         ensures same_identity { register_signer_identity D.Device result

@@ -29,7 +29,7 @@ pub struct SignatureRequest {
 
 impl SignatureRequest {
     /// Asks the signer at a path to sign a message: on the kept connection if its signer is at this path and it still works, or else on a new one,
-    /// for this message alone. Errors: those of [`SignatureRequest::connect`]; out of memory; `BrokenPipe` if the message can't be sent at once (a
+    /// for this message alone. Errors: those of [`SignatureRequest::connect`]; out of memory; `BrokenPipe` if sending it fails or would block (a
     /// message of several hundred thousand bytes may not fit into the socket's buffer); those of the shutdown of the sending side.
     pub fn send_to(
         rt: &HostRuntime,
@@ -79,13 +79,13 @@ impl SignatureRequest {
         self.path.as_str() == path && self.message.as_slice() == message
     }
 
-    /// Reads what has come, without blocking. Returns whether nothing more is awaited: the answer has arrived, or none will.
+    /// Reads what has come, without blocking. Returns `true` if the answer has arrived, or none will.
     pub fn receive(&mut self) -> bool {
         self.connection.receive();
         self.connection.has_ended()
     }
 
-    /// Whether a kept connection failed before a byte of the answer came, as when the signer was restarted: on a new one the message may be signed.
+    /// Whether a kept connection failed without a stored byte of the answer, as when the signer was restarted. A new one may get a signature.
     pub fn failed_unanswered(&self) -> bool {
         self.connection.failed_unanswered()
     }
@@ -103,8 +103,8 @@ impl SignatureRequest {
         Some(signature)
     }
 
-    /// Whether the connection can be used for a later request, after the answer was taken. If the answer announced persistent connections, this
-    /// request connects to the signer anew.
+    /// Whether a later request can use the connection, once the answer was taken. If the answer announced persistent connections, replaces
+    /// the connection by a new, persistent one; `false` if that fails.
     pub fn can_be_kept(&mut self) -> bool {
         if self.is_announced {
             self.is_announced = false;
@@ -120,13 +120,13 @@ impl SignatureRequest {
         Ok(())
     }
 
-    /// Whether a poller polls the connection.
+    /// Whether the connection was registered with a poller. `deregister` does not change this.
     pub fn is_registered(&self) -> bool {
         self.is_registered
     }
 }
 
-/// Sends a message on the kept connection of an earlier request. `None` if its signer is at another path, and if the message can't be sent at once.
+/// Sends a message on the connection of `kept`. `None` if there is none, if its signer is at another path, or if sending fails or would block.
 fn send_on_kept(
     kept: Option<SignatureRequest>,
     path: &str,

@@ -50,7 +50,7 @@ impl<D: Device + Drop> DeviceSigner<D> {
     }
 
     /// Presets the next signature: the answer that another caller got for a message from the device at the same path. The next `sign` then doesn't
-    /// ask the device, and fails if the preset has no answer or is for another message. `None` removes the preset.
+    /// ask the device. It fails if the preset is for another message or has no answer in the form of a signature. `None` removes the preset.
     pub fn set_preset(&mut self, preset_signature: Option<PresetSignature>)
         requires { IsPreset (D.answered_another_caller (D.device_path self.old.device)) preset_signature }
         ensures preset_signature { self.new.preset_signature ≡ preset_signature }

@@ -8,19 +8,19 @@ use reg_io::write_whole;
 use std::alloc::Global;
 use std::io::{ErrorKind, Read, Write};
 
-/// The most bytes of a message on a persistent connection: the first byte of its length is 0.
+/// The most bytes of a message on a persistent connection. The first byte of its length is 0, by which the signer recognizes such a connection.
 const LONGEST_MESSAGE: usize = 16_777_215;
 
 /// The most bytes of one read.
 const READ_BYTES: usize = 512;
 
-/// The most reads for one answer: each but the last has a byte of it, or the answer is too long.
+/// The most reads for one answer. Even if each read gives only one byte, the answer is whole by then, or longer than `LONGEST_ANSWER`.
 const MOST_READS: usize = LENGTH_BYTES + LONGEST_ANSWER + 2;
 
 /// How a message and its answer end.
 #[derive(Clone, Copy, PartialEq, Eq)]
 pub enum Framing {
-    /// Each ends with its side of the connection, which is for one message.
+    /// Each ends where its sender ends its side of the connection, which is for one message.
     ByEnd,
     /// Its length precedes it, in four bytes, big-endian: the connection is persistent.
     ByLength,
@@ -94,7 +94,7 @@ impl<S: Drop> SignerConnection<S> {
         }
     }
 
-    /// Whether the connection is persistent and failed before a byte of the answer came, as when its signer has ended.
+    /// Whether the connection is persistent and failed without a stored byte of the answer, as when its signer has ended.
     pub fn failed_unanswered(&self) -> bool
         ensures { IsTrue result ↔ FailedUnanswered self.now }
     {
@@ -103,7 +103,7 @@ impl<S: Drop> SignerConnection<S> {
             && self.received.is_empty()
     }
 
-    /// The answer, once it has arrived. On a persistent connection the next message may be sent then. `None` also if there is no memory.
+    /// Takes the answer, if it has arrived. After that a persistent connection is idle. `None` also if there is no memory.
     pub fn take_answer(&mut self, alloc: Global) -> Option<Vec<u8>>
         ensures taken { IfSome result (λ answer. TakesAnswer self.old self.new answer.items) }
         ensures short { IfSome result (λ answer. length answer.items ≤ 4096) }
@@ -117,7 +117,7 @@ impl<S: Drop> SignerConnection<S> {
         Some(answer)
     }
 
-    /// The answer in the bytes that came, of which more may come. `None` if there is none of at most 4,096 bytes.
+    /// The answer that the received bytes make, if no more come. `None` if they make none, or one of more than 4,096 bytes.
     fn answer(&self) -> Option<&[u8]>
         ensures is { IfSome result (λ answer. FramesAnswer self.now.framing self.now.received.items answer.now) }
         ensures short { IfSome result (λ answer. length answer.now ≤ 4096) }

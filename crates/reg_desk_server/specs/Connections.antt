@@ -89,8 +89,8 @@ module _ {H T : Type 0} (answers : H → List ℕ → Outcome T → H → Type 0
   IsAnsweredAtMostOnce finishes arrived gone stage.Draining ended = WasAnswered finishes arrived gone
 
 module _ {S H T L : Type 0} (contents remaining : S → Option (List ℕ)) (g : Ghosts H T L) where
-  -- the request of an HTTP connection was answered at most once, by the bytes that came and were sent since it was accepted; the connection has ended
-  -- if it has a fault
+  -- the bytes that came and that were sent since an HTTP connection was accepted are as `IsAnsweredAtMostOnce` states; a connection with a fault has
+  -- ended
   pub record IsServedOnce (first : S) (connection : HttpConnection S H T L) : Type 0 where
     pub arrived : List ℕ
     pub gone : List ℕ

@@ -7,8 +7,8 @@ pub data Input : Type 0 where
   request : List ℕ → Input
   lines : List ℕ → Input
 
--- the outcome of an input: the text that answers it, for lines their replies; or the ticket of an answer that is left to be signed, and that a text finishes later; or nothing
--- yet, for a line that is answered later, perhaps with a signature
+-- the outcome of an input: the text that answers it (for lines, their replies); the ticket of an answer that is left to be signed, which a text
+-- finishes later; or nothing yet, for a line that is answered later, perhaps with a signature
 pub data Outcome (T : Type 0) : Type 0 where
   said : List ℕ → Outcome T
   pending : T → Outcome T

@@ -21,7 +21,7 @@ const LONGEST_LINE: usize = 8_194;
 
 const MOST_READS: usize = 4;
 
-/// The most lines that are passed to the handler at once. Other connections wait while it answers them.
+/// The most lines that one call passes to the handler. Other connections wait while it answers them.
 const MOST_LINES: usize = 256;
 
 /// How often, at most, a line's signature is requested in the background. After that, answering the line blocks the loop while the signer signs.
@@ -184,7 +184,7 @@ impl<S: Link> ControlConnection<S> {
         lines_end(self.arrived.as_slice())
     }
 
-    /// Passes the whole lines, at most `MOST_LINES`, to the handler, which answers one or several of them, if the replies before them were sent. The
+    /// If the replies before them were sent, passes the whole lines, at most `MOST_LINES`, to the handler, which answers one or several of them. The
     /// error is that of [`Handler::answer_lines`].
     pub fn answer_lines<H: Handler>(&mut self, handler: &mut H) -> Result<(), EventLoopFault>
         requires { H.has_control handler.old }

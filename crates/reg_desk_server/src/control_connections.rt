@@ -232,7 +232,7 @@ impl<H: Handler> ControlConnections<H> {
         Ok(())
     }
 
-    /// Answers lines of the connection in a slot, unless the first of them or an earlier line waits for a signature.
+    /// Answers lines of the connection in a slot, unless the first of them, or a line of another connection, waits for a signature.
     #[tactic(auto, using(crate::proofs::Exchanges::exchanged_none))]
     fn answer_lines_at(
         &mut self,

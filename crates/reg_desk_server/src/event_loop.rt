@@ -64,8 +64,8 @@ impl<H: Handler> EventLoop<H> {
     /// evicted. If an answer needs a signature, the loop requests it, and only that client waits. [`EventLoop::finish`] finishes the answers that
     /// still wait at the end. [`EventLoopFault`] if the system failed, or after 2^64 - 1 iterations.
     ///
-    /// An iteration reads from and writes to each ready connection without blocking, finishes each answer whose signature came, answers at most one
-    /// line of each control connection, and answers each request that is whole or of which no more is awaited.
+    /// An iteration reads from and writes to each ready connection without blocking, finishes each answer whose signature came, passes at most
+    /// 256 lines of each control connection to the handler, and answers each request that is whole or of which no more is awaited.
     #[tactic(auto, using(crate::proofs::Exchanges::exchanged_none))]
     pub fn serve_all(
         &mut self,

@@ -41,7 +41,7 @@ pub struct Deferred<T> {
     pub ticket: T,
 }
 
-/// The lines that were answered at once: how many bytes they have, with their LFs, and their replies, one after the other.
+/// The lines that one call answered: how many bytes they have, with their LFs, and their replies, one after the other.
 #[derive(Drop)]
 pub struct LineReplies {
     pub length: usize,
@@ -68,7 +68,7 @@ pub trait Handler {
     // The outcome of this request, with the handler before and after it.
     ghost answers: { Self → List ℕ → Outcome Self.Ticket → Self → Type 0 };
 
-    // The replies to one or several whole lines (the first list) are a text (the second), with the handler before and after them.
+    // One or several whole lines (the first list) get these replies, joined (the second list). The handler before and after them.
     ghost answers_lines: { Self → List ℕ → List ℕ → Self → Type 0 };
 
     // The handler does not answer this line; at most it makes the message to be signed for the line. The handler before and after it.
@@ -124,8 +124,8 @@ pub trait Handler {
         ensures err { OnErr result (self.new ≡ self.old) }
         ensures fails { OnErr result failed };
 
-    /// Requests the signature of an answer that is to be signed, without blocking. `kept` is the request of an earlier answer, whose connection may be
-    /// used again. The error is `WouldBlock` if the signer's backlog is full, or if no descriptor is left. After any other, no signature comes.
+    /// Requests the signature of an answer, without blocking. `kept` is the request of an earlier answer, whose connection may be used again. The
+    /// error is `WouldBlock` if the signer's backlog is full, or if no descriptor is left. After any other, no signature comes.
     fn request_signature(
         &self,
         ticket: &Self::Ticket,
@@ -159,8 +159,8 @@ pub trait Handler {
     /// Connects to the signer for a line, without blocking. The errors are those of [`Handler::request_signature`].
     fn connect_to_signer(&self, ticket: &Self::ControlTicket) -> io::Result<SignatureRequest>;
 
-    /// Answers a line whose message was made. `link` is the connection on which the message was sent, once it is at its end; `None` if there is no
-    /// signature. Returns `None` if another message is to be signed by now: then `defer` is to be called again. The error is as for `answer_lines`.
+    /// Answers a line whose message was made. `link` is the connection to the signer, if nothing more is awaited on it, else `None`.
+    /// Returns `None` if another message is to be signed by now: then `defer` is to be called again. The error is as for `answer_lines`.
     fn answer_deferred(
         &mut self,
         line: &[u8],

@@ -134,8 +134,8 @@ impl<S: Link, H: Handler> HttpConnection<S, H> {
         self.deadline <= now
     }
 
-    /// Keeps and returns the fault of a connection that is to be answered: its time is up before its request is whole, a read failed, there was no
-    /// memory, or it is evicted. `None` if there is none (the client may have closed its side), or if the connection no longer receives.
+    /// Keeps and returns the fault of a connection that is to be answered: its time is up before its request is whole, a read or a registration with
+    /// the poller failed, there was no memory, or it is evicted. `None` if there is none (the client may have half-closed), or in a later stage.
     pub fn record_fault(&mut self, now: u64) -> Option<ConnectionFault>
         ensures same_link { self.new.link ≡ self.old.link }
         ensures kept { KeepsReceived self.old.stage self.new.stage }

@@ -15,7 +15,7 @@ use std::alloc::{AllocError, Global};
 use std::io;
 use std::io::ErrorKind;
 
-/// How many HTTP connections can be open at once. All descriptors of the program but those to the signer stay within the usual limit of 1,024.
+/// The most HTTP connections that can be open. All descriptors of the program but those to the signer stay within the usual limit of 1,024.
 pub const MOST_HTTP_CONNECTIONS: usize = 1_000;
 
 /// The most unsent bytes of all HTTP connections together: 64 MiB.

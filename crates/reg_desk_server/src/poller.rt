@@ -20,7 +20,7 @@ const EMFILE: i32 = 24;
 
 const ENFILE: i32 = 23;
 
-/// How many signatures for HTTP answers can be requested at once.
+/// How many signatures for HTTP answers can be awaited at the same time.
 pub(crate) const MOST_SIGNATURES: usize = 32;
 
 /// The tokens of the listeners. After them come those of the control connections, of the signature requests, of the connection to the signer for

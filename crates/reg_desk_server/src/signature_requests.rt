@@ -81,7 +81,7 @@ impl SignatureRequests {
             .is_ok()
     }
 
-    /// The longest time that the loop may block: zero while `polls` are left, of which this call uses one; `PAUSE_MILLIS` during a pause; else no limit.
+    /// How long the loop may block: not at all while `polls` are left, of which this call uses one; `PAUSE_MILLIS` in a pause; else without limit.
     pub(crate) fn longest_wait(&mut self) -> Duration {
         if self.polls > 0 {
             self.polls = self.polls.saturating_sub(1);
@@ -108,7 +108,7 @@ impl SignatureRequests {
     /// Puts a signature back at the head of the queue, because its request would have blocked, and begins a pause.
     pub(crate) fn requeue(&mut self, wanted: WantedSignature, now: u64) {
         self.paused = Some(now.saturating_add(PAUSE_MILLIS));
-        // There is capacity for it: it was taken from there.
+        // If out of memory for it, its connection is closed once the time of that connection is up.
         let _ = self.queue.push_front(wanted);
     }
 

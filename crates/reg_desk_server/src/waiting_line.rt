@@ -12,7 +12,7 @@ use std::io::ErrorKind;
 /// How many milliseconds a signature may take, from the iteration in which its message was made.
 const TIMEOUT_MILLIS: u64 = 10_000;
 
-/// The progress of a signature: its message is being sent; the signer's answer is awaited; it has arrived; or none will come.
+/// The progress of a signature: its message is being sent; the signer's answer is awaited; nothing more is awaited; or the message can't be sent.
 #[derive(Clone, Copy)]
 enum Progress {
     Sending,
@@ -117,7 +117,7 @@ impl<H: Handler> WaitingLine<H> {
         };
     }
 
-    /// The slot, its connection, the message with its ticket, and, if the answer has arrived, the connection to the signer.
+    /// The slot, its connection, the message with its ticket, and the connection to the signer, if nothing more is awaited on it.
     pub(crate) fn into_parts(
         self,
     ) -> (
