@@ -52,7 +52,7 @@ GoesOn input input' taken piece_end.Full = Consumes input input' taken
 GoesOn input input' taken piece_end.Cut = (left : List ℕ) × IsCutOff left × IsInput input (taken ++ left)
 GoesOn input input' taken piece_end.End = IsInput input taken
 
--- the next lines of an input: at most `most`, and as many unless it has no further line
+-- the next lines of an input: at most `most`, and fewer only if no further line ends with an LF
 pub record IsPiece (most : ℕ) (input input' : Option (List ℕ)) (piece : Piece) : Type 0 where
   pub lines : List (List ℕ)
   pub whole : AreWhole lines

@@ -80,7 +80,7 @@ request_named (number ∷ digits ∷ []) = decision_by number digits
 request_named (number ∷ digits ∷ word ∷ []) = request_by number digits word
 request_named (number ∷ digits ∷ word ∷ more ∷ rest) = None
 
--- the meaning of the fields after the answer, the first of which is empty: bytes, microseconds, `request` and the request; `None` if they name none
+-- the meaning of the fields after the answer, of which the first is empty: length, microseconds, `request` and the request; `None` if they name none
 unfoldable pub named_in : List (List ℕ) → Option LogMeaning
 named_in [] = None
 named_in (empty ∷ []) = None

@@ -39,13 +39,13 @@ missing_text records number serials =
     missing_crl (option_map row_of (latest records.crls)) number
     ++ flat_map (missing_at records records.last) serials
 
--- why nothing is found: `NotACrl`, and `NoCrl` holds; or any fault
+-- why a comparison fails: `NotACrl`, and then `NoCrl` is true; or any fault
 abbrev pub FindsNothing : Type 0 → Failure → Type 0
 FindsNothing NoCrl failure.NotACrl = NoCrl
 FindsNothing NoCrl (failure.Fault why) = Unit {0}
 FindsNothing NoCrl other = ⊥
 
--- the lines for the missing serial numbers of entries were appended; or nothing was found, for example because the bytes are no entries
+-- the lines for the missing serial numbers of entries were appended; or the comparison failed, for example because the bytes are no entries
 abbrev pub AppendsMissing : Records → ℕ → List ℕ → List ℕ → List ℕ → Result (Unit {0}) Failure → Type 0
 AppendsMissing records moment entries old new (Ok done) =
     (serials : List ℕ) × AreEntries entries serials []
@@ -53,7 +53,7 @@ AppendsMissing records moment entries old new (Ok done) =
 AppendsMissing records moment entries old new (Err why) =
     FindsNothing ((serials : List ℕ) → ¬ AreEntries entries serials []) why
 
--- the lines for the items of the CRL in these bytes that the records lack; or nothing was found, for example because the bytes are no CRL
+-- the lines for the items of the CRL in these bytes that the records lack; or the comparison failed, for example because the bytes are no CRL
 abbrev pub FindsMissing : Records → List ℕ → Result (List ℕ) Failure → Type 0
 FindsMissing records bytes (Ok lines) =
     (number : ℕ) × (serials : List ℕ) × IsCrlWith bytes number serials

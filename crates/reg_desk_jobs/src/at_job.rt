@@ -47,13 +47,13 @@ enum PieceEnd {
     End,
 }
 
-/// The most rows whose lines are sent before their replies are read, so that the desk can run as many in one transaction. The two never wait for each
-/// other: a row's line has at most 111 bytes, so a socket's buffer (208 KB) takes 256 lines while the desk reads nothing. The desk stops reading while
-/// a reply is unsent, but the buffer takes 278 replies, of at most 84 bytes each, while this job reads nothing.
+/// The most rows whose lines are sent before their replies are read, so that the desk can run as many in one transaction. This causes no deadlock: a
+/// row's line has at most 111 bytes, so a socket's buffer (208 KB) takes 256 lines while the desk reads nothing. The desk stops reading while a reply
+/// is unsent, but the buffer takes 278 replies, of at most 84 bytes each, while this job reads nothing.
 const MOST_IN_FLIGHT: usize = 256;
 
-/// Sends each line of standard input to the control socket at a path, once the reply to the line before has come, and writes its reply. Errors: `Read`
-/// if it can't connect there; `Memory` if out of memory for the buffers; else those of [`exchange_lines`].
+/// Sends each line of standard input to the control socket at a path, once the reply to the line before has come, and writes its reply. Errors:
+/// `Read` if it can't connect there; `Memory` if out of memory for the buffers; else those of [`exchange_lines`].
 pub fn at<M: Machine, R: Read, W: Write>(
     alloc: Global,
     machine: &M,
@@ -67,8 +67,8 @@ pub fn at<M: Machine, R: Read, W: Write>(
     exchange_at(alloc, machine, control_path, 1, reader, writer)
 }
 
-/// Sends each row of a CSV file, except its header, as a `register` line; 256 lines, or what is left of them, before it reads their replies. `Read`, and
-/// nothing is sent, if the file can't be read or has over 16 MiB.
+/// Sends each row of a CSV file, except its header, as a `register` line. Sends 256 lines, or all that are left, before it reads their replies.
+/// `Read`, and nothing is sent, if the file can't be read or has over 16 MiB. Other errors: those of [`at`].
 pub fn at_rows<M: Machine, R: Source, W: Write>(
     alloc: Global,
     machine: &M,
@@ -234,7 +234,7 @@ fn next_piece<R: BufRead>(alloc: Global, most: usize, input: &mut R) -> Result<P
     })
 }
 
-/// Reads as many replies, and writes each once it has come. Returns whether none was a refusal or a fault.
+/// Reads `count` replies, and writes each once it has come. Returns whether none was a refusal or a fault.
 fn pass_replies<W: Write, C: BufRead>(
     alloc: Global,
     count: usize,

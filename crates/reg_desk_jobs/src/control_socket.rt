@@ -13,8 +13,8 @@ use std::io::ErrorKind;
 const OWNER_ONLY: u32 = 0o600;
 
 /// Creates a Unix socket at a path to which only its owner may connect, and listens on it without blocking. A stale socket, on which no program
-/// listens, is replaced, by exactly one of the desks that try at once. Errors: `AddrInUse` if a socket is there that does not refuse connections, or
-/// if a program keeps the folder locked for ten seconds; `AlreadyExists` if something else than a socket is there; others are the system's.
+/// listens, is replaced; if several desks try at the same time, one does. Errors: `AddrInUse` if a socket is there that does not refuse connections,
+/// or if a program keeps the folder locked for ten seconds; `AlreadyExists` if something else than a socket is there; others are the system's.
 pub(crate) fn create_control_socket<M: Machine>(machine: &M, path: &str) -> io::Result<UnixListener>
     ensures { OnOk result (IsControlSocket M.socket_created M.has_mode path.now) }
 {

@@ -52,10 +52,10 @@ impl<'a, M: Machine> Host for ScriptHost<'a, M> {
     }
 }
 
-/// Runs the script of standard input over the register at a path, with these options. A strict script ends at the first refusal or fault (`Refused`), and
-/// runs no last line without its line end (`NoLineEnd`). If it ends at a registration with E08, E09 or E12, the reason is kept in `reason`. If the
-/// register's CRL 1 gets a placeholder digest, the job warns on standard error. With `--clock`, no line runs if the clock is more than 30 days past
-/// the last accepted moment (`BadClock`), unless the operator accepts that. Other errors: those of [`script`](crate::script).
+/// Runs the script of standard input over the register at a path, with these options. A strict script ends at the first refusal or fault (`Refused`),
+/// and runs no last line without its line end (`NoLineEnd`). If it ends at a registration with E08, E09 or E12, the reason is kept in `reason`. If
+/// the register's CRL 1 gets a placeholder digest, the job warns on standard error. With `--clock`, no line runs if the clock is more than 30 days
+/// past the last accepted moment (`BadClock`), unless the operator accepts that. Other errors: those of [`script`](crate::script).
 pub fn script_by_lines<M: Machine, R: Source, W: Sink>(
     alloc: Global,
     machine: &mut M,

@@ -16,7 +16,7 @@ pub(crate) struct ExchangeText<'a> {
     pub(crate) client: &'a [u8],
     pub(crate) asked: &'a [u8],
     pub(crate) answered: &'a [u8],
-    /// After a space, which makes the first field empty: the answer's bytes, the microseconds, and perhaps `request ..` or `signer`.
+    /// A space, so that the first field is empty; then the answer's length, the microseconds, and perhaps `request ..` or `signer`.
     pub(crate) after_answer: &'a [u8],
 }
 
@@ -101,7 +101,7 @@ pub(crate) fn log_meaning_of(logged_exchange: &ExchangeText<'_>) -> LogMeaning
     }
 }
 
-/// The meaning of an exchange that names a request, in the fields after the answer's bytes and time; `None` if they name none.
+/// The meaning of an exchange that names a request, in the fields after the answer's length and the microseconds; `None` if they name none.
 #[tactic(auto, unfolding(crate::specs::LogEntries::named_in))]
 fn named_in(after_answer: &[u8]) -> Option<LogMeaning>
     ensures { result ≡ named_in (fields_of after_answer.now) }

@@ -136,7 +136,7 @@ fn replay_line<W: Write, C: BufRead, S: Write>(
                 )
             }
         },
-        // Only a part of an exchange; or, without a quotation mark, no exchange, but for example the fault of a connection.
+        // With a quotation mark it is a part of an exchange; without one it is none, but for example the fault of a connection.
         None if has_quote(text) => stop(writer, line),
         None => Ok(()),
     }

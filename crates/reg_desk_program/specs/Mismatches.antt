@@ -7,7 +7,7 @@ use Rattle.reg_crl_signer.specs.Algorithms.{identifier_of}
 use Rattle.reg_crl_signer.specs.Signed.{IsCrlWithAlgorithm}
 use Rattle.reg_crl_signer.specs.declared.algorithm.Algorithm.{Algorithm}
 
--- an algorithm of a key that is known here (RFC 5280 4.1.1.2)
+-- the AlgorithmIdentifier of a signature algorithm that is known here (RFC 5280 4.1.1.2)
 abbrev pub IsKnownAlgorithm : List ℕ → Type 0
 IsKnownAlgorithm algorithm = (known : Algorithm) × (identifier_of known ≡ algorithm)
 

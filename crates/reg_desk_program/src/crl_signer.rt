@@ -131,7 +131,7 @@ fn signer_after<C: Alter>(
 }
 
 /// The signer at this address, for the issuer's key; the placeholder digest for `None`. Nothing is sent to the signer yet. Errors: `Memory`;
-/// `BadSigner` if the key does not fit the algorithm, a cause that the host keeps.
+/// `BadSigner`, with its cause kept in the host, if the key does not fit the algorithm.
 fn open_signer(
     host: &Host<'_>,
     address: Option<&SignerAddress<'_>>,

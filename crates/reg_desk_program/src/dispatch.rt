@@ -15,8 +15,8 @@ use std::cell::Cell;
 use std::io::Write;
 
 /// Does a job on a machine, reads its input from `reader`, and writes its output to `writer`. Returns the exit status of [`status_of`]. Reports a
-/// failure to `errors`. With `is_explained`, one more line has the reason, if that is known. For status 1 this is the cause of the failure; for
-/// status 3, why the registration that ended a strict script or import was refused.
+/// failure to `errors`. With `is_explained`, one more line explains the failure, if that is known: for status 1 it has the cause; for status 3, why
+/// the registration that ended a strict script or import was refused.
 pub fn perform<M: Machine, R: Source, W: Sink, E: Write>(
     rt: &HostRuntime,
     machine: &mut M,

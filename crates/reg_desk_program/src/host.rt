@@ -95,7 +95,7 @@ impl<'a> Host<'a> {
         }
     }
 
-    /// Whether a path was claimed. If it was not, its cause is kept.
+    /// Whether a path was claimed. If it was not, the cause is kept.
     fn is_claimed(&self, claim: Result<(), ClaimFault>) -> Result<bool, Memory>
         ensures { result ≡ is_claimed claim }
     {

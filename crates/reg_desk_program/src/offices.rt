@@ -83,7 +83,7 @@ pub(crate) fn close<D: Disk + Drop>(connection: Connection<FileStore<D>>) {
 }
 
 /// Presets the next signature of the delegate if `kind` is `Answer` and a delegate responds, else of the signer of CRLs. `None` removes the preset.
-/// This contract does not limit the preset signature.
+/// Any preset is allowed here; [`Machine::set_preset`](reg_desk_service::Machine::set_preset) requires that a signer gave it.
 #[tactic(auto, using(crate::proofs::Priming::given_anyhow))]
 pub(crate) fn preset_next(
     signer: &mut FileSigner,

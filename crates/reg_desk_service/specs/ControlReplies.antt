@@ -95,7 +95,7 @@ ocsp_outcome signature_failed (Response false) =
     cond signature_failed signature_outcome.Failed signature_outcome.Made
 ocsp_outcome signature_failed other = signature_outcome.NotRequested
 
--- the effect of a line on the store: `Written` after an accepted command or a schedule that was set, `Failed` after the fault `Store` (not of a copy),
+-- the effect of a line on the store: `Written` after an accepted command, or if a schedule was set; `Failed` after the fault `Store` (not of a copy);
 -- else `Unwritten`
 abbrev pub store_effect : LineOutcome → StoreEffect
 store_effect (Completed (Command command) (Ok reply)) = effect.Written

@@ -102,7 +102,7 @@ KeepsRead tally records tally' =
     (tally' ≡ tally)
     ⊎ ((read : ReadCrl) × IsLatestRead tally records (Some read) × (tally' ≡ with_read read tally))
 
--- the reason is that the next CRL is due at once, because the latest one has no signature; or none, and the latest one does not change the due moment
+-- the reason is that the next CRL is due at once, because the latest one has no signature; `None` if the latest one does not change when it is due
 abbrev pub IsDueUnsigned : Tally → Records → Option Reason → Type 0
 IsDueUnsigned tally records (Some (Unsigned number)) =
     (read : ReadCrl) × IsLatestRead tally records (Some read) × IsTrue read.is_unsigned

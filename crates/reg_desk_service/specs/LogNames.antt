@@ -30,7 +30,7 @@ NamesDecided records line named =
     × (named.ground ≡ None)
 
 -- the request that is named for an accepted command: one that was entered, by the reply's number and the command's serial number and ground; one
--- that was decided, as it was looked up before, or none; for another command none
+-- that was decided, as it was looked up, or none; for another command none
 abbrev pub NamesAccepted : Command → Reply → Option LoggedRequest → Option LoggedRequest → Type 0
 NamesAccepted (Request serial word) (replied.Request id due) before named =
     IsSomeAnd named (λ it. (it.id ≡ id) × (it.serial ≡ serial) × (it.ground ≡ Some word))

@@ -27,7 +27,7 @@ ahead_text last = codes "the clock is more than 30 days past the last command, "
 abbrev pub text_with_number : List ℕ → ℕ → List ℕ → List ℕ
 text_with_number prefix order end = prefix ++ decimal order ++ end
 
--- the reason if a request is for another serial number than the line's: that number
+-- the reason if a request is for another serial number than the line's: the request's serial number
 abbrev pub other_text : ℕ → ℕ → List ℕ
 other_text request serial = codes "request " ++ decimal request ++ codes " is for " ++ serial_text serial
 

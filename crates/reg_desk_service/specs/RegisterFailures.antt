@@ -9,7 +9,7 @@ IsCreateFailure (failure.Fault fault) = IsOfStore fault
 IsCreateFailure failure.NotEmpty = Unit {0}
 IsCreateFailure other = ⊥
 
--- to open one: out of memory, a failure of the store, a file without a register of a version up to this program's, `bad-signer` or `bad-responder`
+-- to open one: out of memory, a failure of the store, a file without a register, a register of a newer version, `bad-signer` or `bad-responder`
 abbrev pub IsOpenFailure : Failure → Type 0
 IsOpenFailure (failure.Fault fault) = IsOfStore fault
 IsOpenFailure failure.NotARegister = Unit {0}

@@ -25,7 +25,7 @@ set_line (Err why) = failure_line why
 abbrev pub RepliesSetting : Result (Unit {0}) Failure → List ℕ → Type 0
 RepliesSetting set text = (text ≡ set_line set ++ 10 ∷ []) ⊎ (text ≡ [])
 
--- a line at the control socket that sets steps
+-- the reply to a `schedule` line with these steps, and the records before it and after it
 abbrev pub SetAt : List (ℕ × ℕ) → Records → List ℕ → Records → Type 0
 SetAt steps before text after =
     (result : Result (Unit {0}) Failure) × SetsSteps steps result before after × RepliesSetting result text

@@ -59,7 +59,7 @@ abbrev pub AnsweredByOcspSigner
 AnsweredByOcspSigner signer_answered signer responder =
     AnsweredAtPath signer_answered (answer_socket signer responder)
 
--- the signer of an issuer's key (RFC 5280 4.1.2.7): with its algorithm, or the placeholder digest
+-- the identity of a signer of CRLs: its algorithm with the issuer's key (RFC 5280 4.1.2.7); or that of the placeholder digest, without a signer
 abbrev pub identity_of_signer : Option SignerAddress → List ℕ → Identity
 identity_of_signer None key = digest
 identity_of_signer (Some address) key = identity_of address.algorithm key

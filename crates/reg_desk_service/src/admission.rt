@@ -1,5 +1,5 @@
-//! When an open desk refuses a request for revocation over HTTP. Only the refusal because the clock is too far ahead also applies to commands at the
-//! control socket, so the operator can revoke while clients flood the port.
+//! The limits of an open desk for requests for revocation over HTTP. Only the refusal because the clock is too far ahead also applies to commands at
+//! the control socket, so the operator can revoke while clients flood the port.
 
 ghost use Rattle.std.specs.Prelude.{◌≡◌, IfOk, None, replicate};
 ghost use Rattle.reg_office_api.specs.Calls.{LeadsIn, LooksIn};

@@ -143,7 +143,7 @@ fn command_line<'a>(alloc: Global, lines: &'a [u8]) -> Option<CommandLine<'a>>
     })
 }
 
-/// The command of a command line; `None` for `crl`, which may need a signature.
+/// The command of a command line; `None` for any other line, and for `crl`, which may need a signature.
 fn command_of(alloc: Global, line: &[u8]) -> Option<Command>
     ensures { IfSome result (IsCommandLine line.now) }
 {

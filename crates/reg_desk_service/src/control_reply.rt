@@ -22,7 +22,7 @@ pub(crate) enum LineOutcome {
     Done,
     /// A schedule was set, and so written to the store.
     ScheduleSet,
-    /// Any other failure: of such a word, or before a command ran, such as `bad-clock`.
+    /// Any other failure: of a word that only the control socket has, or before a command ran, such as `bad-clock`.
     Failed(Failure),
     /// No copy was created, because of this fault, which is not counted as a failure of the store.
     CopyFault(Fault),

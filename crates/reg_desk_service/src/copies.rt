@@ -67,7 +67,7 @@ pub(crate) fn path_in(line: &[u8]) -> Option<&str> {
     str::from_utf8(path).ok()
 }
 
-/// The whole milliseconds since a moment of [`Machine::micros`].
+/// The whole milliseconds since a reading of [`Machine::micros`].
 pub fn millis_since<M: Machine>(machine: &M, since: u64) -> u64 {
     machine.micros().saturating_sub(since) / 1_000
 }

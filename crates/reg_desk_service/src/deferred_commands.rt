@@ -34,7 +34,7 @@ pub enum SignatureKind {
 #[derive(Clone, Copy)]
 pub struct LineTicket {
     pub(crate) wanted: SignatureKind,
-    /// The moment for which the message was made; 1970-01-01T00:00:00Z if it is empty, in a back-off.
+    /// The moment for which the message was made; 1970-01-01T00:00:00Z if none was made, in a back-off.
     pub(crate) moment: Moment,
     /// When the desk began the line, in microseconds of the monotonic clock.
     pub(crate) began: u64,
@@ -49,7 +49,7 @@ pub(crate) struct LineSignature {
     pub(crate) preset_signature: PresetSignature,
 }
 
-/// A line's signer that gave no answer in this many milliseconds after `began` has timed out. The event loop's ten seconds begin a little earlier.
+/// A signer that has given no answer this many milliseconds after `began` has timed out. The event loop's ten seconds begin a little before `began`.
 const TIMEOUT: u64 = 9_500;
 
 fn signature_kind_by(command_line: &ParsedLine<'_>) -> Option<SignatureKind> {
@@ -213,8 +213,8 @@ fn is_past<O: Office>(office: &mut O, moment: Moment) -> bool
 }
 
 impl<'a, 'w, M: Machine> Desk<'a, 'w, M> {
-    /// The message to sign before a line can be answered, empty in a back-off. `None` if nothing is to be signed for the line, if no signer has the
-    /// key, if the clock can't be read or is too far ahead for `crl`, and if the message can't be made: then the line is answered at once.
+    /// The message to sign before a line can be answered; empty for an OCSP line in a back-off. `None` if nothing is to be signed for the line, if no
+    /// signer has the key, if the clock can't be read or is too far ahead for `crl`, and if the message can't be made: then it is answered at once.
     pub(crate) fn deferred_line(
         &mut self,
         command_line: &ParsedLine<'_>,

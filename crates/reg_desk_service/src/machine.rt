@@ -129,7 +129,7 @@ pub trait Machine {
     /// The program tried to write this line to standard error.
     ghost warned: { List ℕ → Type 0 };
 
-    /// Creates an empty file, for its owner alone, at a path where there is neither a file nor its WAL, in one step: if two programs try at once,
+    /// Creates an empty file, for its owner alone, at a path where there is neither a file nor its WAL, in one step: of two programs that try it,
     /// one succeeds. `false` if there is a file or a WAL, even as a dangling link, or if no file can be created there.
     fn claim(&mut self, path: &str) -> Result<bool, Memory>
         ensures ours { IfOk result (λ is_ours. IsTrue is_ours → claimed self.old path.now self.new) }
@@ -302,7 +302,7 @@ pub trait Machine {
         ensures reached { OnOk result (reached path.now) }
         ensures kept { IfOk result (IsSignatureRequest path.now []) };
 
-    /// The signer's answer to a request. `None` if it has not arrived, or there is no memory for it.
+    /// The signer's answer to a request. `None` if none has arrived, or there is no memory for it.
     fn receive_answer(alloc: Global, link: &mut SignatureRequest) -> Option<Vec<u8>>
         ensures given { IfSome result (λ answer.
             (path message : List ℕ) → IsSignatureRequest path message link.old
