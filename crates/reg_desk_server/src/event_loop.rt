@@ -307,7 +307,9 @@ impl<H: Handler> EventLoop<H> {
                 }
             }
             Err(error) if error.kind() == ErrorKind::WouldBlock => {
-                self.signatures.requeue(wanted, now);
+                if !self.signatures.requeue(wanted, now) {
+                    self.complete(requester, &mut None, handler, now);
+                }
             }
             Err(_) => self.complete(requester, &mut None, handler, now),
         }

@@ -105,11 +105,11 @@ impl SignatureRequests {
         Some((self.queue.pop_front()?, index))
     }
 
-    /// Puts a signature back at the head of the queue, because its request would have blocked, and begins a pause.
-    pub(crate) fn requeue(&mut self, wanted: WantedSignature, now: u64) {
+    /// Puts a signature back at the head of the queue, because its request would have blocked, and begins a pause. Returns whether there was memory
+    /// for it.
+    pub(crate) fn requeue(&mut self, wanted: WantedSignature, now: u64) -> bool {
         self.paused = Some(now.saturating_add(PAUSE_MILLIS));
-        // If out of memory for it, its connection is closed once the time of that connection is up.
-        let _ = self.queue.push_front(wanted);
+        self.queue.push_front(wanted).is_ok()
     }
 
     pub(crate) fn take_expired(&mut self, now: u64) -> Option<WantedSignature> {
