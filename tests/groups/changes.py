@@ -251,6 +251,18 @@ def pages_have_all_rows_in_their_order(t):
 
 
 @test
+def the_page_in_the_documentation(t):
+    """docs/RULES.md has the first page of the register of examples/first-day.txt."""
+    _, text = (program.TOP / "docs/RULES.md").read_text().split("$ curl -s http://127.0.0.1:8080/changes\n", 1)
+    block, _ = text.split("\n\n", 1)
+    t.register()
+    t.done("script", "ca.db", given=(program.TOP / "examples/first-day.txt").read_text())
+    t.clock("2026-01-03T00:00:00Z")
+    _, _, page = parted(t.open().ask("GET", "/changes"))
+    t.same(page.decode().splitlines(), [line.removeprefix("    ") for line in block.splitlines()], "the first page")
+
+
+@test
 def the_pages_after_each_prefix(t):
     """After the first rows of each table, the pages have the others; positions that skip a reference are positions too."""
     desk, control = opened(t)

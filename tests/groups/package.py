@@ -81,8 +81,8 @@ def built(t):
     for it in (".git", "LICENSE", "crates.txt", "CHANGELOG.md", "SECURITY.md", "signer"):
         (folder / it).symlink_to(TOP / it)
     (folder / "crates").mkdir()
-    # tools/version.sh reads the version in one, and a page links to the other.
-    for it in ("reg_desk_cli", "reg_core"):
+    # tools/version.sh reads the version in the first, and pages lead to the others.
+    for it in ("reg_desk_cli", "reg_core", "reg_core_lists"):
         (folder / "crates" / it).symlink_to(TOP / "crates" / it)
     # git does not follow a link to .gitignore.
     (folder / ".gitignore").write_bytes((TOP / ".gitignore").read_bytes())
