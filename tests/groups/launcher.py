@@ -250,6 +250,16 @@ def a_signal_to_the_launcher_reaches_the_program(t):
 
 
 @test
+def the_program_runs_under_the_name_desk(t):
+    """Its help begins with the name by which it was started, and so does its line in ps(1). Here a shell that prints its name is in place of it."""
+    it = Repository(t)
+    made = it.top / "crates/reg_desk/out/reg_desk"
+    made.parent.mkdir(parents=True)
+    shutil.copy(os.path.realpath("/bin/sh"), made)
+    t.same(it.desk("-c", 'echo "$0"'), (0, "desk\n", ""), "status, standard output and standard error")
+
+
+@test
 def tunables_that_are_set_already_come_behind_that_of_large_pages(t):
     it = Repository(t)
     put(it.top / "crates/reg_desk/out/reg_desk", '#!/bin/sh\necho "$GLIBC_TUNABLES"\n', is_program=True)

@@ -456,6 +456,24 @@ def a_signer_is_tried_for_ten_seconds(t, signs):
 
 
 @test(seconds=3)
+def a_signer_that_sends_without_end_is_refused(t):
+    """check-signer.py reads no more than a signature may have. Otherwise it would keep all octets, and the desk would never start."""
+    it, sent = Authority(t), [0]
+
+    def send(peer, _):
+        """Sends octets until the client closes the connection, at most 64 MiB."""
+        program.read_all(peer)
+        with contextlib.suppress(OSError):
+            while sent[0] < 64 << 20:
+                sent[0] += peer.send(b"\0" * 65_536)
+
+    t.enter_context(authority.Peer(t.room / "ca.sign", send))
+    ran = t.tried(sys.executable, EXAMPLES / "check-signer.py", it.pem, *it.signing("ca.sign"))
+    t.same((ran.returncode, b"openssl does not verify the signer's signature" in ran.stderr), (1, True), "status, and whether the cause is reported")
+    t.true(sent[0] < 8 << 20, f"check-signer.py has taken {sent[0]} octets")
+
+
+@test(seconds=3)
 def a_signature_that_comes_in_pieces_is_tried_whole(t):
     it = Authority(t)
 
@@ -516,6 +534,24 @@ def a_socket_that_is_handed_over(t):
             t.same((ran.returncode, b"no socket was handed over" in ran.stderr), (1, True), f"with {told}")
     ran = t.tried(*words, "ca.sign")
     t.same(ran.returncode, 2, "status with a path as well")
+
+
+@test(seconds=2)
+def several_processes_at_a_socket_that_is_handed_over(t):
+    """They all end with the first process, to which systemd sends its signal."""
+    authority.need_cryptography(t)
+    it = Authority(t)
+    with socket.socket(socket.AF_UNIX) as listener:
+        listener.bind(str(t.room / "handed.sign"))
+        listener.listen(8)
+        process = handed([sys.executable, str(EXAMPLES / "signer.py"), "--processes", "3", str(it.key), "--inherited"], listener)
+        t.callback(authority.end, process)
+        authority.until(lambda: len(native.children(process)) == 2, "two more processes")
+        t.true(signature(t.room / "handed.sign", b"a message") != b"", "the signer gave no signature")
+        others = native.children(process)
+        process.terminate()
+        t.same(process.wait(program.LONGEST), 0, "status after SIGTERM")
+        authority.until(lambda: not any(map(native.is_there, others)), "the end of the others")
 
 
 @test(seconds=4)

@@ -13,8 +13,10 @@ import shutil
 import socket
 import stat
 import subprocess
+import sys
 import threading
 import time
+from collections import Counter
 from pathlib import Path
 
 from lib import authority, native, program
@@ -118,6 +120,45 @@ def the_unit_waits_until_the_desk_answers(t):
     t.same(waits("counter").returncode, 2, "without the number of a process")
 
 
+@test
+def the_unit_pauses_before_it_looks_again(t):
+    """A large register takes minutes to open, and meanwhile wait-for-desk.sh leaves the processors to the desk. Here the desk answers the fourth
+    time."""
+    stubs = {"desk": 'echo desk >>told\n[ "$(grep -c desk told)" -ge 4 ]\n', "sleep": 'echo "sleep $*" >>told\n'}
+    (t.room / "bin").mkdir()
+    for name, does in stubs.items():
+        (t.room / "bin" / name).write_text(f"#!/bin/sh\n{does}")
+        (t.room / "bin" / name).chmod(0o755)
+    paths = (f"PATH={t.room}/bin:{os.environ['PATH']}", f"DESK={t.room}/bin/desk")
+    t.tool("env", *paths, "sh", TOP / "packaging/wait-for-desk.sh", "counter", os.getpid(), timeout=20)
+    t.same((t.room / "told").read_text().splitlines(), [*["desk", "sleep 0.1"] * 3, "desk"], "what the script ran")
+
+
+def words_of(text):
+    """How often each word occurs in a text, whether in capital letters or not."""
+    return Counter(re.findall(r"\w+", text.casefold()))
+
+
+def without_roff(page):
+    """A page's text, without the escapes of tools/man.py."""
+    return re.sub(r"\\(f[BIR]|[-:&e]|\(\w\w)", lambda escape: "" if escape[1][0] in "f:&" else " ", page)
+
+
+@test(seconds=2)
+def the_manual_pages_have_what_help_and_the_rules_say(t):
+    """desk(1) has the words of each command's help in its section, and desk-script(5) those of docs/RULES.md."""
+    t.tool("env", "-C", TOP, sys.executable, "tools/man.py", program.program(), t.room)
+    pages = {name: without_roff((t.room / name).read_text(encoding="utf-8")) for name in ("desk.1", "desk-script.5")}
+    sections = pages["desk.1"].partition(".SH COMMANDS")[2].partition(".SH ")[0].split(".SS ")[1:]
+    commands = re.findall(r"^  ([a-z][a-z-]*)", t.done("--help").partition("Commands:\n")[2].partition("\n\n")[0], re.MULTILINE)
+    t.same(len(sections), len(commands), "sections of commands")
+    for name, section in zip(commands, sections):
+        told = re.sub(r"^(Usage|Arguments|Options):", "", t.done(name, "--help"), flags=re.MULTILINE)
+        t.same(words_of(told) - words_of(section), Counter(), f"words of `desk {name} --help` that desk(1) lacks")
+    _, _, rules = (TOP / "docs/RULES.md").read_text(encoding="utf-8").partition("\n")
+    t.same(words_of(rules) - words_of(pages["desk-script.5"]), Counter(), "words of RULES.md that desk-script(5) lacks")
+
+
 # The settings that restrict every service of the package, and those of each service.
 FORBIDDEN = """ProtectSystem=strict NoNewPrivileges=yes CapabilityBoundingSet= ProtectHome=yes PrivateTmp=yes PrivateDevices=yes ProtectClock=yes ProtectHostname=yes
 ProtectKernelTunables=yes ProtectKernelModules=yes ProtectKernelLogs=yes ProtectControlGroups=yes ProtectProc=invisible ProcSubset=pid RestrictNamespaces=yes RestrictRealtime=yes
@@ -153,6 +194,23 @@ def the_timer_runs_every_five_minutes(t):
     [calendar] = re.findall(r"^OnCalendar=(.*)$", (TOP / "packaging/desk-crl@.timer").read_text(), re.MULTILINE)
     told = t.tool("env", "TZ=UTC", "LC_ALL=C", "systemd-analyze", "calendar", "--base-time=2026-01-01 00:00:30", "--iterations=3", calendar).decode()
     t.same(re.findall(r"(?:Next elapse|Iteration #\d|Iter\. #\d): \S+ (.*)", told), [f"2026-01-01 00:{minute}:00 UTC" for minute in ("05", "10", "15")], told)
+
+
+@test
+def the_timer_keeps_its_time(t):
+    """By default systemd may start a unit a minute late, and a time that passed while the machine was off would be left out."""
+    found = (TOP / "packaging/desk-crl@.timer").read_text().splitlines()
+    t.same([it for it in ("AccuracySec=10s", "Persistent=yes") if it not in found], [], "settings that desk-crl@.timer lacks")
+
+
+@each({name: name for name in ("desk@", "desk-crl@", "desk-publish@")})
+def each_register_has_a_port_of_its_own(t, name):
+    """Each of these services reads the file with its register's port and address. Otherwise, on a machine with two registers, one's CRL would be
+    issued or published by what the other one says. Without the file, all have the same port."""
+    found = units("service")[f"{name}.service"].splitlines()
+    t.has(found, "EnvironmentFile=-/etc/durshavon/%i.conf")
+    [usual] = [it.split("=", 1)[1].split() for it in found if it.startswith("Environment=")]
+    t.has(usual, "PORT=8080", "the usual port")
 
 
 @test

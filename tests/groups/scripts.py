@@ -552,6 +552,23 @@ def a_certificate_of_a_ca_below_another_one(t):
 
 
 @test(seconds=2)
+def a_certificate_that_begins_later_is_registered(t):
+    """A certificate is registered before its notBefore, also by a CA whose own certificate begins later, as one for a change of keys may."""
+    it, _ = unsigned_desk(t)
+    tomorrow = authority.now() + authority.DAY
+    at = lambda days: time.strftime("%y%m%d%H%M%SZ", time.gmtime(tomorrow + days * authority.DAY))
+    by_openssl_ca(t, it, "a", "05", at(0), at(30))
+    (t.room / "later.ext").write_text("basicConstraints=critical,CA:TRUE\n")
+    t.tool("openssl", "req", "-new", "-key", it.key, "-subj", "/CN=T", "-out", "later.csr")
+    words = ("-batch", "-notext", "-selfsign", "-keyfile", it.key, "-extfile", "later.ext", "-startdate", at(0), "-enddate", at(365))
+    for file, text in (("index.txt", ""), ("serial", "01\n")):
+        (t.room / file).write_text(text)
+    t.tool("openssl", "ca", "-config", "ca.cnf", *words, "-in", "later.csr", "-out", "later.pem")
+    wanted = "a.pem: serial number 05 registered, order 1 of subscriber 1\n"
+    t.same(register_pem(t, "-c", "counter", "-a", "later.pem", "a.pem"), (0, wanted, []))
+
+
+@test(seconds=2)
 def an_order_that_stays_without_its_certificate_is_reported(t):
     """The schedule allows 398 days, and since 2026-03-15 only 47. An order of 91 days is accepted, but its certificate is refused."""
     it = Authority(t)
