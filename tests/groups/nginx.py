@@ -197,20 +197,39 @@ def an_old_answer_is_never_sent_while_the_desk_is_away(t):
     t.same((front.ask(path)[0], it.asked_by_openssl("06", front.url("/ocsp"))), (200, "good"), "once a desk runs again")
 
 
+def asked_by_curl(url):
+    """The status and the body of a response."""
+    told = subprocess.run(["curl", "-s", "-w", "%{http_code}", url], capture_output=True, check=True).stdout
+    return int(told[-3:]), told[:-3]
+
+
 @test(seconds=5)
 def of_many_readers_one_goes_to_the_desk(t):
     it, _, [front] = opened(t, "front")
     before, path = front.asked_of_desk(), path_of(it.asks("06"))
 
-    def read(_):
-        told = subprocess.run(["curl", "-s", front.url(path)], capture_output=True, check=True)
-        return told.stdout
-
     with ThreadPoolExecutor(16) as pool:
-        got = set(pool.map(read, range(48)))
+        got = set(pool.map(lambda _: asked_by_curl(front.url(path))[1], range(48)))
     t.same(len(got), 1, "how many different answers came")
     t.same(it.reads("06", got.pop(), verify=False), "good")
     t.same(front.asked_of_desk() - before, 1, "requests that nginx sent to the desk")
+
+
+@test(seconds=12)
+def readers_of_an_answer_that_takes_seconds_wait_for_it(t):
+    """The signer takes more than six seconds for the answer. One of the readers goes to the desk, and the others get the same answer."""
+    need("nginx")
+    it = Authority(t)
+    certificates(t)
+    it.register()
+    t.signer(answer=lambda message, call: time.sleep(6.5) or it.sign(message))
+    front = Front(t, t.open("ca.db", *it.signing()).port)
+    path = path_of(it.asks("06"))
+    with ThreadPoolExecutor(8) as pool:
+        got = list(pool.map(lambda _: asked_by_curl(front.url(path)), range(8)))
+    t.same((len(set(got)), got[0][0]), (1, 200), "how many different answers came, and the status of the first")
+    t.same(it.reads("06", got[0][1]), "unknown")
+    t.same(front.asked_of_desk(), 1, "requests that nginx sent to the desk")
 
 
 @test(seconds=6)
