@@ -177,6 +177,58 @@ def the_board_shows_what_the_desk_says(t):
     little(t, it, desk, browser)
 
 
+def asked_for(browser, serial):
+    """Types a serial number, and presses the button."""
+    browser.value("document.getElementById('serial').value = ''")
+    browser.press("#serial")
+    browser.ask("Input.insertText", text=serial)
+    browser.press("#ask button")
+
+
+@test(seconds=15)
+def answers_that_come_late_or_fail(t):
+    """The answer about the first of two serial numbers comes last, and is not shown. If a CRL can't be fetched, the board fetches it again for the
+    next answer."""
+    need("chromium", "nginx")
+    it = Authority(t, subject="/O=Example/CN=Example CA")
+    certificates(t)
+    it.register()
+    t.done("script", "ca.db", given=authority.first_day(authority.now()))
+    desk = t.open("ca.db", "--requests", "1000", command="serve")
+    browser = Browser(t)
+    browser.ask("Page.navigate", url=Front(t, desk.port, seconds=1).url("/board/", tls=True))
+    loaded(browser)
+    # The page gets the status of 05 once the test says so.
+    browser.value("""
+        var release, fetched = 0, real = fetch;
+        const held = new Promise(done => { release = done; });
+        fetch = async (path, ...more) => {
+          const answer = await real(path, ...more);
+          if (path === "/status/5") await held;
+          if (path === "/crl/1") fetched++;
+          return answer;
+        };""")
+    for serial in ("05", "06"):
+        asked_for(browser, serial)
+    browser.until("document.getElementById('said').innerText === 'good'")
+    browser.value("release()")
+    browser.until("fetched === 1")
+    # In this time the page would show what it knows of 05 now.
+    time.sleep(0.5)
+    t.same(browser.text_of("said"), "good", "what is shown of 06")
+    browser.ask("Page.reload")
+    loaded(browser)
+    browser.value("""
+        var fails = 1, real = fetch;
+        fetch = async (path, ...more) => {
+          if (path === "/crl/1" && fails-- > 0) throw new Error("away");
+          return real(path, ...more);
+        };""")
+    for told in ("The desk answers: away", "First listed by CRL 1 of "):
+        asked_for(browser, "05")
+        browser.until(f"document.getElementById('said').innerText.includes('{told}')")
+
+
 @test(seconds=15)
 def a_crl_of_2050(t):
     """From 2050 on, the moments of a CRL are GeneralizedTime, and no UTCTime (RFC 5280 5.1.2.4)."""
