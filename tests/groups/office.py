@@ -253,6 +253,46 @@ def a_register_that_was_left_alone(t):
     t.has({f"read at {shown(at)} UTC" for at in range(now, authority.now() + 1)}, browser.text_of("asof"), "when the page was read")
 
 
+@test(seconds=20)
+def a_register_that_was_restored(t):
+    """The register is replaced by one with fewer requests and CRLs. After Reload, the page shows its numbers, and none of before."""
+    now = authority.now()
+    first, more = f"{moment_of(now - 2 * DAY)} ", f"{moment_of(now - DAY)} "
+    registered = f"register 1 05 {moment_of(now)} {moment_of(now + 90 * DAY)}"
+    begun = [first + it for it in ("subscriber acme", "order 1 398", registered, "crl", "request 05 asked")]
+    later = [more + it for it in ("request 05 misuse", "decline 1", "crl", "crl")]
+    it, desk, front, browser = opened(t, "".join(f"{line}\n" for line in (*begun, *later)))
+    load(browser, front)
+    numbers = lambda: ([row.split("|")[2] for row in rows(browser, "requestrows")], browser.text_of("crlsnote").split(";")[0])
+    t.same(numbers(), (["2"], "3"), "open requests, and how many CRLs there are")
+    desk.end()
+    it.register("older.db")
+    t.done("script", "older.db", given="".join(f"{line}\n" for line in begun))
+    t.open("older.db", "--port", desk.port, "--control", "second")
+    again(browser)
+    t.same((numbers(), browser.text_of("fault")), ((["1"], "1"), ""), "open requests, and how many CRLs there are, after the restore; no fault")
+
+
+@test(seconds=20)
+def how_much_the_page_asks_of_the_desk(t):
+    """It reads at most 120 of the CRLs that it plots, the first and the last among them. A part whose reading took half a minute is read again after
+    five minutes, and not in the next one."""
+    begun = authority.now() - 130 * HOUR
+    _, _, front, browser = opened(t, "".join(f"{moment_of(begun + at * HOUR)} crl\n" for at in range(130)))
+    load(browser, front)
+    titles = browser.value("Array.from(document.querySelectorAll('#plot circle title'), it => it.textContent.split(' ')[1])")
+    t.same((len(titles), titles[0], titles[-1]), (240, "1", "130"), "points in both plots, the first CRL, and the last one")
+    t.has(browser.text_of("gapsnote"), "Entries and bytes are of 120 of the 130 CRLs in this time")
+    # While the page reads the open requests, half a minute passes.
+    browser.value("""
+        var passed = 0, real = fetch, clock = Date.now;
+        Date.now = () => clock() + passed;
+        fetch = (path, ...more) => { if (path.includes("open-requests")) passed += 30000; return real(path, ...more); };""")
+    again(browser)
+    waits = browser.value("PARTS.filter(part => part.note === 'requestsnote').map(part => part.next - Date.now())[0]")
+    t.true(250_000 < waits <= 400_000, f"the open requests are read again after {waits} ms")
+
+
 @test(seconds=15)
 def a_crl_of_2050(t):
     """From 2050 on, the moments of a CRL are GeneralizedTime, and no UTCTime (RFC 5280 5.1.2.4)."""
