@@ -230,6 +230,30 @@ def answers_that_come_late_or_fail(t):
 
 
 @test(seconds=15)
+def few_crls_are_fetched(t):
+    """The board finds the first and the last of 200 CRLs that list a serial number, and fetches few of them."""
+    need("chromium", "nginx")
+    it = Authority(t, subject="/O=Example/CN=Example CA")
+    certificates(t)
+    it.register()
+    begun = authority.now() - 200 * 3600
+    at = lambda hours: moment_of(begun + hours * 3600)
+    lines = [f"{at(0)} {it}" for it in ("subscriber acme", "order 1 398", f"register 1 05 {at(0)} {at(150)}", "request 05 asked")]
+    for hours in range(1, 200):
+        lines += [f"{at(hours)} revoke 1"] * (hours == 60) + [f"{at(hours)} crl"]
+    t.done("script", "ca.db", given="".join(f"{line}\n" for line in lines))
+    desk = t.open("ca.db", "--requests", "1000", command="serve")
+    browser = Browser(t)
+    browser.ask("Page.navigate", url=Front(t, desk.port, seconds=1).url("/board/", tls=True))
+    loaded(browser)
+    asked_for(browser, "05")
+    browser.until("document.getElementById('said').innerText.includes('First listed')")
+    t.has(browser.text_of("said"), f"First listed by CRL 60 of {shown(begun + 60 * 3600)}, last by CRL 151 of {shown(begun + 151 * 3600)}.")
+    count = browser.value("performance.getEntriesByType('resource').filter(it => it.name.includes('/crl/')).length")
+    t.true(count <= 20, f"{count} CRLs were fetched")
+
+
+@test(seconds=15)
 def a_crl_of_2050(t):
     """From 2050 on, the moments of a CRL are GeneralizedTime, and no UTCTime (RFC 5280 5.1.2.4)."""
     need("chromium", "nginx")

@@ -265,6 +265,11 @@ def a_register_that_was_restored(t):
     load(browser, front)
     numbers = lambda: ([row.split("|")[2] for row in rows(browser, "requestrows")], browser.text_of("crlsnote").split(";")[0])
     t.same(numbers(), (["2"], "3"), "open requests, and how many CRLs there are")
+    # A minute later the page reads the requests from the first open one on.
+    browser.value("PARTS.forEach(part => part.next = 0), round()")
+    lists = browser.value("performance.getEntriesByType('resource').map(it => it.name.split('/list/')[1] || '')")
+    asked = [it for it in lists if it.startswith("open-requests")]
+    t.same(asked, ["open-requests?limit=250", "open-requests?limit=250&after=1"], "what the page asked for open requests")
     desk.end()
     it.register("older.db")
     t.done("script", "older.db", given="".join(f"{line}\n" for line in begun))

@@ -155,6 +155,9 @@ def the_manual_pages_have_what_help_and_the_rules_say(t):
     for name, section in zip(commands, sections):
         told = re.sub(r"^(Usage|Arguments|Options):", "", t.done(name, "--help"), flags=re.MULTILINE)
         t.same(words_of(told) - words_of(section), Counter(), f"words of `desk {name} --help` that desk(1) lacks")
+    # In place of these characters by themselves, a terminal may show others, which a reader would copy.
+    lines = [line for name in pages for line in (t.room / name).read_text(encoding="utf-8").splitlines() if not line.startswith((".", "'"))]
+    t.same([line for line in lines if re.search(r"[-'`^~]", re.sub(r"\\(\(\w\w|.)", "", line))], [], "lines with a character that roff may replace")
     _, _, rules = (TOP / "docs/RULES.md").read_text(encoding="utf-8").partition("\n")
     t.same(words_of(rules) - words_of(pages["desk-script.5"]), Counter(), "words of RULES.md that desk-script(5) lacks")
 
@@ -275,6 +278,7 @@ def a_desk_starts_after_a_check_of_both_its_signers(t):
     t.same(told["ExecStartPre"], check, "the check")
     t.same(told["ExecStart"][-3:], ["$OPTIONS", "$RESPONDER", "--why"], "the end of the desk's command line")
     t.has(found, "ExecStartPost=-/bin/ln -sfn control /run/durshavon/%i/counter")
+    t.has(found, "ExecStartPost=/usr/lib/durshavon/wait-for-desk.sh /run/durshavon/%i/control $MAINPID", "until it answers, the unit has not started")
 
 
 # The folders that each service may write, since the rest of the system is read-only to it, and their modes.
