@@ -573,6 +573,31 @@ def a_client_is_accepted_although_accept_failed_once(t, error, place):
     t.same((faults.counted(t.room / "count")["met"], desk.process.poll()), (1, None), "injected faults, and the exit status of the desk")
 
 
+@each({error: (error,) for error in ("EINTR", "ECONNABORTED")}, seconds=3)
+def an_accept_that_fails_takes_no_connection_from_another_client(t, error):
+    """accept(2) fails because a signal came, or because the client is gone. No descriptor is needed then."""
+    t.register()
+
+    def with_half_a_request(desk):
+        """A client that the desk has accepted, and that has sent a part of its request. After that part, the desk waits for more clients."""
+        client = t.enter_context(desk.connect())
+        authority.until(lambda: program.is_read(client), "the desk to accept the client")
+        client.sendall(COUNTS[:9])
+        authority.until(lambda: program.is_read(client), "the desk to read a part of the request")
+        return client
+
+    desk = t.open("ca.db", faults=faults.environment(count=t.room / "usual"))
+    with_half_a_request(desk)
+    before = faults.counted(t.room / "usual")["accept"]
+    desk.end()
+    desk = t.open("ca.db", "--control", "second", faults=faults.environment(count=t.room / "count", fail=f"accept:{before + 1}={error}"))
+    client = with_half_a_request(desk)
+    t.same(parted(desk.send(COUNTS))[0], 200, "the next client")
+    t.same(faults.counted(t.room / "count")["met"], 1, "injected faults")
+    client.sendall(COUNTS[9:])
+    t.same(parted(read_all(client))[0], 200, "the first client")
+
+
 @test(seconds=2)
 def a_control_connection_is_accepted_once_there_is_a_descriptor_again(t):
     """The machine or the desk had no descriptor for it for a time. Nobody has a connection to the port."""

@@ -7,6 +7,7 @@ import socket
 import struct
 import threading
 import time
+from concurrent import futures
 from concurrent.futures import ThreadPoolExecutor
 
 from groups.waiting import SIGNING, asked_for, files, names, ocsp_answer, own_signature
@@ -372,6 +373,70 @@ def a_connection_that_ends_as_the_message_comes_loses_no_answer(t):
     t.enter_context(Ends(t.room / "ca.sign"))
     desk = opened(t)
     t.same([is_own(ocsp_answer(desk, 0x1100 + at), 0x1100 + at) for at in range(4)], [True] * 4, "whether each answer is signed")
+
+
+@test(seconds=3)
+def a_message_has_ten_seconds_on_two_connections_together(t):
+    """A kept connection ends nine seconds after the message, without an answer. On the next one the signer hangs for a second more."""
+    sent, ends, hangs = threading.Event(), threading.Event(), threading.Event()
+    t.callback(hangs.set)
+
+    class Ends(Keeping):
+        def keep(self, client):
+            native.exactly(client, 4)
+            sent.set()
+            ends.wait(60 * program.PATIENCE)
+
+    signer = t.enter_context(Ends(t.room / "ca.sign"))
+    t.register(key=P256_KEY)
+    passing = Passing(t, *SIGNING)
+    t.true(is_own(ocsp_answer(passing.desk, 0x1111), 0x1111), "the first answer")
+    signer.answer = lambda message: hangs.wait(60 * program.PATIENCE) and None
+    with ThreadPoolExecutor(1) as pool:
+        late = pool.submit(ocsp_answer, passing.desk, 0x2222)
+        t.true(sent.wait(60), "the signer to get the message")
+        passing.advance(9_000)
+        ends.set()
+        authority.until(lambda: len(signer.asked) == 2, "the message on the next connection")
+        passing.advance(999)
+        before = late.done()
+        passing.advance(1)
+        after = len(futures.wait([late], timeout=10 * program.PATIENCE).done)
+        # Ends the wait of a desk that is too late.
+        passing.advance(20_000)
+        t.same((before, after, late.result()), (False, 1, INTERNAL), "whether the answer came before ten seconds, and after them; the answer")
+
+
+@test(seconds=3)
+def no_connection_with_a_message_is_closed_for_the_operator(t):
+    """The desk has no descriptor for a client at the control socket. It closes the second of its kept connections: the first one has a message."""
+    barrier, reply = threading.Barrier(2), Holding(t, 0x2222)
+
+    class Together(Keeping):
+        def sign(self, client):
+            if client.recv(1, socket.MSG_PEEK) not in (b"", b"\0"):
+                barrier.wait(60)
+            super().sign(client)
+
+    t.enter_context(Together(t.room / "ca.sign", reply))
+    t.register(key=P256_KEY)
+    passing = Passing(t, *SIGNING)
+    before = passing.files
+    with ThreadPoolExecutor(2) as pool:
+        list(pool.map(lambda at: ocsp_answer(passing.desk, 0x1100 + at), range(2)))
+        authority.until(lambda: passing.files == before + 2, "two kept connections")
+        waits = pool.submit(ocsp_answer, passing.desk, 0x2222)
+        t.true(reply.held.wait(60), "the signer to get the message")
+        limit = lambda most: t.tool("prlimit", "--pid", passing.desk.process.pid, f"--nofile={most}:4096")
+        limit(before + 3)
+        with Control(t.room / "counter", timeout=20) as control:
+            t.same(control.ask("counts"), "good 0 revoked 0 expired 0", "a line at the control socket")
+        limit(1_024)
+        reply.release.set()
+        futures.wait([waits], timeout=10 * program.PATIENCE)
+        # Ends the wait for a connection that was closed.
+        passing.advance(10_000)
+        t.true(is_own(waits.result(), 0x2222), "the answer of the message")
 
 
 @test(seconds=6)

@@ -5,16 +5,17 @@ import os
 import queue
 import signal
 import socket
+import struct
 import threading
 import time
 from concurrent.futures import ThreadPoolExecutor
 from contextlib import ExitStack
 
-from lib import authority, program, registers
+from lib import authority, faults, program, registers
 from lib.authority import INTERNAL, Authority, body_of
 from lib.passing import Passing
 from lib.program import ANY_SIGNATURE, P256_KEY, Signers
-from lib.trial import each, test
+from lib.trial import Failed, each, test
 
 SIGNING = ("--signer", "ca.sign", "--algorithm", "ecdsa-sha256")
 DAY = "2026-01-01T00:00:00Z"
@@ -352,6 +353,37 @@ def serve_waits_for_the_signatures_of_its_last_requests(t):
         held.release.set()
         t.same([is_signed(it.result()) for it in waits], [True] * count)
     t.same(desk.wait().status, 0)
+
+
+@test(seconds=25)
+def without_memory_nobody_waits_for_a_signature_that_is_not_requested(t):
+    """One allocation fails between a request and its answer. The client gets the signed answer, one that reports the fault, or none. No time passes
+    for the desk, so it would keep a client that it has forgotten."""
+    t.enter_context(Signers(t.room / "ca.sign"))
+    base, passed, count = t.register("base.db", key=P256_KEY), t.room / "passed", t.room / "count"
+    passed.write_bytes(struct.pack("=Q", 1_000_000))
+
+    def run(fail):
+        """The counts of allocations when the desk listens, and at the end; and the response."""
+        faults.copy(base, t.room / "ca.db")
+        env = faults.environment(count=count, same=1, passed=passed, fail=fail)
+        (t.room / "counter").unlink(missing_ok=True)
+        with program.Opened(["open", "ca.db", *SIGNING, "--control", "counter"], cwd=t.room, faults=env) as desk:
+            t.true(desk.listens, f"{fail}: it does not listen")
+            first = faults.counted(count)["alloc"]
+            with desk.connect(timeout=10) as client:
+                client.sendall(b"POST /ocsp HTTP/1.1\r\nContent-Length: %d\r\n\r\n" % len(asked_for(0x1100)) + asked_for(0x1100))
+                try:
+                    response = program.read_all(client)
+                except TimeoutError:
+                    raise Failed(f"{fail}: the client waits in vain") from None
+            return first, faults.counted(count)["alloc"], response
+
+    first, last, response = run(None)
+    t.true(is_signed(program.parted(response)[2]), "the answer without a fault is not signed")
+    for at in range(first + 1, last + 1):
+        status, _, body = program.parted(run(f"alloc:{at}")[2])
+        t.true(status in (0, 500) or is_signed(body) or body == INTERNAL, f"allocation {at} of {first + 1} to {last}: {status} {body!r}")
 
 
 @test(seconds=2)
