@@ -28,6 +28,7 @@ The key is one of P-256, P-384, RSA or Ed25519, in PEM and without a passphrase.
 It needs the package `cryptography` (Debian: python3-cryptography).
 """
 import argparse
+import contextlib
 import ctypes
 import ctypes.util
 import errno
@@ -203,6 +204,12 @@ def message_of(connection):
     return parts[0] if len(parts) == 1 else b"".join(parts)
 
 
+def report(text):
+    """Writes a line on standard error, whose reader may have ended before the signer."""
+    with contextlib.suppress(OSError):
+        print(text, file=sys.stderr, flush=True)
+
+
 def answer(connection, sign):
     """Reads one message and writes its signature, over a bare descriptor: a socket object takes as long to make as a signature. A client that
     fails loses only its own connection."""
@@ -213,9 +220,9 @@ def answer(connection, sign):
             # A new socket has room for more than this.
             os.write(connection, sign(message))
     except Refused as why:
-        print(f"refused to sign {len(message)} bytes: {why}", file=sys.stderr, flush=True)
+        report(f"refused to sign {len(message)} bytes: {why}")
     except OSError as error:
-        print(f"a connection failed: {error}", file=sys.stderr, flush=True)
+        report(f"a connection failed: {error}")
     finally:
         os.close(connection)
 

@@ -537,6 +537,21 @@ def a_socket_that_is_handed_over(t):
 
 
 @test(seconds=2)
+def the_reader_of_its_standard_error_may_end_first(t):
+    """The signer can't report the message that it refuses, and signs the next one."""
+    authority.need_cryptography(t)
+    it = Authority(t)
+    message, nothing = to_be_signed(t, it)[0], subprocess.DEVNULL
+    words = [sys.executable, str(EXAMPLES / "signer.py"), "--only-ours", str(it.pem), str(it.key), str(t.room / "read.sign")]
+    process = subprocess.Popen(words, stdin=nothing, stdout=nothing, stderr=subprocess.PIPE)
+    t.callback(authority.end, process)
+    authority.until((t.room / "read.sign").exists, "the signer to listen")
+    process.stderr.close()
+    t.same(signature(t.room / "read.sign", b"hello"), b"", "the signature of a text")
+    t.true(signature(t.room / "read.sign", message) != b"", "the signer gave no signature")
+
+
+@test(seconds=2)
 def several_processes_at_a_socket_that_is_handed_over(t):
     """They all end with the first process, to which systemd sends its signal."""
     authority.need_cryptography(t)
