@@ -254,6 +254,25 @@ def few_crls_are_fetched(t):
 
 
 @test(seconds=15)
+def a_browser_whose_clock_is_ahead(t):
+    """The browser's clock is ten days ahead, and the latest CRL is valid for eight days."""
+    need("chromium", "nginx")
+    it = Authority(t, subject="/O=Example/CN=Example CA")
+    certificates(t)
+    it.register()
+    issued = authority.now()
+    t.done("script", "ca.db", given=f"{moment_of(issued)} crl\n")
+    desk = t.open("ca.db", "--requests", "1000", command="serve")
+    browser = Browser(t)
+    browser.ask("Page.addScriptToEvaluateOnNewDocument", source=f"Date.now = (now => () => now() + {10 * DAY} * 1000)(Date.now)")
+    before = authority.now()
+    browser.ask("Page.navigate", url=Front(t, desk.port, seconds=1).url("/board/", tls=True))
+    loaded(browser)
+    browser.until("document.getElementById('holds').innerText !== '–'")
+    t.has(spans(issued + 8 * DAY, before), browser.text_of("holds"), "for how long the CRL is still valid")
+
+
+@test(seconds=15)
 def a_crl_of_2050(t):
     """From 2050 on, the moments of a CRL are GeneralizedTime, and no UTCTime (RFC 5280 5.1.2.4)."""
     need("chromium", "nginx")
