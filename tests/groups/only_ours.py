@@ -3,12 +3,14 @@ The accepted messages come from the program itself; the refused ones come from o
 
 import contextlib
 import random
+import re
 import signal
 import socket
 import subprocess
 import sys
 import threading
 import time
+from pathlib import Path
 
 from lib import authority, native, program
 from lib.authority import EXAMPLES, INTERNAL, KEYS, Authority, body_of, inside, moment_of, values_of
@@ -564,6 +566,10 @@ def several_processes_at_a_socket_that_is_handed_over(t):
         authority.until(lambda: len(native.children(process)) == 2, "two more processes")
         t.true(signature(t.room / "handed.sign", b"a message") != b"", "the signer gave no signature")
         others = native.children(process)
+        # Another process may have signed. The first one catches SIGTERM (bit 14 of SigCgt, proc(5)) a moment after it made them.
+        status = Path(f"/proc/{process.pid}/status")
+        caught = lambda: int(re.search(r"SigCgt:\s*(\w+)", status.read_text())[1], 16)
+        authority.until(lambda: caught() >> 14 & 1, "the first process to catch SIGTERM")
         process.terminate()
         t.same(process.wait(program.LONGEST), 0, "status after SIGTERM")
         authority.until(lambda: not any(map(native.is_there, others)), "the end of the others")
