@@ -481,16 +481,19 @@ def the_oldest_connection_is_evicted_after_a_thousand_others_too(t):
 
 # File descriptors
 
+# How many HTTP connections a desk has at most.
+MOST_CLIENTS = 960
+
 
 @test(seconds=4)
-def a_thousand_clients_have_connections_at_once(t):
+def as_many_clients_as_the_desk_takes_have_connections_at_once(t):
     _, hard = resource.getrlimit(resource.RLIMIT_NOFILE)
     if hard < 2_000 and hard != resource.RLIM_INFINITY:
-        raise Skipped("the system has no descriptors for 1,000 connections: ulimit -n 2000")
+        raise Skipped("the system has no descriptors for 960 connections: ulimit -n 2000")
     resource.setrlimit(resource.RLIMIT_NOFILE, (2_000, hard))
     t.register()
     desk = t.open()
-    clients = [t.enter_context(desk.connect()) for _ in range(1_000)]
+    clients = [t.enter_context(desk.connect()) for _ in range(MOST_CLIENTS)]
     # The desk answers the last one once it has accepted all.
     for it in reversed(clients):
         it.sendall(COUNTS)
@@ -498,25 +501,25 @@ def a_thousand_clients_have_connections_at_once(t):
 
 
 @test(seconds=4)
-def a_thousand_clients_are_late_together(t):
+def all_clients_are_late_together(t):
     _, hard = resource.getrlimit(resource.RLIMIT_NOFILE)
     if hard < 2_000 and hard != resource.RLIM_INFINITY:
-        raise Skipped("the system has no descriptors for 1,000 connections: ulimit -n 2000")
+        raise Skipped("the system has no descriptors for 960 connections: ulimit -n 2000")
     resource.setrlimit(resource.RLIMIT_NOFILE, (2_000, hard))
     t.register()
     desk = Passing(t)
-    for _ in range(1_000):
+    for _ in range(MOST_CLIENTS):
         t.enter_context(desk.desk.connect()).sendall(COUNTS[:9])
-    authority.until(lambda: desk.files == desk.before + 1_000, "the desk to accept all")
+    authority.until(lambda: desk.files == desk.before + MOST_CLIENTS, "the desk to accept all")
     desk.set_forward(30_000)
     authority.until(lambda: desk.files == desk.before, "the desk to close all", seconds=10)
     desk.advance(0)
-    t.same([why for _, why in desk.lost], ["late"] * 1_000, "why each connection was lost")
+    t.same([why for _, why in desk.lost], ["late"] * MOST_CLIENTS, "why each connection was lost")
 
 
 @test(seconds=5)
 def clients_at_the_port_leave_descriptors_for_the_operator(t):
-    """The desk has 1,024 descriptors, as is usual. Silent clients get a thousand connections to the port, so some are left for the control socket."""
+    """The desk has 1,024 descriptors, as is usual. Silent clients get 960 connections to the port, so some are left for the control socket."""
     _, hard = resource.getrlimit(resource.RLIMIT_NOFILE)
     if hard < 2_000 and hard != resource.RLIM_INFINITY:
         raise Skipped("the system has no descriptors for 1,100 connections: ulimit -n 2000")
@@ -524,13 +527,13 @@ def clients_at_the_port_leave_descriptors_for_the_operator(t):
     t.register()
     desk = t.open()
     t.tool("prlimit", "--pid", desk.process.pid, "--nofile=1024:1024")
-    clients = [t.enter_context(desk.connect()) for _ in range(1_001)]
+    clients = [t.enter_context(desk.connect()) for _ in range(MOST_CLIENTS + 1)]
     clients[0].settimeout(20)
     is_closed = False
     with contextlib.suppress(TimeoutError):
         is_closed = read_all(clients[0]) == b""
-    t.true(is_closed, "the oldest of 1,001 connections is still open, though the desk has a thousand at most")
-    clients += [t.enter_context(desk.connect()) for _ in range(99)]
+    t.true(is_closed, "the oldest of 961 connections is still open, though the desk has 960 at most")
+    clients += [t.enter_context(desk.connect()) for _ in range(139)]
     with Control(t.room / "counter", timeout=20) as control:
         t.same(control.ask("counts"), "good 0 revoked 0 expired 0", "a line at the control socket")
 
@@ -573,27 +576,28 @@ def a_client_is_accepted_although_accept_failed_once(t, error, place):
     t.same((faults.counted(t.room / "count")["met"], desk.process.poll()), (1, None), "injected faults, and the exit status of the desk")
 
 
-@each({error: (error,) for error in ("EINTR", "ECONNABORTED")}, seconds=3)
-def an_accept_that_fails_takes_no_connection_from_another_client(t, error):
-    """accept(2) fails because a signal came, or because the client is gone. No descriptor is needed then."""
+@test(seconds=3)
+def a_client_that_is_gone_before_it_is_accepted_costs_nobody_a_connection(t):
+    """accept(2) fails with ECONNABORTED. No descriptor is needed then, as it would be after EMFILE."""
     t.register()
+    calls = lambda kind: faults.counted(t.room / "count")[kind]
 
-    def with_half_a_request(desk):
-        """A client that the desk has accepted, and that has sent a part of its request. After that part, the desk waits for more clients."""
+    def opened(control, fail):
+        """A desk with a client whose request is not whole, and the count of calls of accept(2) by then: one found the client, the next one nobody."""
+        desk = t.open("ca.db", "--control", control, faults=faults.environment(count=t.room / "count", fail=fail))
+        # The desk polls for the second time after its calls of accept(2) at the start.
+        authority.until(lambda: calls("poll") >= 2, "the desk to wait for clients")
+        before = calls("accept")
         client = t.enter_context(desk.connect())
-        authority.until(lambda: program.is_read(client), "the desk to accept the client")
         client.sendall(COUNTS[:9])
-        authority.until(lambda: program.is_read(client), "the desk to read a part of the request")
-        return client
+        authority.until(lambda: calls("accept") == before + 2 and program.is_read(client), "the desk to read a part of the request")
+        return desk, client, before + 2
 
-    desk = t.open("ca.db", faults=faults.environment(count=t.room / "usual"))
-    with_half_a_request(desk)
-    before = faults.counted(t.room / "usual")["accept"]
+    desk, _, count = opened("first", None)
     desk.end()
-    desk = t.open("ca.db", "--control", "second", faults=faults.environment(count=t.room / "count", fail=f"accept:{before + 1}={error}"))
-    client = with_half_a_request(desk)
+    desk, client, _ = opened("second", f"accept:{count + 1}=ECONNABORTED")
     t.same(parted(desk.send(COUNTS))[0], 200, "the next client")
-    t.same(faults.counted(t.room / "count")["met"], 1, "injected faults")
+    t.same(calls("met"), 1, "injected faults")
     client.sendall(COUNTS[9:])
     t.same(parted(read_all(client))[0], 200, "the first client")
 

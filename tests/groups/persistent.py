@@ -334,32 +334,53 @@ def the_connections_of_a_signer_that_ends_are_closed(t):
     authority.until(lambda: files(desk) == before, "the desk to close them")
 
 
+class Crowd:
+    """A desk that has 1,024 descriptors, as is usual, and keeps 32 connections to its signer. Silent clients take all others at the port. No time
+    passes for the desk, so no client is late."""
+
+    def __init__(self, t, *words):
+        _, hard = resource.getrlimit(resource.RLIMIT_NOFILE)
+        resource.setrlimit(resource.RLIMIT_NOFILE, (2_500, hard))
+        barrier = threading.Barrier(32)
+
+        class Together(Keeping):
+            def sign(self, client):
+                if len(self.clients) <= 32 and client.recv(1, socket.MSG_PEEK) not in (b"", b"\0"):
+                    barrier.wait(60)
+                super().sign(client)
+
+        t.enter_context(Together(t.room / "ca.sign"))
+        t.register(key=P256_KEY)
+        self.desk = Passing(t, *SIGNING, *words).desk
+        before = files(self.desk)
+        with ThreadPoolExecutor(32) as pool:
+            list(pool.map(lambda at: ocsp_answer(self.desk, 0x1100 + at), range(32)))
+        authority.until(lambda: files(self.desk) == before + 32, "32 kept connections")
+        t.tool("prlimit", "--pid", self.desk.process.pid, "--nofile=1024:1024")
+        clients = [t.enter_context(self.desk.connect()) for _ in range(1_100)]
+        authority.until(lambda: program.is_read(clients[-1]), "the desk to accept all")
+
+
 @test(seconds=5)
 def kept_connections_leave_descriptors_for_the_operator(t):
-    """The desk has 1,024 descriptors, as is usual, and keeps 32 connections to its signer. Silent clients take all others at the port."""
-    _, hard = resource.getrlimit(resource.RLIMIT_NOFILE)
-    resource.setrlimit(resource.RLIMIT_NOFILE, (2_500, hard))
-    barrier = threading.Barrier(32)
-
-    class Together(Keeping):
-        def sign(self, client):
-            if client.recv(1, socket.MSG_PEEK) not in (b"", b"\0"):
-                barrier.wait(60)
-            super().sign(client)
-
-    t.enter_context(Together(t.room / "ca.sign"))
-    t.register(key=P256_KEY)
-    # No time passes for the desk, so no client is late.
-    desk = Passing(t, *SIGNING).desk
-    before = files(desk)
-    with ThreadPoolExecutor(32) as pool:
-        list(pool.map(lambda at: ocsp_answer(desk, 0x1100 + at), range(32)))
-    authority.until(lambda: files(desk) == before + 32, "32 kept connections")
-    t.tool("prlimit", "--pid", desk.process.pid, "--nofile=1024:1024")
-    clients = [t.enter_context(desk.connect()) for _ in range(1_100)]
-    authority.until(lambda: program.is_read(clients[-1]), "the desk to accept all")
+    Crowd(t)
     with Control(t.room / "counter", timeout=20) as control:
         t.same(control.ask("counts"), "good 0 revoked 0 expired 0", "a line at the control socket")
+
+
+@test(seconds=5)
+def kept_connections_leave_descriptors_for_a_crl_and_a_copy(t):
+    Crowd(t)
+    with Control(t.room / "counter", timeout=20) as control:
+        t.same(control.ask("crl"), "crl 1 entries 0", "a CRL")
+        t.has(control.ask(f"copy {t.room / 'copy.db'}"), "copied ", "a copy")
+
+
+@test(seconds=5)
+def kept_connections_leave_descriptors_for_the_log(t):
+    desk = Crowd(t, "--log-file", "ca.log").desk
+    t.same(program.parted(desk.ask("GET", "/counts"))[0], 200, "a request")
+    t.has((t.room / "ca.log").read_text(), "GET /counts", "the log")
 
 
 @test(seconds=2)
@@ -437,6 +458,50 @@ def no_connection_with_a_message_is_closed_for_the_operator(t):
         # Ends the wait for a connection that was closed.
         passing.advance(10_000)
         t.true(is_own(waits.result(), 0x2222), "the answer of the message")
+
+
+@test(seconds=3)
+def a_kept_connection_is_closed_for_a_client_at_the_port(t):
+    """The desk keeps two connections to its signer, and has no descriptor for a client. No other client has a connection."""
+    barrier = threading.Barrier(2)
+
+    class Together(Keeping):
+        def sign(self, client):
+            if client.recv(1, socket.MSG_PEEK) not in (b"", b"\0"):
+                barrier.wait(60)
+            super().sign(client)
+
+    t.enter_context(Together(t.room / "ca.sign"))
+    desk = opened(t)
+    before = files(desk)
+    with ThreadPoolExecutor(2) as pool:
+        list(pool.map(lambda at: ocsp_answer(desk, 0x1100 + at), range(2)))
+    authority.until(lambda: files(desk) == before + 2, "two kept connections")
+    t.tool("prlimit", "--pid", desk.process.pid, f"--nofile={before + 2}:4096")
+    t.same(program.parted(desk.ask("GET", "/counts"))[0], 200, "the status of the client's answer")
+
+
+@test(seconds=2)
+def a_half_closed_client_gets_its_answer_after_the_end_of_a_kept_connection(t):
+    """The client shuts down its sending side after its request, and waits for the answer. Meanwhile the signer closes the kept connection."""
+    closes = threading.Event()
+
+    class Ends(Keeping):
+        def keep(self, client):
+            native.exactly(client, 4)
+            closes.wait(60)
+
+    signer = t.enter_context(Ends(t.room / "ca.sign"))
+    desk = opened(t)
+    t.true(is_own(ocsp_answer(desk, 0x1100), 0x1100), "the first answer")
+    body = asked_for(0x2200)
+    with desk.connect() as client:
+        client.sendall(b"POST /ocsp HTTP/1.1\r\nContent-Length: %d\r\n\r\n" % len(body) + body)
+        client.shutdown(socket.SHUT_WR)
+        authority.until(lambda: program.is_read(client), "the desk to read the request")
+        time.sleep(0.1)
+        closes.set()
+        t.true(is_own(program.parted(read_all(client))[2], 0x2200), "the answer")
 
 
 @test(seconds=6)

@@ -137,7 +137,7 @@ impl<H: Handler> EventLoop<H> {
                 self.advance(token, now);
             }
         }
-        if self.control.lacks_descriptors {
+        if self.acceptor.lacks_descriptors || self.control.lacks_descriptors {
             self.signatures.close_idle();
         }
         self.control.accept_all(&mut self.shared);
@@ -230,6 +230,7 @@ impl<H: Handler> EventLoop<H> {
             return Ok(());
         };
         let before = connection.unsent();
+        // What came of the request is answered even so.
         if let Some(why) = connection.record_fault(now) {
             let client = Some(connection.client);
             self.shared.lost.add_lost(LostConnection { client, why });
@@ -250,7 +251,7 @@ impl<H: Handler> EventLoop<H> {
         }
     }
 
-    /// Sends the answer of a connection that was taken out of a slot. Before it was answered, `before` bytes of it were unsent.
+    /// Sends the answer of a connection that was taken out of a slot. The total of unsent bytes has `before` of this connection so far.
     fn send_on(
         &mut self,
         slot: usize,
@@ -283,21 +284,30 @@ impl<H: Handler> EventLoop<H> {
     fn request_all(&mut self, handler: &H, now: u64) {
         for _ in 0..MOST_HTTP_CONNECTIONS {
             match self.signatures.next(now) {
-                Some((wanted, index)) => self.request(wanted, index, handler, now),
+                Some((wanted, index)) => self.request_next(wanted, index, handler, now),
                 None => return,
             }
         }
     }
 
-    /// Requests the signature of an answer that waited in the queue, at a free place. If its client closed its sending side meanwhile, closes the
-    /// connection instead.
-    fn request(&mut self, wanted: WantedSignature, index: usize, handler: &H, now: u64) {
-        let requester = wanted.requester;
+    /// Requests the signature of an answer that was in the queue, as [`EventLoop::request`] does. If its client closed its sending side while it was
+    /// there, closes the connection instead.
+    fn request_next(&mut self, wanted: WantedSignature, index: usize, handler: &H, now: u64) {
         // Whether it was queued at an earlier moment.
         let has_waited = wanted.deadline < now.saturating_add(TIMEOUT_MILLIS);
-        if has_waited && self.http.close_if_ended(requester, &mut self.shared, now) {
+        if has_waited
+            && self
+                .http
+                .close_if_ended(wanted.requester, &mut self.shared, now)
+        {
             return;
         }
+        self.request(wanted, index, handler, now);
+    }
+
+    /// Requests the signature of an answer; `index` is that of a free `Place` of `signatures`.
+    fn request(&mut self, wanted: WantedSignature, index: usize, handler: &H, now: u64) {
+        let requester = wanted.requester;
         let kept = self.signatures.take(index);
         match self.http.request_signature(requester, handler, kept) {
             Ok(request) => {
@@ -306,6 +316,7 @@ impl<H: Handler> EventLoop<H> {
                     self.complete(requester, &mut None, handler, now);
                 }
             }
+            // The signer's backlog is full, or no descriptor is left.
             Err(error) if error.kind() == ErrorKind::WouldBlock => {
                 if !self.signatures.requeue(wanted, now) {
                     self.complete(requester, &mut None, handler, now);
@@ -336,6 +347,7 @@ impl<H: Handler> EventLoop<H> {
             requester,
             deadline,
         } = wanted;
+        // The signature, or the end of the signer's connection without one.
         let has_arrived = self.signatures.has_arrived(index);
         let is_awaited = deadline > now && self.http.is_waiting(requester);
         if is_awaited && !has_arrived {
@@ -344,7 +356,7 @@ impl<H: Handler> EventLoop<H> {
         let request = self.signatures.take(index);
         let mut answered = if has_arrived { request } else { None };
         if is_awaited && failed_unanswered(&answered) {
-            // The place has no kept connection now, so this request is sent on a new one.
+            // The `Place` has no kept connection now, so this request is sent on a new one.
             self.request(wanted, index, handler, now);
             return;
         }

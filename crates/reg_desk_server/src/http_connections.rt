@@ -15,8 +15,9 @@ use std::alloc::{AllocError, Global};
 use std::io;
 use std::io::ErrorKind;
 
-/// The most HTTP connections that can be open. All descriptors of the program but those to the signer stay within the usual limit of 1,024.
-pub const MOST_HTTP_CONNECTIONS: usize = 1_000;
+/// The most HTTP connections that can be open. With 32 connections to the signer they leave 32 descriptors of the usual limit of 1,024: for the
+/// register, the log, copies, and the control socket.
+pub const MOST_HTTP_CONNECTIONS: usize = 960;
 
 /// The most unsent bytes of all HTTP connections together: 64 MiB.
 const MOST_UNSENT: usize = 67_108_864;

@@ -35,7 +35,7 @@ impl Shared {
     }
 }
 
-/// A connection with a fault, lost or not; a control connection has no address.
+/// A fault of a connection: the connection was lost, or what came of its request is answered. A control connection has no address.
 #[derive(Clone, Copy)]
 pub(crate) struct LostConnection {
     pub(crate) client: Option<SocketAddr>,
