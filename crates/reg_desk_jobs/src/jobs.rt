@@ -31,9 +31,9 @@ use std::alloc::Global;
 use std::cell::Cell;
 use std::io::Write;
 
-/// Creates a register at a path. The issuer and the policy are checked first. If the job fails and claimed a free path, it removes what it created
-/// there, except a register that another program created there meanwhile. Errors: `BadIssuer`; `BadPolicy`; `NotEmpty` if the file has a
-/// table, an index or a view; `Memory`; `Store`; `Write`.
+/// Creates a register at a path. The issuer and the policy are checked first. At a free path, `claim` creates an empty file. If the job then fails,
+/// it removes that file, unless another program has put a register into it meanwhile (`NotEmpty`). Errors: `BadIssuer`; `BadPolicy`; `NotEmpty` if
+/// the file has a table, an index or a view; `Memory`; `Store`; `Write`.
 pub fn init<M: Machine, W: Write>(
     alloc: Global,
     machine: &mut M,
@@ -101,6 +101,7 @@ pub fn script<M: Machine, R: Source, W: Sink>(
         machine.old machine.new reader.old reader.new writer.old writer.new path.now signer.now result }
 {
     let responder = ResponderChoice::Issuer { certificate: None };
+    // Without a signer, `open_signed` uses the placeholder digest; `open_unsigned` is for jobs that sign nothing.
     let mut office = open_signed(machine, path, signer, &responder)?;
     let is_unsigned = signer.is_none();
     let ran = run_script_over::<M, R, W>(alloc, machine, &mut office, is_unsigned, reader, writer);
@@ -203,7 +204,7 @@ fn import_strict_rows<M: Machine, R: Source, W: Sink>(
     imported
 }
 
-/// The end of a job, by the result of its run of lines or rows.
+/// The end of a job, as by [`ended`], but of a run that can also end at a refusal or at a last line without its line end.
 pub(crate) fn run_ended(ran: Result<Ended, Fault>) -> Result<(), Failure>
     ensures { result ≡ exit_of_run ran }
 {

@@ -1,4 +1,4 @@
-//! Chooses the signer of CRLs for a register in a file.
+//! Chooses the signer of CRLs for a register in a file (`FileSigner`): a process at a socket (`FileDevice`), the placeholder digest, or none.
 
 ghost use Rattle.std.specs.Prelude.{◌≡◌, ◌↔◌, ◌⊎◌, List, ℕ, Some, Option, option_copied, option_map, IsTrue, IfOk, IfErr, MatchOption};
 ghost use Rattle.sqlite.specs.Held.{state};
@@ -80,6 +80,7 @@ fn signer_without_process<C: Alter>(
 {
     let address = unreachable_address(latest);
     match signer_after(host, tables, latest, address.as_ref(), responder) {
+        // A placeholder digest needs no process, so it would succeed: here a signer that always fails replaces it.
         Ok(signer) => Ok(signer.without_digest()),
         Err(why) => Err(why),
     }
@@ -162,7 +163,8 @@ fn open_signer(
     }
 }
 
-/// A signer at a socket, with this key. Errors: `BadSigner` if the key does not fit the algorithm; `Memory`.
+/// A signer at a socket. `key` is its public key, by which the form of each signature is checked. Errors: `BadSigner` if the key does not fit the
+/// algorithm; `Memory`.
 pub(crate) fn key_signer(
     rt: &HostRuntime,
     socket: &str,

@@ -56,6 +56,7 @@ pub struct Desk<'a, 'w, M: Machine> {
     pub admission: Admission,
 }
 
+// The trait `Handler` describes each function, with its arguments `kept` and `link`.
 impl<'a, 'w, M: Machine> Handler for Desk<'a, 'w, M> {
     ghost use Rattle.std.specs.Prelude.{[], IsTrue};
     ghost use Rattle.reg_office_api.specs.Calls.{KeepsIn, LeadsIn};
@@ -211,6 +212,7 @@ impl<'a, 'w, M: Machine> Handler for Desk<'a, 'w, M> {
     }
 
     fn defer(&mut self, line: &[u8]) -> Option<Deferred<LineTicket>> {
+        // A line that is too long is not deferred.
         match read_line(untimed_line(line)?) {
             Some(command_line) => self.deferred_line(&command_line),
             None => None,
@@ -251,6 +253,7 @@ impl<'a, 'w, M: Machine> Handler for Desk<'a, 'w, M> {
         let Deferred { message, ticket } = deferred;
         let signed_ticket = ticket;
         let asked_ticket = ticket;
+        // The signer's answer, or the end of its connection without one.
         let has_arrived = link.is_some();
         let signature = line_signature_of::<M>(
             self.alloc,
