@@ -5,9 +5,11 @@ pub use Rattle.reg_core.proofs.MomentTexts.{moment_of-some, moment_of-text}
 pub use Rattle.reg_core.proofs.Schedules.{before_from_test, greatest_at_most_398, test_from_before}
 use Rattle.std.proofs.Common.{arith}
 use Rattle.reg_core.specs.Integer.{integer}
-use Rattle.reg_core.specs.Laws.{OctetsAreDigits, OctetsAreBelow, ZerosCountNothing, OneSpelling, OctetsAreLowest, OctetsInOrder, IntegersAreSpelled, OneInteger, OneNumber, IntegersAreShort, SerialsInOrder, OneSerial, OneMoment, NumbersAreRead, SerialsAreRead}
+use Rattle.reg_core.specs.Laws.{OctetsAreDigits, OctetsAreBelow, ZerosCountNothing, OneSpelling, OctetsAreLowest, OctetsInOrder, IntegersAreSpelled, OneInteger, OneNumber, IntegersAreShort, SerialsInOrder, OneSerial, OneMoment, NumbersAreRead, SerialsAreRead, WrittenNumbersAreRead, WrittenSerialsAreRead}
 use Rattle.reg_core.proofs.Integers as integers
 use Rattle.reg_core.proofs.Moments as moments
+use Rattle.reg_core.proofs.Numbers as decimals
+use Rattle.reg_core.proofs.Serials as spelled
 use Rattle.reg_core.proofs.TextLaws as texts
 
 pub octets_are_places : OctetsAreDigits
@@ -59,3 +61,9 @@ numbers_are_read = texts.numbers_are_read
 
 pub serials_are_read : SerialsAreRead
 serials_are_read = texts.serials_are_read
+
+pub written_numbers_are_read : WrittenNumbersAreRead
+written_numbers_are_read = decimals.decimal-is
+
+pub written_serials_are_read : WrittenSerialsAreRead
+written_serials_are_read = spelled.serial_text-is

@@ -1,12 +1,12 @@
 -- Laws over the definitions: octets and the numbers that they encode, INTEGERs, serial numbers, and the reading of texts.
-use Rattle.std.specs.Prelude.{◌≡◌, ◌↔◌, ℕ, ◌+◌, ◌*◌, ◌%◌, ◌^◌, ◌<◌, ◌≤◌, List, ◌∷◌, length, Some}
+use Rattle.std.specs.Prelude.{◌≡◌, ◌↔◌, ℕ, ◌+◌, ◌*◌, ◌%◌, ◌^◌, ◌<◌, ◌≤◌, List, ◌∷◌, decimal, length, Some}
 use Rattle.std.specs.Cmp.Lexicographic.{slice_cmp}
 use Rattle.std.specs.Int.{bytes_high_first}
 use Rattle.std.specs.Ordering.{nat_cmp}
 use Rattle.reg_core.specs.Calendar.{IsMoment, moment_text}
 use Rattle.reg_core.specs.Integer.{IsBytes, IsInteger, integer, value, without_zeros}
 use Rattle.reg_core.specs.Number.{IsNumberText, number_of}
-use Rattle.reg_core.specs.Serial.{IsSerial, IsSerialText, serial_bytes, serial_of}
+use Rattle.reg_core.specs.Serial.{IsSerial, IsSerialText, serial_bytes, serial_of, serial_text}
 
 -- ---- octets
 
@@ -88,3 +88,10 @@ NumbersAreRead = (text : List ℕ) (number : ℕ) → (number_of text ≡ Some n
 -- a serial number is read from a text exactly if the text writes that serial number
 abbrev pub SerialsAreRead : Type 0
 SerialsAreRead = (text : List ℕ) (serial : ℕ) → (serial_of text ≡ Some serial) ↔ IsSerialText text serial
+
+-- a number below 10^18 is read from its digits, and a serial number from its text
+abbrev pub WrittenNumbersAreRead : Type 0
+WrittenNumbersAreRead = (number : ℕ) → number < 10 ^ 18 → IsNumberText (decimal number) number
+
+abbrev pub WrittenSerialsAreRead : Type 0
+WrittenSerialsAreRead = (serial : ℕ) → IsSerial serial → IsSerialText (serial_text serial) serial

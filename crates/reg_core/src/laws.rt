@@ -3,7 +3,7 @@
 
 ghost use Rattle.reg_core.specs.Laws.{OctetsAreDigits, OctetsAreBelow, ZerosCountNothing, OneSpelling, OctetsAreLowest, OctetsInOrder};
 ghost use Rattle.reg_core.specs.Laws.{IntegersAreSpelled, OneInteger, OneNumber, IntegersAreShort, SerialsInOrder, OneSerial};
-ghost use Rattle.reg_core.specs.Laws.{OneMoment, NumbersAreRead, SerialsAreRead};
+ghost use Rattle.reg_core.specs.Laws.{OneMoment, NumbersAreRead, SerialsAreRead, WrittenNumbersAreRead, WrittenSerialsAreRead};
 
 /// The number that big-endian octets encode, and the octets that encode a number.
 pub fn octets_are_digits()
@@ -39,8 +39,10 @@ pub fn one_moment()
     ensures { OneMoment }
 {}
 
-/// A number, or a serial number, is read from exactly the texts that write it.
+/// A number, or a serial number, is read from exactly the texts that write it. One of these is its own text.
 pub fn texts_are_read()
     ensures numbers { NumbersAreRead }
     ensures serials { SerialsAreRead }
+    ensures written_numbers { WrittenNumbersAreRead }
+    ensures written_serials { WrittenSerialsAreRead }
 {}

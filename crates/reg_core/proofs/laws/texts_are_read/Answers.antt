@@ -6,3 +6,9 @@ returns-clause-numbers c = laws.numbers_are_read
 
 pub returns-clause-serials : goal.returns-clause-serials
 returns-clause-serials c = laws.serials_are_read
+
+pub returns-clause-written_numbers : goal.returns-clause-written_numbers
+returns-clause-written_numbers c = laws.written_numbers_are_read
+
+pub returns-clause-written_serials : goal.returns-clause-written_serials
+returns-clause-written_serials c = laws.written_serials_are_read
