@@ -5,3 +5,7 @@ pub mod Pieces
 pub mod Places
 pub mod Whole
 pub mod PublicLaws
+pub mod FieldsRead
+pub mod RowsRead
+pub mod LinesRead
+pub mod PartsRead

@@ -45,10 +45,12 @@ revocation_line row =
     feed_line (codes "revocation")
     (Serial row.serial ∷ At row.at ∷ Number row.reason ∷ Number row.request ∷ Number row.first ∷ [])
 
+abbrev pub crl_line : CrlRow → ℕ → List ℕ
+crl_line row octets = feed_line (codes "crl") (Number row.number ∷ At row.this_update ∷ Number octets ∷ [])
+
 -- a CRL: its line has the number of its octets, which follow
 unfoldable pub crl_feed_text : CrlRow → List ℕ → List ℕ
-crl_feed_text row der =
-    feed_line (codes "crl") (Number row.number ∷ At row.this_update ∷ Number (length der) ∷ []) ++ der ++ 10 ∷ []
+crl_feed_text row der = crl_line row (length der) ++ der ++ 10 ∷ []
 
 -- ---- the lines before the rows
 

@@ -8,3 +8,5 @@ pub mod Texts
 pub mod FeedLines
 pub mod Positions
 pub mod Feed
+pub mod FeedReading
+pub mod ReceivedPages

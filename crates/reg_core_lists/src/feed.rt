@@ -196,7 +196,7 @@ fn put_crl_part(out: &mut Vec<u8>, crl: &Option<FeedCrl>) -> Result<(), AllocErr
 
 /// The last line: whether there is nothing after the page, and the positions after it.
 #[tactic(auto, unfolding(crate::specs::Feed::last_line))]
-fn put_last_line(
+pub(crate) fn put_last_line(
     alloc: Global,
     out: &mut Vec<u8>,
     ends: bool,

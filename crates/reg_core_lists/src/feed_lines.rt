@@ -3,7 +3,7 @@
 
 ghost use Rattle.std.specs.Prelude.{◌≡◌, flat_map};
 ghost use Rattle.reg_core.specs.Buffers.{AppendsOnOk};
-ghost use Rattle.reg_core_lists.specs.FeedLines.{certificate_line, crl_feed_text, declined_line, feed_line, field_text, issuer_line, order_line, page_head, policy_line, request_line, revocation_line, schedule_line, step_text, subscriber_line};
+ghost use Rattle.reg_core_lists.specs.FeedLines.{certificate_line, crl_feed_text, crl_line, declined_line, feed_line, field_text, issuer_line, order_line, page_head, policy_line, request_line, revocation_line, schedule_line, step_text, subscriber_line};
 
 use crate::fields::{Cell, ground_cell};
 use crate::texts::put_plain;
@@ -122,12 +122,17 @@ pub(crate) fn put_declined(out: &mut Vec<u8>, ids: &[u64]) -> Result<(), AllocEr
 pub(crate) fn put_crl(out: &mut Vec<u8>, row: &CrlRow, der: &[u8]) -> Result<(), AllocError>
     ensures { AppendsOnOk out.old out.new result (crl_feed_text row.now der.now) }
 {
-    let (number, this_update) = (Cell::Number(row.number), Cell::At(row.this_update));
-    let octets = Cell::Number(der.len() as u64);
-    put_fields(out, "crl", &[number, this_update, octets])?;
+    put_crl_line(out, row, der.len() as u64)?;
     out.extend_from_slice(der)?;
     out.push(b'\n')?;
     Ok(())
+}
+
+pub(crate) fn put_crl_line(out: &mut Vec<u8>, row: &CrlRow, octets: u64) -> Result<(), AllocError>
+    ensures { AppendsOnOk out.old out.new result (crl_line row.now octets) }
+{
+    let (number, this_update) = (Cell::Number(row.number), Cell::At(row.this_update));
+    put_fields(out, "crl", &[number, this_update, Cell::Number(octets)])
 }
 
 /// A line of a word and fields.

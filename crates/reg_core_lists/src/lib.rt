@@ -3,7 +3,10 @@
 
 mod cursor;
 mod feed;
+mod feed_fields;
+mod feed_items;
 mod feed_lines;
+mod feed_reader;
 mod fields;
 mod filter;
 mod list_parameters;
@@ -14,6 +17,7 @@ mod texts;
 pub use cursor::Cursor;
 pub use feed::{FeedCrl, FeedPage, FeedRows, MOST_ROWS, before_later, digest_of};
 pub use feed_lines::{FeedLine, put_head};
+pub use feed_reader::{FeedHead, PageFault, ReceivedPage, read_feed_page};
 pub use filter::Filter;
 pub use list_parameters::{PageQuery, read_page, read_prefix};
 pub use positions::{Declines, Positions, RowCounts, WINDOW, no_declines, zero_counts};

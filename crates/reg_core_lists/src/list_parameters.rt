@@ -114,7 +114,7 @@ fn behind(text: &[u8], index: usize) -> &[u8]
 }
 
 /// The index of the first byte `wanted`; the length of the text if there is none.
-fn index_of(text: &[u8], wanted: u8) -> usize
+pub(crate) fn index_of(text: &[u8], wanted: u8) -> usize
     ensures index { result ≡ position_or_len (λ byte. byte == wanted) text.now }
     ensures within { result ≤ length text.now }
 {
@@ -124,7 +124,7 @@ fn index_of(text: &[u8], wanted: u8) -> usize
     }
 }
 
-fn position_of(text: &[u8], wanted: u8) -> Option<usize>
+pub(crate) fn position_of(text: &[u8], wanted: u8) -> Option<usize>
     ensures { result ≡ position (λ byte. byte == wanted) text.now }
 {
     text.iter().position(|byte| *byte == wanted)

@@ -1,0 +1,297 @@
+//! Reads a page of the changes feed. A page is read exactly if its text is the one that `put_head` and `FeedPage::put` write for what is read: the
+//! reader writes each part that it has read, and compares.
+
+ghost use Rattle.std.specs.Prelude.{◌≡◌, ◌≢◌, ◌++◌, ◌∷◌, [], ◌↔◌, ℕ, Bool, List, Option, Some, None, IfErr, IfOk, IfSome, IsTrue, MatchOption, codes, length, option_map};
+ghost use Rattle.std.specs.Result.{result_ok};
+ghost use Rattle.hex.specs.Hex.{decode_of};
+ghost use Rattle.reg_core.specs.Policy.{IsPolicy, Terms};
+ghost use Rattle.reg_core.specs.Crls.{row_of};
+ghost use Rattle.reg_core.specs.Records.{Crl};
+ghost use Rattle.reg_core_lists.specs.Feed.{RowLists, crl_part, feed_crl_of, feed_rows_of, feed_rows_text, last_line};
+ghost use Rattle.reg_core_lists.specs.FeedReading.{crl_line_read, is_other_version};
+ghost use Rattle.reg_core_lists.specs.ReceivedPages.{HasNoRow, HeadTerms, IsAlone, IsReadable, IsReadableCrlPart, IsReadableHead, IsReadablePositions, IsReadableRows, ReadsAs, ReadsRows, Received, fields_of_terms, head_fields_of, head_terms_of, head_terms_text, received_of, received_text};
+ghost use Rattle.reg_core_lists.specs.declared.positions.Positions.{Positions};
+ghost use Rattle.reg_core_lists.specs.declared.feed_reader.PageFault.TheVariants.{Memory, Version};
+
+use crate::feed::{FeedCrl, FeedRows, MOST_ROWS, put_last_line};
+use crate::feed_fields::{
+    HeadFields, after_prefix, is_other_version, read_crl_line, read_head_fields, read_last_line,
+};
+use crate::feed_items::read_all;
+use crate::feed_lines::{put_crl_line, put_head};
+use crate::positions::Positions;
+use hex::FromHexError;
+use reg_core::{CrlRow, Moment, Policy, Schedule};
+use std::alloc::{AllocError, Global};
+
+/// The lines before the rows of a page.
+#[derive(Drop)]
+pub struct FeedHead {
+    /// The columns `name` and `pubkey` of the table `office`.
+    pub stored_name: Vec<u8>,
+    pub key: Vec<u8>,
+    pub policy: Policy,
+    /// The last accepted moment.
+    pub last: Moment,
+}
+
+/// A page of the changes feed, as it was received.
+#[derive(Drop)]
+pub struct ReceivedPage {
+    pub head: FeedHead,
+    /// No request among them is marked as declined: the ids of declined requests are rows of their own.
+    pub rows: FeedRows,
+    /// The CRL, if the page has one: then it has no other row.
+    pub crl: Option<FeedCrl>,
+    /// Whether there is nothing after the page.
+    pub ends: bool,
+    /// The positions after it.
+    pub positions: Positions,
+}
+
+/// Why a page can't be read.
+#[derive(Clone, Copy, PartialEq, Eq, Debug)]
+pub enum PageFault {
+    /// It is of another version of the feed.
+    Version,
+    /// It is not the text of a page of this version.
+    Malformed,
+    /// Out of memory.
+    Memory,
+}
+
+impl From<AllocError> for PageFault {
+    ghost use Rattle.reg_core_lists.specs.declared.feed_reader.PageFault.TheVariants.{Memory};
+
+    ghost from_gives = { λ _ fault. fault ≡ Memory };
+
+    fn from(_error: AllocError) -> PageFault {
+        PageFault::Memory
+    }
+}
+
+/// Reads a page. Its numbers must be below 10^18, and its policy and names those that the register allows. No other page like this has the same text.
+pub fn read_feed_page(alloc: Global, page: &[u8]) -> Result<ReceivedPage, PageFault>
+    ensures text { IfOk result (λ read. page.now ≡ received_text (received_of read)) }
+    ensures alone { IfOk result (λ read. IsAlone (received_of read).parts) }
+    ensures only { (it : Received) → IsReadable it → page.now ≡ received_text it → ReadsAs result it }
+    ensures version { IfErr result (λ fault. fault ≢ Memory → (fault ≡ Version) ↔ IsTrue (is_other_version page.now)) }
+{
+    if is_other_version(page) {
+        return Err(PageFault::Version);
+    }
+    match read_parts(alloc, page)? {
+        Some(page) => Ok(page),
+        None => Err(PageFault::Malformed),
+    }
+}
+
+/// Reads a page of this version; `None` if it is malformed.
+fn read_parts(alloc: Global, page: &[u8]) -> Result<Option<ReceivedPage>, AllocError>
+    ensures text { IfOk result (λ found. IfSome found (λ read. page.now ≡ received_text (received_of read))) }
+    ensures alone { IfOk result (λ found. IfSome found (λ read. IsAlone (received_of read).parts)) }
+    ensures only { (it : Received) → IsReadable it → page.now ≡ received_text it
+        → IfOk result (λ found. MatchOption found ⊥ (λ read. received_of read ≡ it)) }
+{
+    let (head, rest) = match read_head(alloc, page)? {
+        Some(found) => found,
+        None => return Ok(None),
+    };
+    let (rows, rest) = match read_rows(alloc, rest)? {
+        Some(found) => found,
+        None => return Ok(None),
+    };
+    let (crl, rest) = match read_crl(alloc, rest)? {
+        Some(found) => found,
+        None => return Ok(None),
+    };
+    if crl.is_some() && rows.room() != MOST_ROWS {
+        return Ok(None);
+    }
+    let (ends, positions) = match read_end(alloc, rest)? {
+        Some(found) => found,
+        None => return Ok(None),
+    };
+    Ok(Some(ReceivedPage {
+        head,
+        rows,
+        crl,
+        ends,
+        positions,
+    }))
+}
+
+// ---- the parts of a page: each call gives the part and the text after it, or `None` if the part is malformed
+
+fn read_head(alloc: Global, page: &[u8]) -> Result<Option<(FeedHead, &[u8])>, AllocError>
+    ensures text { IfOk result (λ found. IfSome found (λ it. page.now ≡ head_terms_text (head_terms_of it.0) ++ it.1.now)) }
+    ensures only { (head : HeadTerms) (rest : List ℕ) → IsReadableHead head → page.now ≡ head_terms_text head ++ rest
+        → IfOk result (λ found. MatchOption found ⊥ (λ it. (head_terms_of it.0 ≡ head) × (it.1.now ≡ rest))) }
+{
+    let fields = match read_head_fields(page) {
+        Some(fields) => fields,
+        None => return Ok(None),
+    };
+    let head = match head_with(alloc, &fields)? {
+        Some(head) => head,
+        None => return Ok(None),
+    };
+    let mut text = Vec::new(alloc);
+    put_head(
+        alloc,
+        &mut text,
+        &head.stored_name,
+        &head.key,
+        &head.policy,
+        head.last,
+    )?;
+    match after_prefix(&text, page) {
+        Some(rest) => Ok(Some((head, rest))),
+        None => Ok(None),
+    }
+}
+
+/// The head with these fields.
+fn head_with(alloc: Global, fields: &HeadFields) -> Result<Option<FeedHead>, AllocError>
+    ensures only { (head : HeadTerms) → IsReadableHead head → head_fields_of fields.now ≡ fields_of_terms head
+        → IfOk result (λ found. MatchOption found ⊥ (λ it. head_terms_of it ≡ head)) }
+{
+    let stored_name = match decode(alloc, fields.name)? {
+        Some(octets) => octets,
+        None => return Ok(None),
+    };
+    let key = match decode(alloc, fields.key)? {
+        Some(octets) => octets,
+        None => return Ok(None),
+    };
+    let (steps, _) = read_all::<(Moment, u64)>(alloc, fields.steps)?;
+    match policy_with(&steps, fields.crl_life, fields.ocsp_life, fields.cap) {
+        Some(policy) => Ok(Some(FeedHead {
+            stored_name,
+            key,
+            policy,
+            last: fields.last,
+        })),
+        None => Ok(None),
+    }
+}
+
+fn policy_with(steps: &[(Moment, u64)], crl_life: u64, ocsp_life: u64, cap: u64) -> Option<Policy>
+    ensures { (terms : Terms) → IsPolicy terms
+        → terms ≡ record { schedule = steps.now; crl_life = crl_life; ocsp_life = ocsp_life; cap = cap } → result ≡ Some terms }
+{
+    Policy::with(Schedule::new(steps)?, crl_life, ocsp_life, cap)
+}
+
+fn decode(alloc: Global, digits: &[u8]) -> Result<Option<Vec<u8>>, AllocError>
+    ensures { IfOk result (λ found. option_map (λ octets. octets.items) found ≡ result_ok (decode_of digits.now)) }
+{
+    match hex::decode(alloc, digits) {
+        Ok(octets) => Ok(Some(octets)),
+        Err(FromHexError::OutOfMemory) => Err(AllocError),
+        Err(_) => Ok(None),
+    }
+}
+
+fn read_rows(alloc: Global, text: &[u8]) -> Result<Option<(FeedRows, &[u8])>, AllocError>
+    ensures text { IfOk result (λ found. IfSome found (λ it. text.now ≡ feed_rows_text (feed_rows_of it.0) ++ it.1.now)) }
+    ensures only { (rows : RowLists) (rest : List ℕ) → IsReadableRows rows → HasNoRow rest → text.now ≡ feed_rows_text rows ++ rest
+        → IfOk result (λ found. MatchOption found ⊥ (λ it. (feed_rows_of it.0 ≡ rows) × (it.1.now ≡ rest))) }
+{
+    let rows = rows_in(alloc, text)?;
+    let mut written = Vec::new(alloc);
+    rows.put(&mut written)?;
+    match after_prefix(&written, text) {
+        Some(rest) => Ok(Some((rows, rest))),
+        None => Ok(None),
+    }
+}
+
+/// The rows at the beginning of the text, table after table.
+fn rows_in(alloc: Global, text: &[u8]) -> Result<FeedRows, AllocError>
+    ensures { IfOk result (λ rows. ReadsRows (feed_rows_of rows) text.now) }
+{
+    let (subscribers, rest) = read_all(alloc, text)?;
+    let (orders, rest) = read_all(alloc, rest)?;
+    let (certificates, rest) = read_all(alloc, rest)?;
+    let (requests, rest) = read_all(alloc, rest)?;
+    let (declined, rest) = read_all(alloc, rest)?;
+    let (revocations, _) = read_all(alloc, rest)?;
+    Ok(FeedRows {
+        subscribers,
+        orders,
+        certificates,
+        requests,
+        declined,
+        revocations,
+    })
+}
+
+/// The CRL, if there is one.
+fn read_crl(alloc: Global, text: &[u8]) -> Result<Option<(Option<FeedCrl>, &[u8])>, AllocError>
+    ensures text { IfOk result (λ found. IfSome found (λ it.
+        text.now ≡ crl_part (option_map feed_crl_of it.0) ++ it.1.now)) }
+    ensures only { (crl : Option Crl) (rest : List ℕ) → IsReadableCrlPart crl → crl_line_read rest ≡ None → text.now ≡ crl_part crl ++ rest
+        → IfOk result (λ found. MatchOption found ⊥ (λ it. (option_map feed_crl_of it.0 ≡ crl) × (it.1.now ≡ rest))) }
+{
+    match read_crl_line(text) {
+        Some((row, octets)) => read_crl_octets(alloc, text, row, octets),
+        None => Ok(Some((None, text))),
+    }
+}
+
+/// The CRL with this line.
+#[tactic(auto, unfolding(crate::specs::FeedLines::crl_feed_text))]
+fn read_crl_octets(
+    alloc: Global,
+    text: &[u8],
+    row: CrlRow,
+    octets: u64,
+) -> Result<Option<(Option<FeedCrl>, &[u8])>, AllocError>
+    ensures text { IfOk result (λ found. IfSome found (λ it.
+        text.now ≡ crl_part (option_map feed_crl_of it.0) ++ it.1.now)) }
+    ensures only { (crl : Crl) (rest : List ℕ) → row ≡ row_of crl → octets ≡ length crl.bytes → text.now ≡ crl_part (Some crl) ++ rest
+        → IfOk result (λ found. MatchOption found ⊥ (λ it. (option_map feed_crl_of it.0 ≡ Some crl) × (it.1.now ≡ rest))) }
+{
+    let mut line = Vec::new(alloc);
+    put_crl_line(&mut line, &row, octets)?;
+    match octets_after(&line, octets, text) {
+        Some((der, rest)) => {
+            let der = Vec::from_slice(alloc, der)?;
+            Ok(Some((Some(FeedCrl { row, der }), rest)))
+        }
+        None => Ok(None),
+    }
+}
+
+/// So many octets after a line, up to the LF after them, and the text after that.
+fn octets_after<'a>(line: &[u8], octets: u64, text: &'a [u8]) -> Option<(&'a [u8], &'a [u8])>
+    ensures { MatchOption result ((der rest : List ℕ) → length der ≡ octets → text.now ≢ line.now ++ der ++ 10 ∷ rest)
+        (λ it. (length it.0.now ≡ octets) × (text.now ≡ line.now ++ it.0.now ++ 10 ∷ it.1.now)) }
+{
+    let rest = after_prefix(line, text)?;
+    if octets > rest.len() as u64 {
+        return None;
+    }
+    let (der, rest) = rest.split_at(octets as usize);
+    Some((der, after_prefix(b"\n", rest)?))
+}
+
+/// The last line, up to the end of the page.
+fn read_end(alloc: Global, text: &[u8]) -> Result<Option<(bool, Positions)>, AllocError>
+    ensures text { IfOk result (λ found. IfSome found (λ it. text.now ≡ last_line it.0 it.1)) }
+    ensures only { (ends : Bool) (positions : Positions) → IsReadablePositions positions → text.now ≡ last_line ends positions
+        → IfOk result (λ found. MatchOption found ⊥ (λ it. (it.0 ≡ ends) × (it.1 ≡ positions))) }
+{
+    let (ends, positions) = match read_last_line(text) {
+        Some(read) => read,
+        None => return Ok(None),
+    };
+    let mut line = Vec::new(alloc);
+    put_last_line(alloc, &mut line, ends, &positions)?;
+    if text == line.as_slice() {
+        Ok(Some((ends, positions)))
+    } else {
+        Ok(None)
+    }
+}
