@@ -119,5 +119,5 @@ pub enum Reply {
     NextCrl(Option<Moment>),
 }
 
-/// The outcome of a command or query.
+/// The reply to a command or query, or a [`Fault`]: a refusal or a failure.
 pub type Outcome = Result<Reply, Fault>;

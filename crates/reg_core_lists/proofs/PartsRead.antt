@@ -1,16 +1,15 @@
 -- The parts of a page are read as they were written.
-use Rattle.std.proofs.Common.{◌≡◌, ◌≢◌, ℕ, ◌==◌, Bool, true, false, cond, List, [], ◌∷◌, ◌++◌, length, take, drop, Option, Some, None, append_assoc, refl, sym, ap, subst, ◌∙◌}
-use Rattle.std.specs.Prelude.{flat_map, is_some, option_map}
+use Rattle.std.proofs.Common.{◌≡◌, ◌≢◌, ℕ, List, [], ◌∷◌, ◌++◌, length, take, drop, Option, Some, None, append_assoc, sym, ap, subst, ◌∙◌}
+use Rattle.std.specs.Prelude.{IfSome, MatchOption, flat_map}
 use Rattle.std.specs.Result.{result_ok}
 use Rattle.std.proofs.Math.Seq.{drop-append_seam, take-append_seam}
-use Rattle.std.proofs.lemmas.Bool.{eqb-true}
 use Rattle.std.proofs.lemmas.List.{append_cancel_left}
 use Rattle.hex.specs.Hex.{IsBytes, decode_of, encode_lower}
 use Rattle.hex.proofs.HexLemmas.{decode_of-encode_lower}
 use Rattle.reg_core.specs.Crls.{row_of}
 use Rattle.reg_core.specs.Records.{Crl}
 use Rattle.reg_core.specs.declared.rows.CrlRow.{CrlRow}
-use Rattle.reg_core_lists.specs.Feed.{RowLists, crl_alone, crl_part, feed_rows_text, last_line, page_parts_text, room}
+use Rattle.reg_core_lists.specs.Feed.{crl_part, feed_rows_text, last_line, page_parts_text}
 use Rattle.reg_core_lists.specs.FeedLines.{crl_feed_text, crl_line, step_text}
 use Rattle.reg_core_lists.specs.FeedReading.{HeadFields, ReadsItems, crl_line_read, step_read}
 use Rattle.reg_core_lists.specs.ReceivedPages.{HeadTerms, IsReadableCrl, IsReadableHead, Received, fields_of_terms, head_terms_text, positions_of, received_text}
@@ -92,35 +91,12 @@ unfolding page_parts_text
 parts_text it = append_assoc (feed_rows_text it.parts.rows) (crl_part it.parts.crl) (last_line it.parts.ends (positions_of it))
 
 -- a page is its parts, one after the other
-pub whole_page : (it : Received) (page after_head after_rows after_crl : List ℕ) → page ≡ head_terms_text it.head ++ after_head
-    → after_head ≡ feed_rows_text it.parts.rows ++ after_rows → after_rows ≡ crl_part it.parts.crl ++ after_crl
-    → after_crl ≡ last_line it.parts.ends (positions_of it) → page ≡ received_text it
-whole_page it page after_head after_rows after_crl head rows crl end =
-    head ∙ ap (λ (t : List ℕ). head_terms_text it.head ++ t)
-    (rows ∙ ap (λ (t : List ℕ). feed_rows_text it.parts.rows ++ t) (crl ∙ ap (λ (t : List ℕ). crl_part it.parts.crl ++ t) end))
-    ∙ ap (λ (t : List ℕ). head_terms_text it.head ++ t) (sym (parts_text it))
+pub whole_parts : (it : Received) (text : List ℕ)
+    → text ≡ feed_rows_text it.parts.rows ++ (crl_part it.parts.crl ++ last_line it.parts.ends (positions_of it))
+    → head_terms_text it.head ++ text ≡ received_text it
+whole_parts it text is = ap (λ (t : List ℕ). head_terms_text it.head ++ t) (is ∙ sym (parts_text it))
 
--- a page with a CRL has room for all rows
-pub alone_room : (rows : RowLists) (crl : Option Crl) → crl_alone rows crl ≡ crl → is_some crl ≡ true → room rows ≡ 1000
-alone_room rows None alone some = cc some
-alone_room rows (Some crl) alone some = by (room rows == 1000) refl alone
-  where
-    by : (b : Bool) → (room rows == 1000) ≡ b → cond b (Some crl) None ≡ Some crl → room rows ≡ 1000
-    by true test is = eqb-true (room rows) 1000 test
-    by false test is = cc is
-
-pub some_of : {A B : Type 0} (f : A → B) (o : Option A) (other : Option B) → option_map f o ≡ other → is_some o ≡ true → is_some other ≡ true
-some_of f (Some x) other is some = ap is_some (sym is)
-some_of f None other is some = cc some
-
-pub room_alone : (rows : RowLists) (crl : Option Crl) → room rows ≡ 1000 → crl_alone rows crl ≡ crl
-room_alone rows crl is = rw is refl
-
-pub none_alone : {A : Type 0} (f : A → Crl) (rows : RowLists) (crl : Option A) → is_some crl ≡ false → crl_alone rows
-    (option_map f crl) ≡ option_map f crl
-none_alone f rows (Some crl) none = cc none
-none_alone f rows None none = by (room rows == 1000)
-  where
-    by : (b : Bool) → (let nothing : Option Crl = None in cond b nothing nothing ≡ nothing)
-    by true = refl
-    by false = refl
+pub if_some : {A : Type 0} (P : Type 0) (Q R : A → Type 0) (wanted : A) (found : Option A) → MatchOption found P (λ it. (it ≡ wanted) × Q it)
+    → R wanted → IfSome found R
+if_some P Q R wanted None is holds = tt
+if_some P Q R wanted (Some it) is holds = subst R (sym is.0) holds

@@ -129,6 +129,21 @@ declined_read text = do
   id_value ← number_of id.0
   Some (id_value, line.1)
 
+abbrev pub revocation_with : List ℕ → List ℕ → List ℕ → List ℕ → List ℕ → Option RevocationRow
+revocation_with serial at reason request first = do
+  serial_value ← serial_of serial
+  at_value ← moment_of at
+  reason_value ← octet_of reason
+  request_value ← number_of request
+  first_value ← number_of first
+  Some (record {
+    serial = serial_value;
+    at = at_value;
+    reason = reason_value;
+    request = request_value;
+    first = first_value;
+  })
+
 unfoldable pub revocation_read : List ℕ → Option (RevocationRow × List ℕ)
 revocation_read text = do
   line ← line_read (codes "revocation") text
@@ -137,21 +152,8 @@ revocation_read text = do
   reason ← field_read at.1
   request ← field_read reason.1
   first ← field_read request.1
-  serial_value ← serial_of serial.0
-  at_value ← moment_of at.0
-  reason_value ← octet_of reason.0
-  request_value ← number_of request.0
-  first_value ← number_of first.0
-  Some (
-    record {
-      serial = serial_value;
-      at = at_value;
-      reason = reason_value;
-      request = request_value;
-      first = first_value;
-    },
-    line.1,
-  )
+  row ← revocation_with serial.0 at.0 reason.0 request.0 first.0
+  Some (row, line.1)
 
 -- ---- the other lines
 

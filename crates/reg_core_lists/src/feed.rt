@@ -15,7 +15,7 @@ use std::alloc::{AllocError, Global};
 /// The most rows of a page.
 pub const MOST_ROWS: u64 = 1_000;
 
-/// How many of the last octets of a CRL the digest of positions has.
+/// The digest of positions covers at most so many octets, the last ones of the last CRL.
 const END_OCTETS: usize = 64;
 
 /// Rows of the changes feed, but for CRLs.
@@ -64,7 +64,7 @@ impl FeedRows {
         put_lines(out, &self.revocations)
     }
 
-    /// The counts after these rows and so many CRLs. `None` if a number is above 2^64 - 1.
+    /// `counts` with these rows and `crls` CRLs added. `None` if a number is above 2^64 - 1.
     pub fn counts_after(&self, counts: &RowCounts, crls: u64) -> Option<RowCounts>
         ensures { IfSome result (λ reached. reached ≡ counts_after counts.now (feed_rows_of self.now) crls) }
     {
@@ -78,7 +78,7 @@ impl FeedRows {
         })
     }
 
-    /// The declines after those of these rows. `None` if a number is above 2^64 - 1.
+    /// `declines` with those of these rows added. `None` if a number is above 2^64 - 1.
     pub fn declines_after(&self, declines: &Declines) -> Option<Declines>
         ensures { IfSome result (λ reached. reached ≡ declines_after declines.now self.now.declined.items) }
     {
@@ -89,14 +89,14 @@ impl FeedRows {
     }
 }
 
-/// The number after that of so many rows more.
+/// `count` plus the number of these rows. `None` if that is above 2^64 - 1.
 fn after<T>(count: u64, rows: &[T]) -> Option<u64>
     ensures { IfSome result (λ number. number ≡ count + length rows.now) }
 {
     count.checked_add(rows.len() as u64)
 }
 
-/// The first revocations, up to the first one that no CRL up to the next one can list.
+/// The revocations before the first one that the next CRL, `crls` + 1, can't list, since `first` is a later one: in the feed it comes after that CRL.
 #[tactic(auto, using(crate::proofs::FeedCuts::cut_at, crate::proofs::FeedCuts::cut_nowhere))]
 pub fn before_later(mut rows: Vec<RevocationRow>, crls: u64) -> Vec<RevocationRow>
     ensures { result.items ≡ before_first (is_later crls) rows.items }
@@ -222,7 +222,8 @@ fn put_ending(out: &mut Vec<u8>, ends: bool) -> Result<(), AllocError>
 
 // ---- the digest of positions
 
-/// The digest of the positions with these counts, from the last rows of each table and the DER of the last CRL. `AllocError` if out of memory.
+/// The digest of the positions with these counts: the SHA-256 of the issuer's Name and key, the counts, the last rows of each table and the end of
+/// the last CRL. `AllocError` if out of memory.
 #[tactic(auto, unfolding(crate::specs::Feed::digest_text))]
 pub fn digest_of(
     alloc: Global,

@@ -1,8 +1,8 @@
-//! Reads the rows of a page of the changes feed, and the steps of a schedule. It reads more texts than the feed has, such as numbers with leading
-//! zeros; `feed_reader.rt` compares the text with that of what was read.
+//! Reads the rows of a page of the changes feed, and the steps of a schedule. It accepts more than a desk writes, such as numbers with leading zeros:
+//! `feed_reader.rt` then writes the rows that were read, and refuses a page whose text differs.
 
 ghost use Rattle.std.specs.Prelude.{◌≡◌, ◌<◌, ◌+◌, ℕ, List, IfOk, length};
-ghost use Rattle.reg_core_lists.specs.FeedReading.{ReadsItems, certificate_read, declined_read, order_read, request_read, revocation_read, step_read, subscriber_read};
+ghost use Rattle.reg_core_lists.specs.FeedReading.{ReadsItems, certificate_read, declined_read, order_read, request_read, revocation_read, revocation_with, step_read, subscriber_read};
 
 use crate::feed_fields::{
     after_prefix, line_after, read_ground, read_name, read_octet, take_field,
@@ -130,6 +130,7 @@ impl Leading for u64 {
     }
 }
 
+/// The last field, `first`, is the number of the first CRL that can list the revocation.
 impl Leading for RevocationRow {
     ghost read = { revocation_read };
 
@@ -141,15 +142,28 @@ impl Leading for RevocationRow {
         let (reason, fields) = take_field(fields)?;
         let (request, fields) = take_field(fields)?;
         let (first, _) = take_field(fields)?;
-        let row = RevocationRow {
-            serial: Serial::read(serial)?,
-            at: Moment::read(at)?,
-            reason: read_octet(reason)?,
-            request: read_number(request)?,
-            first: read_number(first)?,
-        };
+        let row = revocation_with(serial, at, reason, request, first)?;
         Some((row, behind))
     }
+}
+
+/// The revocation with the values of these fields.
+fn revocation_with(
+    serial: &[u8],
+    at: &[u8],
+    reason: &[u8],
+    request: &[u8],
+    first: &[u8],
+) -> Option<RevocationRow>
+    ensures { result ≡ revocation_with serial.now at.now reason.now request.now first.now }
+{
+    Some(RevocationRow {
+        serial: Serial::read(serial)?,
+        at: Moment::read(at)?,
+        reason: read_octet(reason)?,
+        request: read_number(request)?,
+        first: read_number(first)?,
+    })
 }
 
 /// A step of a schedule.

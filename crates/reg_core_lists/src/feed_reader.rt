@@ -7,9 +7,9 @@ ghost use Rattle.hex.specs.Hex.{decode_of};
 ghost use Rattle.reg_core.specs.Policy.{IsPolicy, Terms};
 ghost use Rattle.reg_core.specs.Crls.{row_of};
 ghost use Rattle.reg_core.specs.Records.{Crl};
-ghost use Rattle.reg_core_lists.specs.Feed.{RowLists, crl_part, feed_crl_of, feed_rows_of, feed_rows_text, last_line};
+ghost use Rattle.reg_core_lists.specs.Feed.{RowLists, crl_alone, crl_part, feed_crl_of, feed_rows_of, feed_rows_text, last_line, page_parts_text};
 ghost use Rattle.reg_core_lists.specs.FeedReading.{crl_line_read, is_other_version};
-ghost use Rattle.reg_core_lists.specs.ReceivedPages.{HasNoRow, HeadTerms, IsAlone, IsReadable, IsReadableCrlPart, IsReadableHead, IsReadablePositions, IsReadableRows, ReadsAs, ReadsRows, Received, fields_of_terms, head_fields_of, head_terms_of, head_terms_text, received_of, received_text};
+ghost use Rattle.reg_core_lists.specs.ReceivedPages.{HasNoRow, HeadTerms, IsAlone, IsReadable, IsReadableCrlPart, IsReadableHead, IsReadablePositions, IsReadableRows, ReadsAs, ReadsRows, Received, fields_of_terms, head_fields_of, head_terms_of, head_terms_text, positions_of, received_of, received_text};
 ghost use Rattle.reg_core_lists.specs.declared.positions.Positions.{Positions};
 ghost use Rattle.reg_core_lists.specs.declared.feed_reader.PageFault.TheVariants.{Memory, Version};
 
@@ -97,28 +97,74 @@ fn read_parts(alloc: Global, page: &[u8]) -> Result<Option<ReceivedPage>, AllocE
         Some(found) => found,
         None => return Ok(None),
     };
-    let (rows, rest) = match read_rows(alloc, rest)? {
-        Some(found) => found,
-        None => return Ok(None),
-    };
-    let (crl, rest) = match read_crl(alloc, rest)? {
-        Some(found) => found,
-        None => return Ok(None),
-    };
-    if crl.is_some() && rows.room() != MOST_ROWS {
-        return Ok(None);
+    match read_after_head(alloc, rest)? {
+        Some((rows, crl, ends, positions)) => { Ok(page_with(head, rows, crl, ends, positions)) }
+        None => Ok(None),
     }
-    let (ends, positions) = match read_end(alloc, rest)? {
-        Some(found) => found,
-        None => return Ok(None),
-    };
-    Ok(Some(ReceivedPage {
+}
+
+/// The page with these parts, unless it has both a CRL and other rows.
+fn page_with(
+    head: FeedHead,
+    rows: FeedRows,
+    crl: Option<FeedCrl>,
+    ends: bool,
+    positions: Positions,
+) -> Option<ReceivedPage>
+    ensures { MatchOption result (crl_alone (feed_rows_of rows) (option_map feed_crl_of crl) ≢ option_map feed_crl_of crl)
+        (λ page. (page ≡ record { head = head; rows = rows; crl = crl; ends = ends; positions = positions }) × IsAlone (received_of page).parts) }
+{
+    if crl.is_some() && rows.room() != MOST_ROWS {
+        return None;
+    }
+    Some(ReceivedPage {
         head,
         rows,
         crl,
         ends,
         positions,
-    }))
+    })
+}
+
+/// The rows, the CRL if there is one, and the last line, up to the end of the page.
+fn read_after_head(
+    alloc: Global,
+    text: &[u8],
+) -> Result<Option<(FeedRows, Option<FeedCrl>, bool, Positions)>, AllocError>
+    ensures text { IfOk result (λ found. IfSome found (λ it. text.now ≡ feed_rows_text (feed_rows_of it.0)
+        ++ (crl_part (option_map feed_crl_of it.1) ++ last_line it.2 it.3))) }
+    ensures only { (it : Received) → IsReadable it → text.now ≡ page_parts_text it.parts it.digest
+        → IfOk result (λ found. MatchOption found ⊥ (λ read. (feed_rows_of read.0 ≡ it.parts.rows)
+        × (option_map feed_crl_of read.1 ≡ it.parts.crl) × (read.2 ≡ it.parts.ends) × (read.3 ≡ positions_of it))) }
+{
+    let (rows, rest) = match read_rows(alloc, text)? {
+        Some(found) => found,
+        None => return Ok(None),
+    };
+    match read_after_rows(alloc, rest)? {
+        Some((crl, ends, positions)) => Ok(Some((rows, crl, ends, positions))),
+        None => Ok(None),
+    }
+}
+
+/// The CRL, if there is one, and the last line, up to the end of the page.
+fn read_after_rows(
+    alloc: Global,
+    text: &[u8],
+) -> Result<Option<(Option<FeedCrl>, bool, Positions)>, AllocError>
+    ensures text { IfOk result (λ found. IfSome found (λ it. text.now ≡ crl_part (option_map feed_crl_of it.0) ++ last_line it.1 it.2)) }
+    ensures only { (crl : Option Crl) (ends : Bool) (positions : Positions) → IsReadableCrlPart crl → IsReadablePositions positions
+        → text.now ≡ crl_part crl ++ last_line ends positions
+        → IfOk result (λ found. MatchOption found ⊥ (λ it. (option_map feed_crl_of it.0 ≡ crl) × (it.1 ≡ ends) × (it.2 ≡ positions))) }
+{
+    let (crl, rest) = match read_crl(alloc, text)? {
+        Some(found) => found,
+        None => return Ok(None),
+    };
+    match read_end(alloc, rest)? {
+        Some((ends, positions)) => Ok(Some((crl, ends, positions))),
+        None => Ok(None),
+    }
 }
 
 // ---- the parts of a page: each call gives the part and the text after it, or `None` if the part is malformed

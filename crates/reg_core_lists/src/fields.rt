@@ -166,7 +166,7 @@ fn text_cell(text: &[u8]) -> Cell
     requires short { length text.now ≤ 64 }
     ensures { result ≡ Cell.Text text.now }
 {
-    Cell::Text(Label::joined(text, b""))
+    Cell::Text(word_label(text))
 }
 
 fn status_cell(status: Status) -> Cell
@@ -266,17 +266,32 @@ pub(crate) fn serial_cell(serial: Option<Serial>) -> Cell
 pub(crate) fn ground_cell(ground: Ground) -> Cell
     ensures { result ≡ Cell.Text (ground_name ground) }
 {
+    Cell::Text(ground_word(ground))
+}
+
+/// The name of a ground.
+pub fn ground_word(ground: Ground) -> Label
+    ensures { result ≡ ground_name ground }
+{
     match ground {
-        Ground::Asked => text_cell(b"asked"),
-        Ground::Unauthorized => text_cell(b"unauthorized"),
-        Ground::KeyCompromise => text_cell(b"key-compromise"),
-        Ground::ControlLost => text_cell(b"control-lost"),
-        Ground::Affiliation => text_cell(b"affiliation"),
-        Ground::Superseded => text_cell(b"superseded"),
-        Ground::Cessation => text_cell(b"cessation"),
-        Ground::Misuse => text_cell(b"misuse"),
-        Ground::NameNotPermitted => text_cell(b"name-not-permitted"),
-        Ground::Nonconforming => text_cell(b"nonconforming"),
-        Ground::Inaccurate => text_cell(b"inaccurate"),
+        Ground::Asked => word_label(b"asked"),
+        Ground::Unauthorized => word_label(b"unauthorized"),
+        Ground::KeyCompromise => word_label(b"key-compromise"),
+        Ground::ControlLost => word_label(b"control-lost"),
+        Ground::Affiliation => word_label(b"affiliation"),
+        Ground::Superseded => word_label(b"superseded"),
+        Ground::Cessation => word_label(b"cessation"),
+        Ground::Misuse => word_label(b"misuse"),
+        Ground::NameNotPermitted => word_label(b"name-not-permitted"),
+        Ground::Nonconforming => word_label(b"nonconforming"),
+        Ground::Inaccurate => word_label(b"inaccurate"),
     }
+}
+
+fn word_label(text: &[u8]) -> Label
+    requires not_empty { 1 ≤ length text.now }
+    requires short { length text.now ≤ 64 }
+    ensures { result ≡ text.now }
+{
+    Label::joined(text, b"")
 }

@@ -18,9 +18,12 @@ pub use cursor::Cursor;
 pub use feed::{FeedCrl, FeedPage, FeedRows, MOST_ROWS, before_later, digest_of};
 pub use feed_lines::{FeedLine, put_head};
 pub use feed_reader::{FeedHead, PageFault, ReceivedPage, read_feed_page};
+pub use fields::ground_word;
 pub use filter::Filter;
 pub use list_parameters::{PageQuery, read_page, read_prefix};
-pub use positions::{Declines, Positions, RowCounts, WINDOW, no_declines, zero_counts};
+pub use positions::{
+    Declines, Positions, RowCounts, WINDOW, no_declines, put_positions, zero_counts,
+};
 pub use rows::{
     ListedCertificate, ListedOrder, ListedRequest, ListedRevocation, Page, RequestWithState, Row,
 };

@@ -16,7 +16,7 @@ use std::alloc::{AllocError, Global};
 pub const WINDOW: u64 = 32;
 
 /// How many rows of each table a copy of a register has, in the order of entry.
-#[derive(Clone, Copy)]
+#[derive(Clone, Copy, PartialEq, Eq)]
 pub struct RowCounts {
     pub subscribers: u64,
     pub orders: u64,
@@ -27,7 +27,7 @@ pub struct RowCounts {
 }
 
 /// The declined requests that a copy of a register has: those up to an id.
-#[derive(Clone, Copy)]
+#[derive(Clone, Copy, PartialEq, Eq)]
 pub struct Declines {
     pub count: u64,
     /// The highest id of them; 0 if there are none.
@@ -48,7 +48,7 @@ impl Declines {
 }
 
 /// Positions in the changes feed.
-#[derive(Clone, Copy)]
+#[derive(Clone, Copy, PartialEq, Eq)]
 pub struct Positions {
     pub counts: RowCounts,
     pub declines: Declines,
@@ -160,7 +160,7 @@ fn read_digest(text: &[u8]) -> Option<[u8; 32]>
 
 /// Appends positions, as [`Positions::read`] reads them. `AllocError` if out of memory: then `out` may have some of the bytes.
 #[tactic(auto, unfolding(crate::specs::Positions::positions_text))]
-pub(crate) fn put_positions(
+pub fn put_positions(
     alloc: Global,
     out: &mut Vec<u8>,
     positions: &Positions,
