@@ -43,14 +43,14 @@ fn is_over_register<S: Alter>(alloc: Global, conn: &Connection<S>) -> Result<boo
     }
 }
 
-/// Checks the version, the issuer, the policy and the last accepted moment, as the opening of a register does. If the version is
-/// the program's, it checks that the schema is a register's ([`reg_store_schema::is_register`]), and then all rows
-/// ([`crate::audit`]). It changes nothing, and does not migrate a register of version 1 or 2. The connection must be in no
-/// transaction. The observer receives the progress.
+/// Checks the version, the issuer, the policy and the last accepted moment, as the opening of a register does. If the version is the program's, it
+/// checks that the schema is a register's ([`reg_store_schema::is_register`]), and then all rows ([`crate::audit`]). It changes nothing, and does not
+/// migrate a register of version 1 or 2. The connection must be in no transaction. The observer receives the progress.
 ///
-/// `Sound`: there are sound records that the tables show, if the connection was open and the presumed facts hold
-/// (`IsPresumed`). `Broken`: the tables show no sound records with values and derived tables that a register can have; if the defect is
-/// not the bytes of a CRL, this is so whatever these bytes are (`Disproves`). `Older` and `OtherSchema` say which tables there are.
+/// `Sound`: the tables show sound records, if the connection was open and two facts hold that no query can check (`IsPresumed`: the
+/// transaction isn't broken, and no row of `listed` lacks its last column). `Broken`: the tables show no sound records with values and derived
+/// tables that a register can have; a defect other than the bytes of a CRL proves this for any bytes of the CRLs (`Disproves`).
+/// `Older` and `OtherSchema` say which tables there are.
 ///
 /// # Errors
 /// `NotARegister` and `NewVersion`, as from [`examine`]; `Memory`; `Store` as from [`crate::audit`].

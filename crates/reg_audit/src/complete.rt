@@ -1,4 +1,5 @@
-//! Checks that a register's tables have only rows that a register writes, so that there are records that the tables show.
+//! Checks that a register's tables have only rows that a register writes, so that there are records that the tables show. A register deletes no
+//! records, so ids, CRL numbers and rowids are 1, 2, 3 and so on.
 
 ghost use Rattle.std.specs.Prelude.{◌≡◌, ℕ, IsTrue, IfOk, IfSome, OnOk};
 ghost use Rattle.std.specs.List.{AllByRecursion, AllZip};
@@ -51,6 +52,7 @@ fn is_number(row: &Row, at: usize, n: u64) -> bool
     }
 }
 
+/// Checks that the first column of the rows is 1, 2, 3 and so on.
 fn check_counted(table: RegisterTable, rows: &[Row]) -> Result<(), AuditFault>
     ensures counted { OnOk result (CountedFrom 1 rows.now) }
     ensures broken { CountedFrom 1 rows.now → NoBrokenRow result }

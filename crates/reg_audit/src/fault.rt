@@ -52,7 +52,7 @@ impl<T: Drop> From<AllocFailed<T>> for AuditFault {
     }
 }
 
-/// The fault for a row that breaks a rule, by its index in the table, counted from 0.
+/// The fault for a row that breaks a rule. `row_index` counts the rows of the table from 0, the report from 1.
 pub(crate) fn broken_at(table: RegisterTable, row_index: usize, why: Defect) -> AuditFault {
     let row = (row_index as u64).saturating_add(1);
     AuditFault::Broken(BrokenRow { table, row, why })

@@ -22,7 +22,7 @@ use reg_audit_rows::{Audited, Rows, StoredDerivedRows, check};
 use sqlite::Row;
 use std::alloc::Global;
 
-/// The rows that the statement with this index returned; none if there is no such statement.
+/// The rows of the statement whose index among those read is `row_index`; none if there is no such statement.
 pub(crate) fn rows_at(all: &[Vec<Row>], row_index: usize) -> &[Row]
     ensures read { (records : Records) → (columns : DerivedRows) → (whats : List AuditQuery) → (other : AuditQuery)
         → AreRead records columns whats all.now (λ rows. rows.items) → row_index < length whats
@@ -54,9 +54,12 @@ pub(crate) fn check_read(alloc: Global, all: &[Vec<Row>]) -> Result<Audited, Aud
     let requests = requests(alloc, rows_at(all, 4))?;
     let revocations = revocations(alloc, rows_at(all, 5))?;
     let crls = crls(alloc, rows_at(all, 6))?;
+    // the state letter of each certificate: good, revoked or expired
     let letters = letters(alloc, rows_at(all, 7))?;
     let counts = counts(rows_at(all, 8))?;
+    // the CRL entry of each revocation, with the numbers of the first and last CRL that list it
     let listed = listings(alloc, rows_at(all, 9))?;
+    // `cap` is the most rows of a table, and `last` the last accepted moment.
     let rows = Rows {
         cap: office.cap,
         last: office.last,

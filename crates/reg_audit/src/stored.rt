@@ -35,6 +35,7 @@ use std::alloc::Global;
 
 const SEQUENCE: u8 = 0x30;
 
+/// The most octets of the signatureAlgorithm, as for a signer's (`IsAlgorithm` of `reg_crl`).
 const MOST_ALGORITHM: usize = 1_024;
 
 /// The most octets of a CRL, 2^28. By the contracts of `reg_crl`, a register's CRL has at most 2^27 + 66,573.
@@ -87,7 +88,7 @@ fn algorithm_in(crl: &[u8]) -> Option<&[u8]>
     }
 }
 
-/// Checks that the bytes are the CRL of these entries, with the algorithm that the bytes name.
+/// Checks that the bytes are the CRL of these entries, with nextUpdate `crl_life` seconds after thisUpdate, the algorithm they name, any signature.
 fn check_bytes(
     alloc: Global,
     issuer: &Issuer,
@@ -108,7 +109,7 @@ fn check_bytes(
     if bytes.len() > MOST_CRL {
         return Err(other_bytes_fault(crl.number));
     }
-    // No row is read with such a thisUpdate. The test shows the prover that nextUpdate is a moment.
+    // No row with such a thisUpdate gets here. The test shows the prover that nextUpdate is a moment.
     if crl.this_update >= Moment::CLOCK_END {
         return Err(other_bytes_fault(crl.number));
     }

@@ -1,4 +1,4 @@
-//! A device at a socket, and one exchange with it over a connection.
+//! A device, such as a signer process, at a Unix socket, and one exchange with it over a connection.
 
 ghost use Rattle.std.specs.Prelude.{◌≡◌, ◌<◌, IfOk, length, take};
 ghost use Rattle.reg_crl_signer.specs.Exchange.{ExchangesMessage};
@@ -23,7 +23,7 @@ pub trait DeviceConnection: Read + Write {
     // The sending side was shut down: the connection before, and after.
     ghost finished: { Self → Self → Type 0 };
 
-    // The listener at the path gave this answer to this message, over a connection of another type.
+    // The listener at the path gave another caller this answer to this message: over a connection of another type, such as `SignerConnection`.
     ghost answered_another_caller: { List ℕ → List ℕ → List ℕ → Type 0 };
 
     /// Connects to the listener at `path`. The errors are those of the implementation.

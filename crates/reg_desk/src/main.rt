@@ -9,8 +9,7 @@ use std::os::fd::AsRawFd;
 use std::process::ExitCode;
 use std::{env, io};
 
-/// Does the job of the command line, and returns the exit status of [`run_desk`]. Without a job (help, the version or a usage error), it returns that
-/// of [`print_usage`].
+/// Does the job of the command line. Returns the exit status of [`run_desk`]; without a job (help, version, usage error), of [`print_usage`].
 fn main(rt: HostRuntime) -> ExitCode {
     let _streams = fill_closed_streams(&rt);
     let status = match words_of(&rt) {
@@ -23,8 +22,8 @@ fn main(rt: HostRuntime) -> ExitCode {
     ExitCode::from(status)
 }
 
-/// Opens `/dev/null` in place of each standard stream that is closed, and returns these files. Otherwise a socket could get the number of a closed
-/// stream, and its peer would receive what the program prints. Reads of such a standard input still fail, and so do writes to the other two streams.
+/// Opens `/dev/null` in place of each closed standard stream, and returns these files, which `main` keeps open. A new file or socket gets the lowest
+/// free number: else a socket could get a closed stream's, and its peer what the program prints. Such an input can't be read, nor an output written.
 fn fill_closed_streams(rt: &HostRuntime) -> io::Result<Vec<File>> {
     let mut filled = Vec::new(rt.alloc());
     for stream in [0, 1, 2] {
@@ -47,8 +46,7 @@ fn words_of(rt: &HostRuntime) -> Result<Vec<String>, Usage> {
     }
 }
 
-/// Prints help or the version, or why the command line can't be read. Returns the exit status of [`Usage::status`], or 1 if the text can't be
-/// written.
+/// Prints help, the version, or why the command line can't be read. Returns [`Usage::status`], or 1 if the text can't be written.
 fn print_usage(rt: &HostRuntime, usage: &Usage) -> u8 {
     let printed = match usage {
         Usage::Help(text) | Usage::Version(text) => print!(rt; "{text}"),

@@ -81,7 +81,7 @@ fn bytes_of(alloc: Global, word: &Argument<'_>) -> Result<Vec<u8>, Failure>
     }
 }
 
-/// The policy with one longest validity in days, the seconds from thisUpdate to nextUpdate of CRLs and of OCSP responses, and the
+/// The policy with a longest validity of `days` at any notBefore, the seconds from thisUpdate to nextUpdate of CRLs and of OCSP responses, and the
 /// most rows of a table; `BadPolicy` if one of these is out of its range.
 pub fn policy_of(days: u64, crl_life: u64, ocsp_life: u64, cap: u64) -> Result<Policy, Failure>
     ensures ok { IfOk result (λ policy.
@@ -115,8 +115,8 @@ pub fn issuer_and_policy_of(
     Ok((issuer, policy))
 }
 
-/// The schedule with these steps; `BadPolicy` unless they are 1 to 16 steps of 1 to 398 days, the first at 1970-01-01T00:00:00Z, with moments
-/// that ascend.
+/// The schedule with these steps, each a notBefore and the longest validity in days from it on. `BadPolicy` unless they are 1 to 16 steps with 1 to
+/// 398 days, the first at 1970-01-01T00:00:00Z, with moments that ascend.
 pub fn schedule_of(steps: &Steps) -> Result<Schedule, Failure>
     ensures ok { IfOk result (λ schedule. (schedule ≡ steps.now) × IsSchedule schedule) }
     ensures err { IfErr result (IsNoSchedule steps.now) }

@@ -57,6 +57,7 @@ pub fn open_file<S: Start>(
     }
 }
 
+/// The options to open the database at a path: its page cache, and a random seed for the salts of its log.
 pub(crate) fn options_for(rt: &HostRuntime, path: &str) -> Result<Options, FileFault>
     ensures room { IfOk result (λ options. (2000 ≤ options.cache_pages) × (options.cache_pages ≤ 131072)
         × (options.spill_pages ≡ options.cache_pages)) }

@@ -65,6 +65,7 @@ fn is_nothing<D: Disk>(alloc: Global, files: &mut Files<D>) -> Result<bool, Erro
     is_blank(alloc, files, true)
 }
 
+/// Whether opening would create a database, if its pages have a checksum of 8 octets each (`has_sums`) or none.
 fn is_blank<D: Disk>(alloc: Global, files: &mut Files<D>, has_sums: bool) -> Result<bool, Error>
     requires log { IsTrue (D.Disk.is_usable files.old.log) }
     requires db { IsTrue (D.Disk.is_usable files.old.db) }

@@ -15,7 +15,6 @@ use std::io::ErrorKind;
 pub struct FileFault {
     /// `Memory` or `Store`.
     pub fault: Fault,
-    /// Why the call failed, if that is known.
     pub cause: Option<Cause>,
 }
 

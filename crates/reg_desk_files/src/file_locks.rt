@@ -12,7 +12,7 @@ use std::io::ErrorKind;
 use std::os::fd::AsRawFd;
 use std::{fs, io};
 
-/// The offset of SQLite's locks in a database file: the pending, reserved and shared ones.
+/// The offset of the bytes that SQLite locks in a database file (pending, reserved and shared locks), and how many they are.
 const LOCKS: u64 = 1_073_741_824;
 
 const LOCKS_LENGTH: u64 = 512;
@@ -32,8 +32,9 @@ pub(crate) fn lock(file: &fs::File, kind: RangeLock) -> Result<(), FileFault>
     }
 }
 
-/// Checks that a lock for writing is held on `file`, which the caller found at the path of a database that this program has open. Errors: `Store`
-/// with the cause `NoFile` if none is held, because another file has that path now; else those of [`lock`].
+/// Checks that `file`, which the caller found at the path of a database that this program has open, is that database. If it is, this program's lock
+/// for writing prevents the shared lock that is tried here, even in the same process (open file description locks). Errors: `Store` with the cause
+/// `NoFile` if the shared lock succeeds, because another file has that path now; else those of [`lock`].
 pub(crate) fn check_locked(file: &fs::File) -> Result<(), FileFault>
     ensures { IfErr result IsFileFault }
 {

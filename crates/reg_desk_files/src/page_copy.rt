@@ -34,7 +34,7 @@ pub fn copy_closed(rt: &HostRuntime, path: &str, to: &str) -> Result<u64, ReadFa
 }
 
 /// As [`copy_closed`], for a database that this program has open, between two transactions; `Store` also if no lock for writing is held on the file
-/// at the path, because it is another one now.
+/// at the path, because another file has that path now.
 pub fn copy_open(rt: &HostRuntime, path: &str, to: &str) -> Result<u64, ReadFailure>
     ensures { IfErr result IsReadFailureOfFiles }
 {
@@ -59,6 +59,7 @@ fn copy_sources<F: Source + Drop>(
 ) -> Result<u64, ReadFailure>
     ensures { IfErr result IsReadFailureOfFiles }
 {
+    // The default page cache is enough, since a copy reads each page once.
     let options = Options::new(sources.options.seed);
     let files = overlaid(rt.alloc(), sources.log, sources.db, sources.key);
     copy_files(rt, files, options, to)

@@ -118,6 +118,7 @@ fn open_regular(rt: &HostRuntime, path: &str) -> io::Result<ReadFile> {
         return Err(ErrorKind::Unsupported.into());
     }
     let file = read_options().open(rt, path)?;
+    // The path may name another file since it was looked at.
     let (found, named) = (file.metadata()?, fs::symlink_metadata(rt, path)?);
     let is_named = found.dev() == named.dev() && found.ino() == named.ino();
     if !is_named || !found.is_file() || found.nlink() != 1 {

@@ -56,8 +56,8 @@ pub struct Sources<F: Source> {
 }
 
 /// Opens the file at a path read-only, also through a symbolic link, and copies its log into memory. Creates no file. Until the result is dropped,
-/// `desk` can't open them for writing; SQLite in WAL mode can. Errors: `Memory`; `Store`, with its cause if that is known, if the files can't be
-/// read, or if a program has locked them for writing. `Store` too if SQLite left a rollback journal, if the path is `:memory:` or begins with
+/// `desk` can't open the file for writing; SQLite in WAL mode can. Errors: `Memory`; `Store`, with its cause if that is known, if the files can't be
+/// read, or if a program has locked the file for writing. `Store` too if SQLite left a rollback journal, if the path is `:memory:` or begins with
 /// `file:`, or if a file is not a regular one or has two names (hard links).
 pub fn read_at(rt: &HostRuntime, path: &str) -> Result<Sources<ReadFile>, FileFault>
     ensures { IfErr result IsFileFault }

@@ -13,7 +13,7 @@ use std::io::ErrorKind;
 const OWNER_ONLY: u32 = 0o600;
 
 /// Creates a Unix socket at a path to which only its owner may connect, and listens on it without blocking. A stale socket, on which no program
-/// listens, is replaced; if several desks try at the same time, one does. Errors: `AddrInUse` if a socket is there that does not refuse connections,
+/// listens, is replaced; if several desks try it at once, one succeeds. Errors: `AddrInUse` if a socket is there that does not refuse connections,
 /// or if a program keeps the folder locked for ten seconds; `AlreadyExists` if something else than a socket is there; others are the system's.
 pub(crate) fn create_control_socket<M: Machine>(machine: &M, path: &str) -> io::Result<UnixListener>
     ensures { OnOk result (IsControlSocket M.socket_created M.has_mode path.now) }
@@ -67,11 +67,10 @@ fn remove_stale<M: Machine>(machine: &M, lock: &File, path: &str) -> io::Result<
     machine.unlink(lock, path)
 }
 
-/// Closes the connections that clients opened before the mode was set. Errors: those of accept(2), such as too many open descriptors, since a client
-/// would stay connected.
+/// Closes the connections that clients opened before the mode was set. Errors: those of accept(2), after which a client would stay connected.
 fn drop_waiting(listener: &UnixListener) -> io::Result<()> {
-    // Not a fixed number: the queue holds `net.core.somaxconn` + 1 of them, and that may be raised. By now only the owner and root can connect, so
-    // this ends.
+    // Until the queue is empty. It holds `net.core.somaxconn` + 1 connections, and that may be raised, so `u64::MAX` stands for no bound. By now only
+    // the owner and root can connect, so this ends.
     for _ in 0..u64::MAX {
         match listener.accept() {
             Ok(_) => {}

@@ -19,8 +19,7 @@ use reg_office_api::Office;
 use std::alloc::Global;
 use std::cell::Cell;
 
-/// The host of a script: the machine's clock, and a warning on standard error when the register's first CRL gets a placeholder digest instead of
-/// a signature.
+/// The host of a script: the machine's clock, and a warning on standard error when the first CRL gets a placeholder digest, not a signature.
 #[derive(Clone, Copy)]
 struct ScriptHost<'a, M: Machine> {
     machine: &'a M,
@@ -89,8 +88,7 @@ pub fn script_by_lines<M: Machine, R: Source, W: Sink>(
     run_ended(ran)
 }
 
-/// Whether all of these hold: the lines run at the machine's clock, it is too far ahead, and the operator does not accept that. `false` if the
-/// clock can't be read.
+/// Whether the lines run at the machine's clock, it is too far ahead, and the operator does not accept that. `false` if the clock can't be read.
 fn refuses_clock<M: Machine>(machine: &M, office: &mut M::Office, options: ScriptOptions) -> bool
     ensures { LooksIn M.Office.Office
         (λ records. IsTrue result → IsClockRefused options M.clock_reached records)
@@ -105,8 +103,7 @@ fn refuses_clock<M: Machine>(machine: &M, office: &mut M::Office, options: Scrip
     is_ahead_of::<M>(office, now)
 }
 
-/// Whether a moment is more than 30 days past the register's last accepted one; `false` if there is none, or if the register can't be read, which
-/// the job will report.
+/// Whether a moment is over 30 days past the last accepted one; `false` if there is none, or if it can't be read, which the job will report.
 pub(crate) fn is_ahead_of<M: Machine>(office: &mut M::Office, now: Moment) -> bool
     ensures { LooksIn M.Office.Office (λ records. IsTrue result → IsTrue (ahead now records.last None))
         office.old office.new }

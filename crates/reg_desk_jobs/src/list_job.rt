@@ -17,7 +17,7 @@ use reg_office_api::Office;
 use std::alloc::Global;
 use std::io::Write;
 
-/// How many rows of a list are read in one call.
+/// How many rows one call of [`Office::page`] reads. The list is the same with any number.
 const MOST_ROWS: u64 = 1_000;
 
 /// Writes a list of the register at a path, at the given moment, or else at that of the clock. Nothing is written unless the whole list was read.
@@ -75,6 +75,7 @@ fn list_text<M: Machine>(
             None => return Ok(text),
         }
     }
+    // No register has this many pages.
     Err(Fault::Store)
 }
 

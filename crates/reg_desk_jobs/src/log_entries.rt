@@ -190,6 +190,7 @@ fn accepted(answered: &[u8]) -> bool
     !answered.is_empty() && is_accepted(answered)
 }
 
+/// Whether a line with this word, once accepted, enters or decides a request, which its exchange then should name.
 fn is_of_request(word: &[u8]) -> bool
     ensures { result ≡ is_of_request word.now }
 {

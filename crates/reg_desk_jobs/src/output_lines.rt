@@ -78,7 +78,6 @@ fn put<W: Write>(errors: &mut W, text: &[u8])
     }
 }
 
-/// With `--why` (`is_asked`), writes a line if the cause (exit status 1) or the reason (status 3) is known.
 fn explain<W: Write>(
     alloc: Global,
     errors: &mut W,

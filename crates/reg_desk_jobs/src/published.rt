@@ -136,7 +136,7 @@ fn put_unless_revoked(lines: &mut Vec<u8>, revoked: bool, serial: Serial) -> Res
     put_line(lines, b"missing revocation ", &serial.text())
 }
 
-/// Whether a serial number is revoked. The query is as of the last accepted moment, but its moment does not change whether a number is revoked.
+/// Whether a serial number is revoked. The query is as of the last accepted moment: the clock may be behind it, and any later moment gives the same.
 fn is_revoked<O: Office>(
     alloc: Global,
     office: &mut O,

@@ -234,7 +234,7 @@ fn number_now(numbers: &[Renumbered], logged: u64) -> u64
     number
 }
 
-/// Whether a reply agrees with that of the log: in its first two words; for a decision in the first; for a request, it must say that it was entered.
+/// Whether a reply agrees with the log's: in its first two words, or, for a decision, in the first. A request for revocation must have been entered.
 fn agrees(logged_exchange: &ExchangeText<'_>, entry: &Entry, reply: &[u8]) -> bool
     ensures { result ≡ agrees (exchange_of logged_exchange.now) entry.now reply.now }
 {

@@ -1,5 +1,4 @@
-//! The job `at` with a task for each row of a file: it registers the row's certificate under a new order, or requests its revocation and revokes
-//! it, at the control socket of an open desk.
+//! The job `at` with a file: at an open desk's control socket, it registers or revokes the certificate of each row (with an order, with a request).
 
 ghost use Rattle.std.specs.Prelude.{◌≡◌, ◌<◌, ◌==◌, ◌↔◌, IfErr, IfOk, IfSome, IsTrue, length, option_map, position};
 ghost use Rattle.reg_desk_jobs.specs.Conversations.{IsConversationFault};
@@ -160,7 +159,7 @@ fn register_row<C: BufRead, S: Write>(
     ensures err { IfErr result IsConversationFault }
 {
     let Some(row) = row else {
-        // The desk replies `E22 syntax`.
+        // To this line the desk replies `E22 syntax`, which becomes the reply to a wrong row.
         return request_reply(alloc, b"register\n", incoming, outgoing);
     };
     let Ok(query) = status_line(alloc, &row) else {
@@ -212,7 +211,7 @@ fn revoke_row<C: BufRead, S: Write>(
     ensures err { IfErr result IsConversationFault }
 {
     let Some(row) = row else {
-        // The desk replies `E22 syntax`.
+        // To this line the desk replies `E22 syntax`, which becomes the reply to a wrong row.
         return request_reply(alloc, b"request\n", incoming, outgoing);
     };
     let Ok(request) = request_line(alloc, &row) else {

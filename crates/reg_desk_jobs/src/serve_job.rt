@@ -67,7 +67,7 @@ pub fn serve<M: Machine, R: Source, W: Sink>(
     ending
 }
 
-/// Serves a register, and returns the office. If a published CRL is given, the register must have all of it ([`check_published`]).
+/// Serves until `requests` HTTP requests are answered. If `has_crl`, the register must have all of the CRL in `reader` ([`check_published`]).
 pub(crate) fn serve_checked<'a, 'w, M: Machine, R: Read, W: Write>(
     rt: &HostRuntime,
     machine: &'a M,

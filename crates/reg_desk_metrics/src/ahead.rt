@@ -5,7 +5,7 @@ ghost use Rattle.reg_desk_metrics.specs.Ahead.{is_ahead as ahead, is_far as far}
 
 use reg_core::Moment;
 
-/// 30 days, in seconds.
+/// 30 days, in seconds. That is longer than a CRL is valid, so a right clock is so far ahead only of a register that was long unused.
 const MOST_AHEAD: u64 = 2_592_000;
 
 /// Whether the clock, `now`, is more than 30 days past the moment of the last accepted command, `last`, and also more than 30 days past the moment

@@ -23,14 +23,14 @@ pub struct Health {
     pub(crate) crl_signer: Option<Moment>,
     /// Since when signatures of OCSP answers fail.
     pub(crate) ocsp_signer: Option<Moment>,
-    /// Now, if less than a fifth of the cap is left in a table.
+    /// Now, if less than a fifth of the cap (the most rows of a table) is left in a table.
     pub(crate) rows: Option<Moment>,
     /// Since when the store fails.
     pub(crate) store: Option<Moment>,
 }
 
 impl Health {
-    /// The health of a register at `now`, by the register's numbers, the desk's tally, and the moment that the operator accepted with `accept-clock`.
+    /// The health at `now`. `found` has the register's numbers; `accepted` is the moment that the operator accepted with `accept-clock`, if any.
     pub fn of(now: Moment, found: &NumbersResult, tally: &Tally, accepted: Option<Moment>) -> Health
         ensures { result ≡ health_of now found.now tally.now accepted }
     {
@@ -88,6 +88,7 @@ fn is_none(moment: Option<Moment>) -> bool
     }
 }
 
+/// As `Health::clock`. The register refuses its numbers by `ClockBack` if the clock is behind, and otherwise only at or past `CLOCK_END`.
 fn clock_failing_since(
     now: Moment,
     found: &NumbersResult,
@@ -157,7 +158,7 @@ fn is_filling(summary: &RegisterSummary) -> bool
     summary.cap.saturating_sub(most) < summary.cap / 5
 }
 
-/// Since when the store fails: by the tally, or else now if the numbers can't be read for another reason than a refusal.
+/// Since when the store fails: `since`, the tally's moment; or else now, if the numbers can't be read for another reason than a refusal.
 fn store_failing_since(now: Moment, found: &NumbersResult, since: Option<Moment>) -> Option<Moment>
     ensures { result ≡ store_spec now found.now since }
 {
@@ -217,7 +218,7 @@ fn put_member(text: &mut Vec<u8>, name: &[u8], since: Option<Moment>) -> Result<
     put_since(text, since)
 }
 
-/// Appends the member `status`, and the name of the last member.
+/// Appends the member `status`, and the name of the one after it, `store`; the caller appends that one's moment.
 #[tactic(auto, unfolding(crate::specs::Healths::status_member))]
 fn put_status(text: &mut Vec<u8>, is_well: bool) -> Result<(), AllocError>
     ensures { OnOk result (text.new.items ≡ text.old.items ++ status_member is_well) }

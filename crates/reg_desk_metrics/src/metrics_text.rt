@@ -21,10 +21,10 @@ use reg_core::{Counts, CrlRow, Fault, Moment, Refusal};
 use reg_office_api::Rows;
 use std::alloc::{AllocError, Global};
 
-/// The bytes that are reserved for the text.
+/// The bytes that are reserved for the text at first. A longer text gets more.
 const ROOM: usize = 12_288;
 
-/// The metrics of an open register at a moment: the program's version, the register's numbers, the desk's counters, and its connections.
+/// The metrics of an open register at `now`: the program's version, the register's numbers (`found`), the desk's counters, and its connections.
 ///
 /// # Errors
 ///
@@ -219,6 +219,7 @@ fn put_answers(text: &mut Vec<u8>, answers: &[u64; ANSWERS]) -> Result<(), Alloc
     Ok(())
 }
 
+/// Appends nothing for a count of 0: few of the pairs of a route and a status ever occur.
 fn put_answer(text: &mut Vec<u8>, index: usize, count: u64) -> Result<(), AllocError>
     ensures { OnOk result (text.new.items ≡ text.old.items ++ answer_text index count) }
 {
@@ -323,6 +324,7 @@ fn put_times(text: &mut Vec<u8>, tally: &Tally) -> Result<(), AllocError>
     put_sample(text, SECONDS_COUNT, count)
 }
 
+/// The count of each bucket includes those of the buckets below it, as Prometheus wants. Returns the count of all.
 fn put_buckets(text: &mut Vec<u8>, buckets: &[u64; BUCKETS]) -> Result<u64, AllocError>
     ensures { IfOk result (λ count. (count ≡ sum_of buckets.now 12)
         × (text.new.items ≡ text.old.items ++ buckets_text buckets.now 12)) }

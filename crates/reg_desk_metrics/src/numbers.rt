@@ -10,7 +10,7 @@ pub struct Numbers {
     pub counts: Counts,
     /// When the next CRL is due; `None` if it is due at once.
     pub due: Option<Moment>,
-    /// The counts of its rows, its cap, its latest CRL, the life of a CRL, and the moment of the last command.
+    /// How many rows the tables have, and at most (the cap); the latest CRL, how long a CRL is valid, and the moment of the last command.
     pub summary: RegisterSummary,
 }
 
@@ -22,7 +22,7 @@ pub type NumbersResult = Result<Numbers, Fault>;
 pub struct Requests {
     /// When they were counted.
     pub at: Moment,
-    /// How many are open.
+    /// How many are open: not declined, and the certificate is good.
     pub waiting: u64,
     /// How many of the open ones are past their deadline.
     pub overdue: u64,
@@ -39,7 +39,7 @@ pub enum CrlSigning {
     NoSigner,
 }
 
-/// A CRL that the desk read, to find out whether it is signed.
+/// A CRL that the desk read, to find out whether it is signed: if not, and a key signs now, the next CRL is due at once.
 #[derive(Clone, Copy, PartialEq, Eq)]
 pub struct ReadCrl {
     /// The CRL number (RFC 5280 5.2.3).
@@ -57,8 +57,7 @@ pub struct ConnectionTotals {
     pub open_control: u64,
     /// All connections that were accepted at the port.
     pub accepted: u64,
-    /// Lost connections, by `ConnectionFault` of `reg_desk_server`: broken; timed out; evicted, for another one or for the limit of unsent bytes; out
-    /// of memory.
+    /// Lost connections, by `ConnectionFault` of `reg_desk_server`: broken; timed out; evicted; out of memory.
     pub broken: u64,
     pub late: u64,
     pub evicted: u64,

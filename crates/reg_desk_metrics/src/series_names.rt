@@ -1,5 +1,6 @@
 //! The names of series, and parts of names with labels. A whole name has a space after it. The HELP and TYPE lines of a family are at the front of
-//! its first name, or alone in a constant (`ANSWERED`, `SECONDS`, `ROUTE_SECONDS`).
+//! its first name, or alone in a constant (`ANSWERED`, `SECONDS`, `ROUTE_SECONDS`). The labels `counter` (control socket) and `crowded` (evicted)
+//! are older words, kept because alerts and dashboards use them.
 
 pub(crate) const BUILD: &str =
     "# HELP desk_build_info 1, with the version of the program.\n# TYPE desk_build_info gauge\ndesk_build_info{version=\"";

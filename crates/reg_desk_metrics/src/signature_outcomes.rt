@@ -6,8 +6,7 @@ ghost use Rattle.reg_desk_metrics.specs.Tallies.{nothing_requested, signing_afte
 use reg_core::Moment;
 use reg_office_api::{SignatureOutcome, StoreEffect};
 
-/// How many signatures of one kind (CRLs, or OCSP responses) were received, how many failed, and when last. A placeholder digest counts as a
-/// signature.
+/// Signatures of one kind (CRLs, or OCSP responses): how many were received or failed, and when last. A placeholder digest counts as one.
 #[derive(Clone, Copy, PartialEq, Eq)]
 pub(crate) struct Signing {
     pub(crate) received: u64,
@@ -52,6 +51,7 @@ impl Signing {
     }
 }
 
+/// Since when the store fails, after one more effect. Only a write (a command or schedule) ends a failure: reads don't show that writes work.
 pub(crate) fn store_after(since: Option<Moment>, effect: StoreEffect, now: Moment) -> Option<Moment>
     ensures { result ≡ kept_after effect now since }
 {

@@ -12,7 +12,7 @@ use reg_office_api::{LineEffects, LineReply, SignatureOutcome, StoreEffect};
 /// How many statuses have a count each; the last is for any other status, and for no answer.
 pub(crate) const CODES: usize = 12;
 
-/// How many pairs of a route and a status there are.
+/// How many pairs of a route and a status there are: `ROUTES` times `CODES`.
 pub(crate) const ANSWERS: usize = 144;
 
 /// How many buckets the histogram of times has.
@@ -32,7 +32,7 @@ pub struct Tally {
     pub(crate) faults: u64,
     /// HTTP exchanges and lines by how long they took; the upper bounds are in `bucket_of`.
     pub(crate) buckets: [u64; BUCKETS],
-    /// How long all exchanges and lines took, in microseconds.
+    /// How long all exchanges and lines took, in microseconds: with the wait for a signature, without receiving and sending.
     pub(crate) micros: u64,
     /// Answers by route, and how long each route's took, in microseconds.
     pub(crate) route_counts: [u64; ROUTES],
@@ -46,7 +46,7 @@ pub struct Tally {
     /// The requests for revocation, when they were counted last.
     pub(crate) requests: Option<Requests>,
     pub(crate) crl_signing: CrlSigning,
-    /// notAfter of the responder's certificate (RFC 5280 4.1.2.5), if it is known.
+    /// notAfter of the responder's certificate (RFC 5280 4.1.2.5); `None` if the issuer responds, or if the certificate can't be read.
     pub(crate) responder_ends: Option<Moment>,
     /// The CRL that was read last.
     pub(crate) read: Option<ReadCrl>,
@@ -152,7 +152,7 @@ fn bucket_of(micros: u64) -> usize
     }
 }
 
-/// The outcome of the signature of a CRL: not requested if the desk has no signer for CRLs.
+/// The outcome to count for a CRL's signature. If the desk has no signer for CRLs, a `crl` line that fails must not show up as a failing signer.
 fn crl_outcome_at(signing: CrlSigning, signature_outcome: SignatureOutcome) -> SignatureOutcome
     ensures { result ≡ counted_crl_outcome signing signature_outcome }
 {

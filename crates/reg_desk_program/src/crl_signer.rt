@@ -33,8 +33,8 @@ use reg_office::Responder;
 use reg_store::{DatabaseFault, Tables};
 use sqlite::Alter;
 
-/// The signer of CRLs for the register in these tables. With `NoSigner` the result reaches no signer process, so each new CRL fails with a fault of
-/// the signer; its algorithm is that of the latest CRL, or the placeholder digest's if there is no CRL.
+/// The signer of CRLs for the register in these tables. For `NoSigner` it is one that reaches no process, so each new CRL fails with a fault of
+/// the signer. Its algorithm is that of the latest CRL, so that the register opens, or the placeholder digest's if there is no CRL.
 ///
 /// # Errors
 ///
@@ -80,7 +80,7 @@ fn signer_without_process<C: Alter>(
 {
     let address = unreachable_address(latest);
     match signer_after(host, tables, latest, address.as_ref(), responder) {
-        // A placeholder digest needs no process, so it would succeed: here a signer that always fails replaces it.
+        // A CRL with a placeholder digest needs no process, so it would be made: here a signer that always fails replaces the digest.
         Ok(signer) => Ok(signer.without_digest()),
         Err(why) => Err(why),
     }
@@ -97,8 +97,7 @@ fn unreachable_address(latest: &Option<Vec<u8>>) -> Option<SignerAddress<'static
     })
 }
 
-/// The signer at an address, or the placeholder digest for `None`, compared with the issuer's key and the latest CRL. Errors are those of
-/// [`signer_for`].
+/// The signer at an address, or the placeholder digest for `None`, compared with the issuer's key and latest CRL. Errors: those of [`signer_for`].
 #[tactic(auto, using(crate::proofs::Missing::opens_faulty))]
 fn signer_after<C: Alter>(
     host: &Host<'_>,
@@ -163,8 +162,7 @@ fn open_signer(
     }
 }
 
-/// A signer at a socket. `key` is its public key, by which the form of each signature is checked. Errors: `BadSigner` if the key does not fit the
-/// algorithm; `Memory`.
+/// A signer at a socket; the form of its signatures is checked by its public key, `key`. Errors: `BadSigner` if that doesn't fit; `Memory`.
 pub(crate) fn key_signer(
     rt: &HostRuntime,
     socket: &str,
@@ -239,8 +237,7 @@ fn difference(found: &[u8], algorithm: &[u8]) -> Option<Cause>
     }
 }
 
-/// Whether a CRL with `algorithm` may follow one with `earlier`: they are equal, or the earlier one has the placeholder digest,
-/// which a signature may replace.
+/// Whether a CRL with `algorithm` may follow one with `earlier`: they are equal, or the earlier one has the placeholder digest.
 fn may_follow(algorithm: &[u8], earlier: &[u8]) -> bool
     ensures { IsTrue result ↔ MayFollow algorithm.now earlier.now }
 {

@@ -83,6 +83,7 @@ fn run<M: Machine, R: Source, W: Sink>(
             file: None,
             signer: None,
         } => script_in_memory(alloc, reader, writer),
+        // A register in memory has a sample issuer, whose key no signer has.
         Job::Script {
             file: None,
             signer: Some(_),
@@ -142,7 +143,7 @@ fn run<M: Machine, R: Source, W: Sink>(
     }
 }
 
-/// Keeps the cause of `BadPolicy` in the machine.
+/// Keeps the cause of `BadPolicy`, which the jobs don't keep, in the machine.
 fn keep_policy_cause<M: Machine>(machine: &M, job: &Job<'_>, ending: &Result<(), Failure>) {
     if let Err(Failure::BadPolicy) = ending {
         machine.keep_cause(None, wrong_terms(job));

@@ -44,7 +44,7 @@ use std::{fs, io, thread};
 
 const OWNER_ONLY: u32 = 0o600;
 
-/// The most attempts to lock a folder, and the pause after each: ten seconds in all.
+/// The most attempts to lock a folder, and the pause after each: ten seconds in all, while another desk or signer creates its socket.
 const MOST_LOCK_TRIES: u32 = 2_000;
 
 const LOCK_PAUSE_MILLIS: u64 = 5;
@@ -263,6 +263,7 @@ impl<'a> Machine for Host<'a> {
         issuer: Issuer,
         policy: Policy,
     ) -> Result<FileOffice, Failure> {
+        // The job `init`, which creates the register, signs nothing with it.
         let signer: FileSigner = RegisterSigner::Digest(DigestSeal);
         match create_over(database, issuer, policy, signer) {
             Ok(office) => Ok(FileOffice { office }),
@@ -502,8 +503,7 @@ fn lock_once_free(rt: &HostRuntime, folder: &File) -> io::Result<()> {
     Err(io::Error::from(ErrorKind::AddrInUse))
 }
 
-/// Appends a line to the log file, which is opened anew for each line. So once the file is renamed, the next line goes to a new file at the path. A
-/// line that can't be written is left out.
+/// Appends a line to the log file, opened for each line, so that after a rename the next goes to a new file. A line that can't be written is lost.
 fn append(rt: &HostRuntime, path: &str, line: &[u8]) {
     if let Ok(mut file) = open_log(rt, path) {
         let _ = write_whole(&mut file, line);

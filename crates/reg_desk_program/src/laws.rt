@@ -27,10 +27,10 @@ pub fn without_a_key_only_digests_are_made<D: Device>()
     ensures { IsDigestSigner (SignsByKeyOrDigest D.answers) digest }
 {}
 
-/// A stop at any moment of a job leaves the records that its replies reported, or those after the call that it interrupted. A closing without an
-/// error leaves the records that its replies reported.
+/// If the machine stops at any moment of a job, the register has the records that the job's replies reported, or those after the interrupted call. If
+/// the job closed the register without an error, it has those that the replies reported. Words in parentheses are fields of `LeavesWhatWasReported`.
 ///
-/// After a job opened a register, and until it closes it, [`perform`](crate::perform) changes the register's records only as the replies report
+/// From the opening of a register to its closing, a job ([`perform`](crate::perform)) changes the register's records only as the replies report
 /// (`UsesRegister` of reg_desk_service). A register of this program's version that is opened has the sound records that its file showed (`begins`).
 /// The machine may stop in any later call, or after it. A register that is then opened again from what the disk kept has the records that stood, or
 /// those after the interrupted call (`leaves`). The interrupted call is the last one (`call`); or an earlier one in which the disk's failure closed
@@ -40,8 +40,7 @@ pub fn without_a_key_only_digests_are_made<D: Device>()
 /// At its end a job closes the register. If its files are closed without an error, also if the machine stops then, a register that is opened from
 /// them has the records that stood (`closes`). `IsLive` is the clause `live` of `Connection::schema`.
 ///
-/// The model of a stop is a disk that refuses each call from that moment on, and a client that receives no later reply. A reply is written
-/// only after its call.
+/// The model of a stop: from then on a disk refuses each call and a client gets no reply. A reply is written only after its call.
 pub fn a_stop_leaves_what_was_reported<D: Disk, S: Signer>()
     ensures { LeavesWhatWasReported D.Disk S.signs }
 {}

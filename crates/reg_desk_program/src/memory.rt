@@ -26,6 +26,7 @@ use std::alloc::Global;
 /// The Name of a sample issuer: the common name CA (RFC 5280 4.1.2.4).
 const NAME: [u8; 15] = *b"\x30\x0D\x31\x0B\x30\x09\x06\x03\x55\x04\x03\x0C\x02CA";
 
+/// The key of that issuer: any bytes, since nothing is signed with it.
 const KEY: [u8; 3] = *b"abc";
 
 type MemoryOffice = Office<MemStore, DigestSeal>;

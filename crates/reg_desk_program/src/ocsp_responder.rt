@@ -20,7 +20,7 @@ use reg_office::Responder;
 use std::fs;
 use std::io::ErrorKind;
 
-/// A responder that signs with the signer of CRLs. If the path of a certificate is given, each signed response embeds that certificate. Errors: those
+/// The issuer as responder, with the signer of CRLs. If a certificate's path is given, each signed response embeds that certificate. Errors: those
 /// of [`certificate_at`].
 pub(crate) fn issuer_responder(
     host: &Host<'_>,
@@ -69,8 +69,7 @@ pub(crate) fn delegate_responder(
     }
 }
 
-/// Reads the certificate, in DER, in the file at a path. Errors: `Memory`; `BadResponder` if the file can't be read, whose cause the host keeps, or
-/// if it has no valid certificate.
+/// Reads a file's certificate in DER. Errors: `Memory`; `BadResponder` if it can't be read (the host keeps the cause) or has no valid certificate.
 fn certificate_at(host: &Host<'_>, location: Location, path: &str) -> Result<Certificate, Failure>
     ensures { IfErr result (λ why. (why ≡ Failure.Fault Fault.Memory) ⊎ (why ≡ Failure.BadResponder)) }
 {

@@ -8,7 +8,7 @@ use std::io::{IsTerminal, Stdout, Write};
 use std::time::Clock;
 use std::{fs, io};
 
-/// The opening of a file with at least this many bytes is shown.
+/// The opening of a file with at least this many bytes (64 MiB) is shown, because it may take seconds.
 const LARGE: u64 = 67_108_864;
 
 const MEGABYTE: u64 = 1_000_000;
@@ -28,8 +28,7 @@ pub(crate) struct CountedOutput<'a> {
 }
 
 impl<'a> CountedOutput<'a> {
-    /// The replies of a long job are counted if standard error is a terminal and standard output is not. On a terminal, the operator sees the replies
-    /// themselves.
+    /// The replies of a long job are counted if standard error is a terminal and standard output is not: else the operator sees the replies.
     pub(crate) fn of(
         rt: &'a HostRuntime,
         job: &Job<'_>,

@@ -29,7 +29,7 @@ const MOST_DROPPED: usize = 32;
 #[derive(Drop)]
 pub(crate) enum Stage<T> {
     Receiving(Collected),
-    /// The answer is to be signed: its ticket, and whether nothing came after the request.
+    /// The answer is to be signed: the handler's data about it ([`Handler::Ticket`]), and whether nothing came after the request.
     Signing(T, bool),
     /// The answer is being sent; whether the connection is closed after its last byte, without `Draining`.
     Sending(Unsent, bool),
@@ -134,8 +134,8 @@ impl<S: Link, H: Handler> HttpConnection<S, H> {
         self.deadline <= now
     }
 
-    /// Keeps and returns the fault of a connection that is to be answered: its time is up before its request is whole, a read or a registration with
-    /// the poller failed, there was no memory, or it is evicted. `None` if there is none (the client may have half-closed), or in a later stage.
+    /// The recorded fault of a connection whose request is to be answered now. If there is none, records and returns `TimedOut` if the time is up
+    /// before the request is whole. `None` without a fault (the client may have half-closed within its request), or in a later stage.
     pub fn record_fault(&mut self, now: u64) -> Option<ConnectionFault>
         ensures same_link { self.new.link ≡ self.old.link }
         ensures kept { KeepsReceived self.old.stage self.new.stage }

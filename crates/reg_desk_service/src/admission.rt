@@ -17,10 +17,10 @@ use reg_ocsp::Draft;
 use reg_office_api::{Office, RequestLoad};
 use std::alloc::Global;
 
-/// With this many open requests for its serial number, a request over HTTP is refused.
+/// With this many open requests for its serial number, a request over HTTP is refused, so that those for one certificate can't fill the table.
 const MOST_OPEN: u64 = 3;
 
-/// The greatest number of requests for revocation over HTTP within a minute.
+/// The most requests for revocation over HTTP within a minute: for each, the desk may read all requests (`Office::request_load`).
 const MOST_RECENT: usize = 100;
 
 const MINUTE: u64 = 60;
@@ -33,7 +33,7 @@ pub(crate) struct RecentRequests {
 }
 
 impl RecentRequests {
-    /// Whether these hundred came within the minute up to a moment.
+    /// Whether these hundred came within the minute up to `now`.
     fn is_rate_reached(&self, now: Moment) -> bool
         ensures { result ≡ reached_at now self.now }
     {
@@ -75,8 +75,8 @@ impl Admission {
     }
 }
 
-/// Answers a `POST /requests`, or any other request at that route. A request for revocation with a known ground that is beyond the limits is refused
-/// with 429 (RFC 6585 4) or 503 (RFC 9110 15.6.4), and not entered. If the store fails during the check, the answer reports that fault.
+/// Answers a `POST /requests`, or any other request at that route. A request for revocation beyond the limits is refused with 429 (RFC 6585 4) or 503
+/// (RFC 9110 15.6.4); but the register refuses one with an unknown ground. If the store fails during the check, the answer reports that fault.
 pub(crate) fn begin_admitted<M: Machine>(
     alloc: Global,
     office: &mut M::Office,
@@ -138,8 +138,8 @@ fn refused(alloc: Global, status: u16) -> Result<Option<Answered>, Memory>
     Ok(Some(refuse(alloc, status)?))
 }
 
-/// The status of the refusal: 503 if the clock is too far ahead, or if less than a tenth of `cap`, rounded down, is left; else 429 for [`MOST_OPEN`]
-/// open requests.
+/// The status of the refusal: 503 if the clock is too far ahead, or if less than a tenth of `cap`, rounded down, is left for requests, which the
+/// operator may need; else 429 for [`MOST_OPEN`] open requests.
 fn limit_of(request_load: RequestLoad, is_ahead: bool) -> Option<u16>
     ensures { result ≡ limit_by request_load is_ahead }
 {

@@ -23,7 +23,7 @@ use reg_lines::{LONGEST_REPLY, LineKind, ParsedLine, RefusedCommand, ReplyText, 
 use reg_office_api::Office;
 use std::alloc::Global;
 
-/// The most commands in one transaction.
+/// The most commands in one transaction, in which they share one sync of the disk. Other clients wait until it ends.
 const MOST_COMMANDS: usize = 256;
 
 /// The command lines at the beginning of some lines.
@@ -45,8 +45,8 @@ struct CommandLine<'a> {
 }
 
 /// Runs the command lines at the beginning of these lines in one transaction, and counts and logs each. `None` if no command has run: there are fewer
-/// than two such lines, the clock is too far ahead, the store failed, or there was no memory. `began` and `last_reason` are as for one line; the
-/// duration that is counted for each line is the time since `began`.
+/// than two such lines, the clock is too far ahead, the store failed, or there was no memory. `accepted`, `began` and `last_reason` are as for
+/// `answer_counted`; the time since `began` is counted for each line.
 pub(crate) fn answer_batch<M: Machine>(
     alloc: Global,
     office: &mut M::Office,

@@ -130,8 +130,8 @@ fn first_length(lines: &[u8]) -> usize
     }
 }
 
-/// Answers a line at the control socket at a moment, counts it, and logs it if there is a log. `began` is when the desk began to answer it, in
-/// microseconds of the monotonic clock. `accepted` is the moment of the last `accept-clock` line, which this line may be. `last_reason` is for `why`.
+/// Answers a line at a moment, counts it, and logs it if there is a log. `file` is the register's path. `began` is when the desk began to answer, in
+/// microseconds of the monotonic clock. `accepted` is the moment of the last `accept-clock`, which this line may be. `why` reports `last_reason`.
 pub(crate) fn answer_counted<M: Machine>(
     alloc: Global,
     office: &mut M::Office,
@@ -283,6 +283,7 @@ fn decide_by_clock<M: Machine>(
     }
 }
 
+/// Refuses a command if the clock is too far ahead, because a command at a wrong moment can't be undone. Queries and OCSP requests are answered.
 fn answer_by_clock<M: Machine>(
     alloc: Global,
     office: &mut M::Office,

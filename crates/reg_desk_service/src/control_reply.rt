@@ -82,6 +82,7 @@ impl LineOutcome {
         }
     }
 
+    /// A response with only a status needed no signature, or its signature failed.
     fn ocsp(&self, signature_failed: bool) -> SignatureOutcome
         ensures { result ≡ ocsp_outcome signature_failed self.now }
     {
@@ -156,7 +157,7 @@ impl ControlReply {
         ControlReply::made(alloc, with_lf(alloc, line), line_outcome)
     }
 
-    /// The reply with the line of a fault or a refusal, if no command ran.
+    /// The reply with the line of a fault or a refusal, for a line that ran no command.
     pub(crate) fn fault(alloc: Global, fault: Fault) -> ControlReply
         ensures { IsLineReply (fault_line fault) (LineOutcome.Failed (Failure.Fault fault)) result }
     {

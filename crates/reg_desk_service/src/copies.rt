@@ -99,6 +99,7 @@ fn copy_failed_reply(alloc: Global, why: CopyFault, last_reason: &mut Vec<u8>) -
     reply
 }
 
+/// The cause as `why` reports it: without the two spaces with which its line on standard error begins.
 fn cause_text(alloc: Global, cause: Option<Cause>) -> Option<Vec<u8>> {
     let line = cause?.line();
     prefix_and_end(alloc, b"", line.as_bytes().strip_prefix(b"  ")?).ok()

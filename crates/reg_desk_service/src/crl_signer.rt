@@ -1,4 +1,4 @@
-//! The signer of CRLs with which a register is opened.
+//! Which signer CRLs have, by the options `--signer` and `--responder`.
 
 ghost use Rattle.std.specs.Prelude.{◌≡◌};
 ghost use Rattle.reg_desk_service.specs.Signers.{crl_signer_of};

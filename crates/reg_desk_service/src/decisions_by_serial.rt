@@ -107,7 +107,7 @@ fn request_of_row(found: Option<Row>) -> Option<RequestRow>
     }
 }
 
-/// The number and the serial number, for the log, of the request that a line decides. `None` without a log, a decision, or a request that is found.
+/// The number and the serial number, for the log, of the request that a line decides. `None` if there is no log, or no decision, or no such request.
 pub(crate) fn decided_request<M: Machine>(
     alloc: Global,
     office: &mut M::Office,
@@ -147,7 +147,7 @@ fn decided_by(line: &[u8]) -> Option<u64>
     }
 }
 
-/// The request that a line entered or decided, as the log names it. `looked_up` is that of a decision, found before or after the decision ran.
+/// The request that a line entered or decided, as the log names it. `looked_up` is what `decided_request` found, before or after the line ran.
 pub(crate) fn logged_request(
     line_outcome: &LineOutcome,
     looked_up: Option<LoggedRequest>,

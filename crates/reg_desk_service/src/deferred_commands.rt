@@ -49,7 +49,7 @@ pub(crate) struct LineSignature {
     pub(crate) preset_signature: PresetSignature,
 }
 
-/// A signer that has given no answer this many milliseconds after `began` has timed out. The event loop's ten seconds begin a little before `began`.
+/// A signer that has given no answer this many milliseconds after `began` has timed out: less than the event loop's ten seconds, which begin earlier.
 const TIMEOUT: u64 = 9_500;
 
 fn signature_kind_by(command_line: &ParsedLine<'_>) -> Option<SignatureKind> {
@@ -77,6 +77,7 @@ fn deferred_of<M: Machine>(
     }
 }
 
+/// As [`deferred_of`], for an `ocsp` line with these hexadecimal digits. `looked` is its ticket: certificates are looked up at the ticket's moment.
 fn deferred_ocsp<O: Office>(
     alloc: Global,
     office: &mut O,
@@ -128,7 +129,7 @@ fn crl_signer_socket<'w>(signer: &Option<SignerAddress<'w>>) -> Option<&'w str>
     Some(signer.as_ref()?.socket.as_str())
 }
 
-/// The signature for a line, and the moment at which the line is to run. Without a connection to the signer there is no signature, and the moment is
+/// The signature for a line, and the moment at which the line is to run. Without a connection to the signer (`link`) it has none, and the moment is
 /// the clock's: [`EventLoopFault`] if the clock can't be read. With a connection, the moment is that of the message. Then the result is `None` if a
 /// command was accepted at a later moment meanwhile, and if the clock is now behind the moment of the message or can't be read.
 pub(crate) fn line_signature_of<M: Machine>(
@@ -228,7 +229,7 @@ impl<'a, 'w, M: Machine> Desk<'a, 'w, M> {
         socket_of(self.signer, self.responder, wanted)?;
         let began = self.machine.micros();
         if wanted == SignatureKind::Answer && self.backoff.is_active(Duration::from_micros(began)) {
-            // The response stays unsigned, because its signer is backed off.
+            // Without a message, the line is answered without asking its signer, which is backed off.
             let ticket = LineTicket {
                 wanted,
                 moment: Moment::EPOCH,
@@ -242,7 +243,7 @@ impl<'a, 'w, M: Machine> Desk<'a, 'w, M> {
         }
         let moment = self.machine.moment().ok()?;
         if wanted == SignatureKind::Crl && self.is_ahead(moment) {
-            // The command will be refused, so nothing is signed for it.
+            // The command is then answered at once, and refused, so nothing is signed for it.
             return None;
         }
         let ticket = LineTicket {

@@ -27,8 +27,7 @@ use std::io::ErrorKind;
 use std::net::SocketAddr;
 use std::time::Duration;
 
-/// A desk that answers HTTP requests, each at a moment of the clock. An open desk also answers `/health`, `/metrics`, lists, the changes feed,
-/// and lines at the control socket.
+/// A desk that answers HTTP requests, each at a moment of the clock. An open desk also has `/health`, `/metrics`, lists, `/changes`, control lines.
 #[derive(Drop)]
 pub struct Desk<'a, 'w, M: Machine> {
     /// The open register.
@@ -47,8 +46,7 @@ pub struct Desk<'a, 'w, M: Machine> {
     pub responder: &'a ResponderChoice<'w>,
     /// The back-off of the OCSP signer, for `ocsp` lines at the control socket.
     pub backoff: Backoff,
-    /// The counts since the register was opened. No contract of `Desk` mentions them. They are in a `Cell`, because `finish` takes `&self` and counts
-    /// the response that it finishes.
+    /// The counts since the register was opened. No contract of `Desk` mentions them. A `Cell`, since `finish` takes `&self` and counts a response.
     pub tally: &'a Cell<Tally>,
     /// The counts of connections since then, in a `Cell` because `report_lost` takes `&self`.
     pub connection_totals: &'a Cell<ConnectionTotals>,
@@ -212,7 +210,7 @@ impl<'a, 'w, M: Machine> Handler for Desk<'a, 'w, M> {
     }
 
     fn defer(&mut self, line: &[u8]) -> Option<Deferred<LineTicket>> {
-        // A line that is too long is not deferred.
+        // `untimed_line` gives `None` for a line that is too long, which is then answered at once.
         match read_line(untimed_line(line)?) {
             Some(command_line) => self.deferred_line(&command_line),
             None => None,
@@ -253,7 +251,7 @@ impl<'a, 'w, M: Machine> Handler for Desk<'a, 'w, M> {
         let Deferred { message, ticket } = deferred;
         let signed_ticket = ticket;
         let asked_ticket = ticket;
-        // The signer's answer, or the end of its connection without one.
+        // With `link`, the signer's answer has arrived or its connection has ended; without, it timed out, or no connection was made.
         let has_arrived = link.is_some();
         let signature = line_signature_of::<M>(
             self.alloc,

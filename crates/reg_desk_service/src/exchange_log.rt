@@ -12,7 +12,7 @@ use std::net::SocketAddr;
 /// The name in the log of a client at the control socket, which has no address.
 pub const CONTROL_SOCKET: &str = "control";
 
-/// Logs an HTTP exchange whose answer was begun at `now`, and how many microseconds it took.
+/// Logs an HTTP exchange begun at `now`: how many microseconds it took, the request for revocation that it entered, whether a signature failed.
 pub(crate) fn log_exchange<M: Machine>(
     alloc: Global,
     machine: &M,
@@ -45,8 +45,7 @@ pub(crate) fn log_exchange<M: Machine>(
     );
 }
 
-/// Logs a line at the control socket and its reply, how many microseconds it took, the request that it entered or decided, and whether a
-/// signature failed.
+/// Logs a control line and its reply: how many microseconds it took, the request that it entered or decided, and whether a signature failed.
 pub(crate) fn log_line<M: Machine>(
     alloc: Global,
     machine: &M,
@@ -75,7 +74,7 @@ pub(crate) fn log_line<M: Machine>(
     );
 }
 
-/// Logs a fault of a connection, which may still be answered. `client` is `None` for a connection to the control socket.
+/// Logs a fault of a connection; a client whose request it cut off may still get an answer. `client` is `None` for a control connection.
 pub(crate) fn log_lost<M: Machine>(
     alloc: Global,
     machine: &M,
@@ -106,6 +105,7 @@ fn put<M: Machine>(machine: &M, line: Result<Vec<u8>, AllocError>) {
     }
 }
 
+/// The log's word for a fault. `late` and `crowded` are older words, kept for programs that read the log.
 fn word_of(why: ConnectionFault) -> &'static [u8] {
     match why {
         ConnectionFault::Broken => b"broken",

@@ -37,8 +37,7 @@ use std::alloc::Global;
 
 const PROMETHEUS: &str = "text/plain; version=0.0.4; charset=utf-8";
 
-/// Answers `/health` at a moment: 200 if all is well, else 503 (RFC 9110 15.6.4); 405 for another method than GET. `accepted` is the moment that the
-/// operator accepted with `accept-clock`.
+/// Answers `/health` at a moment: 200 if all is well, else 503 (RFC 9110 15.6.4); 405 if not GET. `accepted` is the moment given by `accept-clock`.
 pub(crate) fn answer_health<M: Machine>(
     alloc: Global,
     office: &mut M::Office,
@@ -76,8 +75,7 @@ fn health_at<M: Machine>(
     health_answer(alloc, &Health::of(now, &found, tally, accepted))
 }
 
-/// Answers `/metrics` at a moment with 200; with 405 for another method than GET. The requests for revocation are counted anew if the last count is a
-/// minute old, or is of a later moment.
+/// Answers `/metrics` at a moment with 200; 405 if not GET. Counts open requests anew if the last count is a minute old, or of a later moment.
 pub(crate) fn answer_metrics<M: Machine>(
     alloc: Global,
     office: &mut M::Office,
@@ -180,7 +178,7 @@ fn due_after_read(read: ReadCrl, due: Option<Moment>) -> Option<Moment>
     if read.is_unsigned { None } else { due }
 }
 
-/// The number of the latest CRL, and whether it has a placeholder digest. `None` if there is no CRL, or if no signer has the key for the next one.
+/// The number of the latest CRL, and whether it has a placeholder digest. `None` if there is no CRL, or if the next one can't be signed with a key.
 fn latest_read<M: Machine>(
     alloc: Global,
     office: &mut M::Office,
@@ -288,6 +286,7 @@ pub fn signing_of(crl_signer: &CrlSigner<'_>) -> CrlSigning
     }
 }
 
+/// The counts in the outcome of the query `counts`. The contract of `ask` excludes another reply, here and below.
 fn counts_of(outcome: Outcome) -> Result<Counts, Fault>
     ensures { (records : Records) (now : ℕ) → IsAnswered records now AskCounts outcome
         → Has AskCounts CountsAre records now result }

@@ -38,20 +38,15 @@ use reg_office_api::{Office, SignatureOutcome};
 use std::alloc::Global;
 use std::net::SocketAddr;
 
-/// Which part of the desk answers a request.
+/// Which part of the desk answers a request. `desk serve` has only the register; an open desk has the others too.
 #[derive(Clone, Copy, PartialEq, Eq)]
 pub(crate) enum Dispatch {
-    /// The register.
     ToRegister,
-    /// An open desk refuses requests for revocation beyond its limits, and passes the others to the register.
+    /// Refuses requests for revocation beyond the limits, and passes the others to the register.
     ToLimits,
-    /// An open desk answers with a page of a list.
     ToList,
-    /// An open desk answers with its health.
     ToHealth,
-    /// An open desk answers with its metrics.
     ToMetrics,
-    /// An open desk answers with a page of the changes feed.
     ToChanges,
 }
 
@@ -128,7 +123,7 @@ pub(crate) fn answer_http<M: Machine>(
     }
 }
 
-/// Answers, as of a moment, the bytes that came on a connection, or leaves a response to be signed. Memory for the text is reserved first.
+/// As `answer_http`, but neither counts nor logs. Memory for the text is reserved first, so that an entered request for revocation gets its response.
 fn exchange_at<M: Machine>(
     alloc: Global,
     office: &mut M::Office,

@@ -8,7 +8,7 @@ use reg_core::{Decimal, Moment};
 use reg_http::LoggedRequest;
 use std::alloc::{AllocError, Global};
 
-/// The most bytes of the first line of a request or an answer that the log has, before they are escaped.
+/// The most bytes, before escaping, that the log quotes of a request or an answer. So its line stays below 4,096 bytes, which a pipe takes whole.
 pub const MOST_QUOTED: usize = 256;
 
 /// The line of an exchange, without its LF. `client_text`, an address and port or `control`, is copied as it is. The request and the answer are

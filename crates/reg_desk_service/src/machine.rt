@@ -21,9 +21,9 @@ use std::os::unix::net::UnixStream;
 use std::time::Duration;
 
 /// The machine that a job runs on. A job reaches a register's files only by these methods, and by the office that they open. The methods that create,
-/// open for writing or remove such files take `&mut self`, except `copy_open`. So a contract over the machine before and after a job excludes such
-/// a call at another path. A method's relation, such as `claimed`, states what the method did; no proof covers what the system does. Most methods are
-/// one action of the system. Functions that combine several actions are written over any machine, such as
+/// open for writing or remove such files take `&mut self`, except `copy_open`. So a job's contract, which relates the machine before the job to that
+/// after it, excludes such calls at paths that it does not name. A method's relation, such as `claimed`, states what the method did; no proof covers
+/// what the system does. Most methods are one action of the system. Functions that combine several actions are written over any machine, such as
 /// [`open_signed`](crate::open_signed). Errors that a comment does not name: the system's; in a [`Failure`] or [`CopyFault`], `Memory` and `Store`.
 pub trait Machine {
     ghost use Rattle.std.specs.Prelude.{◌≡◌, ◌≤◌, ◌+◌, ◌⊎◌, ℕ, List, [], IsTrue, IsFalse, MatchBool, OnOk, OnErr, IfOk, IfErr, IfSome, length};
@@ -243,8 +243,7 @@ pub trait Machine {
         ensures ok { OnOk result ((count : ℕ) → waited count → waited (count + 1)) }
         ensures fails { OnErr result failed };
 
-    /// Accepts a connection. Errors are those of accept(2): no connection waits, a signal came, the client is gone, no file descriptor is left,
-    /// or the system failed.
+    /// Accepts a connection. Errors are those of accept(2): none waits, a signal came, the client left, no descriptor is left, the system failed.
     fn accept(&self, listener: &TcpListener) -> io::Result<(TcpStream, SocketAddr)>
         ensures { IfErr result (AcceptFails failed) };
 
@@ -331,7 +330,7 @@ pub trait Machine {
     fn warn(&self, line: &[u8])
         ensures { warned line.now };
 
-    /// Keeps the cause of a failed call, with the location if that is known. `None` as the cause drops the one that was kept before.
+    /// Keeps the cause of a failed call, and its location if known, to report it when the job ends. `None` as the cause drops the one kept before.
     fn keep_cause(&self, location: Option<Location>, cause: Option<Cause>);
 
     /// The cause that was kept last, if it was known.
@@ -363,7 +362,7 @@ pub trait Machine {
         }
     }
 
-    /// An answer that a signer gave is a signature, if it has the form of one.
+    /// An answer that a signer gave counts as a signature (`signs`) if it has the form of one.
     ghost answer_in_form_signs: { (identity : Identity) (path message answer : List ℕ)
         → signer_answered path message answer → HasForm identity answer
         → Self.Office.signs identity message answer };

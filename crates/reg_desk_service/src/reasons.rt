@@ -55,8 +55,7 @@ fn why_reply(alloc: Global, last_reason: &[u8]) -> Result<Vec<u8>, AllocError>
     Ok(text)
 }
 
-/// Keeps why a command was refused with this reply ([`reason_of`]). If the refused line was no command, if there is no such reason, or no memory for
-/// it, keeps the reply.
+/// Keeps why a command was refused with this reply ([`reason_of`]), or the reply, if the line was no command, or there is no reason or memory for it.
 pub(crate) fn keep_refusal_reason<M: Machine>(
     alloc: Global,
     office: &mut M::Office,

@@ -1,4 +1,4 @@
-//! Opens, creates and audits a register on a machine; and the end of a job, by its run over a register.
+//! Opens, creates and audits a register on a machine.
 
 ghost use Rattle.std.specs.Prelude.{◌≡◌, IfErr, IfOk};
 ghost use Rattle.reg_office_api.specs.Signers.{OfficeSigners};
@@ -15,8 +15,7 @@ use reg_core::{Fault, Policy};
 use reg_der::Issuer;
 use reg_desk_cli::{Failure, ResponderChoice, SignerAddress};
 
-/// Opens the register at a path for a job that signs nothing. Errors: those of [`Machine::check_database`], [`Machine::connect`] and
-/// [`Machine::open_in`].
+/// Opens a register for a job that signs nothing. Errors: those of [`Machine::check_database`], [`Machine::connect`], [`Machine::open_in`].
 pub fn open_unsigned<M: Machine>(machine: &mut M, path: &str) -> Result<M::Office, Failure>
     ensures ok { IfOk result (λ office. Opened M.Machine machine.old path.now unsigned office machine.new) }
     ensures err { IfErr result (λ why. Unopened M.Machine machine.old path.now unsigned why machine.new) }
@@ -97,7 +96,7 @@ pub fn audit_at<M: Machine>(machine: &M, path: &str) -> Result<AuditResult, Fail
     machine.audit_in(sources)
 }
 
-/// The end of a job, by the result of its run over a register.
+/// The same result, with its fault as a [`Failure`].
 pub fn ended(ran: Result<(), Fault>) -> Result<(), Failure>
     ensures { result ≡ exit_of ran }
 {

@@ -117,7 +117,7 @@ pub(crate) fn find<O: Office>(
     }
 }
 
-/// The first row after a key, if it is the one to be shown.
+/// The first row after `from`, the cursor just before the key of `shown`, if it has that key.
 fn find_at<O: Office>(
     alloc: Global,
     office: &mut O,
@@ -134,7 +134,7 @@ fn find_at<O: Office>(
     Ok(row_among(&page.rows, shown))
 }
 
-/// Reads the subscribers in order until it finds the one with this name.
+/// Reads the subscribers in the order of their ids until it finds the one with this name: no cursor is by name.
 fn find_subscriber<O: Office>(
     alloc: Global,
     office: &mut O,
@@ -185,7 +185,7 @@ fn has_key(row: &Row, shown: &RowKey) -> bool
     }
 }
 
-/// The serial number before this one; `None` for the first.
+/// The serial number minus 1; `None` for 1.
 fn serial_before(serial: Serial) -> Option<Serial>
     ensures before { key_of result ≡ serial - 1 }
     ensures above_0 { 1 ≤ serial }

@@ -47,7 +47,7 @@ const REGISTER: &[Field] = &[
 
 const REQUEST: &[Field] = &[Field::Serial, Field::Ground];
 
-/// The fields of `revoke` and `decline`. The serial number is optional.
+/// The fields of `revoke` and `decline`. The serial number is optional: a line that lacks only that can be read, so it isn't looked at here.
 const DECISION: &[Field] = &[Field::Request, Field::Serial];
 
 const STATUS: &[Field] = &[Field::Serial];

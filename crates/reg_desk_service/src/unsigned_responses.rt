@@ -74,8 +74,8 @@ fn log_prefix_of<M: Machine>(alloc: Global, machine: &M, request: &[u8]) -> Vec<
     }
 }
 
-/// Finishes an OCSP response with the signer's answer to a request, or as internalError without one (RFC 6960 2.3). Returns the text of the HTTP
-/// answer. Counts the exchange under the moment and the route of `unsigned`, and logs it if there is a log.
+/// Finishes an OCSP response with the signer's answer to `request` (the request of its signature, if any), or as internalError without an answer (RFC
+/// 6960 2.3). Returns the text of the HTTP answer. Counts the exchange under the moment and route of `unsigned`, and logs it if there is a log.
 pub(crate) fn finish_http<M: Machine>(
     alloc: Global,
     machine: &M,
@@ -130,8 +130,7 @@ fn signature_of<M: Machine>(
     }
 }
 
-/// The signer's answer to a request. `None` without a signer or a request, if the request is not for this signer and this message, and if
-/// [`Machine::receive_answer`] gives none.
+/// The signer's answer. `None` without a signer, without a request for this signer and message, or if [`Machine::receive_answer`] gives none.
 pub(crate) fn received_answer<M: Machine>(
     alloc: Global,
     signer: &Option<SignerAddress<'_>>,

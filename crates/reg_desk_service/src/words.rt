@@ -28,18 +28,15 @@ pub(crate) enum ControlWord<'a> {
     AcceptClock(AcceptedClock),
     /// `schedule`: the desk sets another schedule, with these steps.
     Schedule(Steps),
-    /// Any other line, without its line end; `None` if it has too many bytes.
+    /// Any other line, also a word above with wrong fields (it will be refused), without its line end; `None` if the line has too many bytes.
     Line(Option<&'a [u8]>),
 }
 
-/// The row that `show` is to show.
+/// The row that `show` is to show: a request by its number, a certificate by its serial number, or a subscriber by its name.
 #[derive(Clone, Copy)]
 pub(crate) enum RowKey {
-    /// The request with a number.
     Request(u64),
-    /// The certificate with a serial number.
     Certificate(Serial),
-    /// The subscriber with a name.
     Subscriber(Label),
 }
 

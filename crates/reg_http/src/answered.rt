@@ -21,7 +21,7 @@ use reg_office_api::{OcspResponse, SignatureOutcome, StoreEffect};
 pub struct LoggedRequest {
     pub id: u64,
     pub serial: Serial,
-    /// The word of its ground, if it was entered; `None` if it was decided.
+    /// The word of its ground, such as `key-compromise`, if the request was entered; `None` if it was decided (carried out or declined).
     pub ground: Option<Label>,
 }
 
@@ -43,6 +43,7 @@ impl Answered {
         Answered::unsigned(answer, StoreEffect::Unwritten)
     }
 
+    /// An answer that has no signature and needs none.
     fn unsigned(answer: Answer, store: StoreEffect) -> Answered
         ensures { answer_effects result ≡ unsigned_effects (shown answer) store }
     {
@@ -65,8 +66,8 @@ pub(crate) fn answer_of_fault(buffer: Vec<u8>, fault: Fault) -> Answered
     Answered::unsigned(fault_answer(buffer, fault), store)
 }
 
-/// The answer whose body is the reply to a query for a status or the counts, or to a request for revocation. Any other reply, which no office gives
-/// to these, is answered as a fault of the store.
+/// The answer whose body is the reply to a query for a status or the counts, or to a request for revocation. No office gives these another reply;
+/// it would be answered as a fault of the store.
 fn reply_answer(mut buffer: Vec<u8>, reply: Reply) -> Answered
     requires empty { buffer.items ≡ [] }
     requires buffer { 256 ≤ vec_capacity buffer }

@@ -1,4 +1,4 @@
-//! The JSON bodies for a status, the counts, a new request and an error, written into memory that was reserved before, and the answers with them.
+//! The JSON bodies for a status, the counts, a new request and an error, written into memory reserved before the office's call; answers with them.
 
 ghost use Rattle.std.specs.Prelude.{◌≡◌, ◌≤◌, [], IfOk, length, vec_capacity};
 ghost use Rattle.reg_http_head.specs.Response.{shown};
@@ -23,7 +23,7 @@ pub(crate) fn json_buffer(alloc: Global) -> Result<Vec<u8>, Memory>
     Vec::with_capacity(alloc, 256).map_err(|_| Memory)
 }
 
-/// `{"error":"LINE"}`
+/// `{"error":"LINE"}`: LINE is that of a refusal or a fault, a status code, or `diverged`.
 #[tactic(auto, unfolding(crate::specs::Bodies::error_text))]
 fn put_error(buffer: &mut Vec<u8>, line: &[u8])
     requires empty { buffer.old.items ≡ [] }
@@ -111,6 +111,7 @@ pub(crate) fn der(kind: &'static str, body: Vec<u8>) -> Answer
     }
 }
 
+/// The answer to a request that is refused with this status code, such as 404, which is the body's error too.
 #[tactic(auto, unfolding(crate::specs::Bodies::http_refusal))]
 pub(crate) fn refusal(mut buffer: Vec<u8>, code: u16) -> Answer
     requires empty { buffer.items ≡ [] }
@@ -141,7 +142,7 @@ pub(crate) fn method_not_allowed(mut buffer: Vec<u8>, method: &'static str) -> A
     }
 }
 
-/// The answer to a request for changes after positions that are not in the history of the register.
+/// The answer to a request for changes if the client's copy has got to positions that are not in the history of this register.
 #[tactic(auto, unfolding(crate::specs::Bodies::diverged_response))]
 pub(crate) fn diverged_answer(mut buffer: Vec<u8>) -> Answer
     requires empty { buffer.items ≡ [] }

@@ -1,4 +1,5 @@
-//! Requests for the changes of the register: `GET /changes?after=POSITIONS`, or without a query from the first row on. Only an open desk has them.
+//! Requests for the changes of the register, which only `desk open` answers: `GET /changes?after=POSITIONS` for those that a client's copy lacks
+//! (POSITIONS says how far it has got), or without a query for all from the first row on.
 
 ghost use Rattle.std.specs.Prelude.{◌≡◌, IfOk};
 ghost use Rattle.reg_office_api.specs.Calls.{LooksIn};

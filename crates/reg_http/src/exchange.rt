@@ -21,7 +21,7 @@ use std::alloc::Global;
 /// request for revocation fits, so its text needs no memory after the call. Most OCSP responses fit too.
 const TEXT_ROOM: usize = 4_096;
 
-/// Reserves 4,096 bytes for the text of a response. [`Memory`] if out of memory.
+/// Reserves 4,096 bytes for the text of a response; contracts rely on 512 of them, for its head. [`Memory`] if out of memory.
 pub fn text_buffer(alloc: Global) -> Result<Vec<u8>, Memory>
     ensures empty { IfOk result (λ buffer. buffer.items ≡ []) }
     ensures buffer { IfOk result (λ buffer. 512 ≤ vec_capacity buffer) }
@@ -44,7 +44,7 @@ pub struct Exchange {
 }
 
 impl Exchange {
-    /// An exchange with an empty text, so no response, and this outcome of its signature.
+    /// An exchange without a response (its text is empty), with this outcome of its signature.
     pub fn empty(alloc: Global, route: Route, signature: SignatureOutcome) -> Exchange
         ensures empty { IsEmpty result }
         ensures effects { HasOnlySignature signature result }
@@ -103,8 +103,8 @@ impl Exchange {
         }
     }
 
-    /// An exchange with the OCSP response begun at `now`. If `response` is `Memory`, the body has that fault's line, with status code 500. If there
-    /// is no memory for the exchange itself, the text is the constant one of status code 500, or empty.
+    /// An exchange with an OCSP response, which was begun at `now` and is finished later. If `response` is `Memory`, the body has that fault's line,
+    /// with status code 500. If there is no memory for the exchange itself, the text is the constant one of status code 500, or empty.
     pub fn finished(
         alloc: Global,
         route: Route,

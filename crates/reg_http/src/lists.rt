@@ -1,5 +1,5 @@
-//! Requests for lists, `GET /list/WORD` with a query: `after=KEY`, `limit=N`, `before=MOMENT`, and a filter by `subscriber`, `serial`, `from` and
-//! `to`. Only an open desk answers them; [`serve_one`](crate::serve_one) answers 404.
+//! Requests for lists, `GET /list/WORD` with a query: `after=KEY`, `limit=N`, `before=MOMENT` (for the list `ending`), and a filter by `subscriber`,
+//! `serial`, `from` and `to`. Only `desk open` answers them; [`serve_one`](crate::serve_one) answers 404.
 
 ghost use Rattle.std.specs.Prelude.{◌≡◌, IfOk, OnErr};
 ghost use Rattle.reg_office_api.specs.Calls.{LooksIn};
@@ -42,6 +42,7 @@ pub fn answer_list<O: Office>(
 {
     match read_list(alloc, method, target) {
         Ok(ListRequest::Page(wanted)) => {
+            // `from` is where the page begins (`after=KEY`), `most` how many rows it reads (at most 250); the query's `from=MOMENT` is in the filter.
             let given = office.page(alloc, now, wanted.from, wanted.most);
             answer_page(alloc, &wanted, &given)
         }

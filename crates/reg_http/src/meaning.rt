@@ -51,6 +51,7 @@ pub(crate) enum Call {
     Request { serial: Serial, word: Label },
 }
 
+/// Whether a target begins with a slash, as in origin-form (RFC 9112 3.2.1). Other targets are refused with 400.
 fn is_rooted(target: &str) -> bool
     ensures { result ≡ is_rooted_text target.now }
 {
@@ -133,6 +134,7 @@ fn unreadable(error: &Error) -> Result<Meaning, Memory>
     }
 }
 
+/// Reads a request for revocation from its body, such as `{"serial":"05","ground":"key-compromise"}`.
 #[tactic(auto, unfolding(crate::specs::RoutedRequests::json_of))]
 fn request_part(alloc: Global, body: &[u8]) -> Result<Meaning, Memory>
     ensures { IfOk result (λ part.
@@ -160,6 +162,7 @@ fn meaning_at(
     let is_get = method.as_str() == "GET";
     let is_post = method.as_str() == "POST";
     match found.route {
+        // `desk open` answers the first four before it calls this; no other desk has them.
         Route::List | Route::Health | Route::Metrics | Route::Changes | Route::Other => {
             Ok(Meaning::Other(Call::Refused(status::NOT_FOUND)))
         }

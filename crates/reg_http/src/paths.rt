@@ -38,6 +38,7 @@ fn router(alloc: Global) -> Result<Router<Route>, Memory>
     let mut router = Router::new(alloc);
     match put_routes(&mut router) {
         Ok(()) => Ok(router),
+        // These routes are valid and have no conflict, so `insert` fails only if out of memory.
         Err(_) => Err(Memory),
     }
 }

@@ -31,14 +31,15 @@ pub enum Route {
 }
 
 impl Route {
-    /// The route of a target (RFC 9112 3.2.1). A route with a variable part is found by the start of the path alone: `/crl/` is [`Route::CrlNumber`].
+    /// The route of a target (RFC 9112 3.2.1). A route with a variable part is found by the start of the path alone: `/crl/` is [`Route::CrlNumber`]
+    /// here, though it is answered with 404.
     pub fn of(target: &str) -> Route
         ensures { result ≡ route_of_path (path_in target.now) }
     {
         route_at(path_of(target).as_bytes())
     }
 
-    /// The route of the path after the first space of some bytes, even if they are no valid head.
+    /// The route of the path after the first space of some bytes, even if they are no valid head: so refused requests are counted by route too.
     pub fn named_in(request: &[u8]) -> Route
         ensures { result ≡ named_route request.now }
     {

@@ -58,7 +58,7 @@ pub fn answer<O: Office>(
     }
 }
 
-/// As [`answer`], with the same errors, but with the effects of the answer; or returns an OCSP response that still needs its signature.
+/// As [`answer`], with the same errors, but returns an OCSP response that still needs its signature as a draft, and other answers with their effects.
 pub fn begin<O: Office>(
     alloc: Global,
     method: &Method,
@@ -91,7 +91,8 @@ pub fn begin<O: Office>(
     }
 }
 
-/// The serial number of a request for revocation whose ground has a known word; `None` for any other request. [`Memory`] if out of memory.
+/// The serial number of a request for revocation whose ground has a known word, for the limits of `desk open`; `None` for any other request.
+/// [`Memory`] if out of memory.
 pub fn serial_of(
     alloc: Global,
     method: &Method,

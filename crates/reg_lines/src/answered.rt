@@ -44,7 +44,8 @@ pub struct RefusedCommand {
     pub why: Refusal,
 }
 
-/// How a run of lines or rows ended, if no fault of input, clock, output or memory cut it short.
+/// How a run of lines or rows ended, if no fault of input, clock, output or memory cut it short. A strict run (`--strict`) ends at the first refusal
+/// or fault, and does not run a last line or row without its line end, which may be cut off.
 #[derive(Clone, Copy)]
 pub enum Ended {
     /// Each line or row ran. In a strict run, each was accepted.
@@ -137,7 +138,7 @@ impl Answered {
     }
 }
 
-/// The result of a run, without its value, which says how it ended: only its fault, if any.
+/// Drops how a run ended, and keeps only its fault, if any.
 pub(crate) fn done<T: Copy>(ran: Result<T, Fault>) -> Result<(), Fault>
     ensures { result ≡ done_of ran }
 {

@@ -9,6 +9,7 @@ use std::marker::Model;
 /// The fields of a line that are left. Contracts see the list of them.
 #[derive(Drop)]
 pub struct Fields<'a> {
+    /// The text that is left; `None` if no field is. An empty text is one empty field.
     rest: Option<&'a [u8]>,
 }
 

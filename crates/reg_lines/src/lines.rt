@@ -15,7 +15,7 @@ use reg_io::{Reached, Sink, Source, fill_to_delimiter};
 use reg_office_api::Office;
 use std::alloc::Global;
 
-/// The most bytes of a line before its LF; a CR counts.
+/// The most bytes of a line before its LF (a CR counts). One buffer, allocated before the first line, has room for each.
 pub const LONGEST_LINE: usize = 8192;
 
 /// The most bytes of an untimed line before its LF: 8,171, as [`LONGEST_LINE`] without a moment and a space. A CR counts.
@@ -153,7 +153,7 @@ fn run_next<R: Source, W: Sink, O: Office, H: Host>(
     }
 }
 
-/// Runs a line, writes its reply, and returns whether the run goes on.
+/// Runs a line, shows the result to the host (which may warn), writes the reply, and returns whether the run goes on.
 fn answer_line<W: Sink, O: Office, H: Host>(
     alloc: Global,
     writer: &mut W,

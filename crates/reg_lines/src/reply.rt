@@ -8,7 +8,7 @@ ghost use Rattle.reg_lines.specs.Replies.{line_of_status, counts_line, listing_l
 use reg_core::{Counts, Decimal, Listing, Moment, Outcome, Overdue, Reply, Status};
 use std::marker::Model;
 
-/// The bytes of the longest reply with its LF, except that to an OCSP request: the reply to `counts`, with three numbers of 20 digits.
+/// The length of the longest reply to a command or query, with its LF: that of the reply to `counts`, with three numbers of 20 digits.
 pub const LONGEST_REPLY: usize = 84;
 
 /// The text of a reply in an array, so that it needs no allocation. Contracts see the list of its bytes.

@@ -1,4 +1,4 @@
-//! The rows of an import as untimed lines.
+//! The rows of an import as untimed lines (script lines without their moment).
 
 ghost use Rattle.std.specs.Prelude.{◌≡◌, [], ◌∷◌, ◌++◌, ℕ, List, MatchResult, OnOk, option_map};
 ghost use Rattle.std.specs.Result.{result_map_both};

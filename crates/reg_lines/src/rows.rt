@@ -17,7 +17,7 @@ use reg_io::{Sink, Source, WriteFault};
 use reg_office_api::Office;
 use std::alloc::Global;
 
-/// The most bytes of an import.
+/// The most bytes of an import, because its whole text is held in memory.
 pub const MOST_BYTES: usize = 16_777_216;
 
 /// The most bytes of one read.

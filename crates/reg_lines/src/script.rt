@@ -13,7 +13,7 @@ use reg_io::{Sink, Source};
 use reg_office_api::Office;
 use std::alloc::Global;
 
-/// The host of a script whose lines have moments of their own. It observes nothing.
+/// The host of a script whose lines have moments of their own. It has no clock, so no line calls `moment`, and it observes nothing.
 struct NoHost;
 
 impl Host for NoHost {

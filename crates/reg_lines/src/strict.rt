@@ -1,4 +1,4 @@
-//! The strict import.
+//! The strict import (`--strict`).
 
 ghost use Rattle.std.specs.Prelude.{◌≡◌};
 ghost use Rattle.reg_office_api.specs.Calls.{LeadsIn};
@@ -13,7 +13,7 @@ use reg_office_api::Office;
 use std::alloc::Global;
 
 /// Registers each row of a text as [`crate::import`] does, up to the first reply that is a refusal or a fault. Bytes after the last line end (CR or
-/// LF) of the text do not run ([`Ended::NoLineEnd`]). The errors are those of [`crate::import`].
+/// LF) of the text do not run ([`Ended::NoLineEnd`]), because they may be a part of a row. The errors are those of [`crate::import`].
 pub fn import_strictly<R: Source, W: Sink, O: Office>(
     alloc: Global,
     reader: &mut R,
@@ -66,6 +66,7 @@ fn ended_part(mut text: &[u8]) -> &[u8]
     text
 }
 
+/// Whether a byte is within a line: neither CR nor LF.
 fn is_within(byte: u8) -> bool
     ensures { result ≡ is_within byte }
 {

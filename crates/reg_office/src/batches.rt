@@ -14,7 +14,7 @@ use std::alloc::Global;
 
 impl<C: Alter, S: Signer> Office<C, S> {
     /// Runs commands inside the transaction that is under way, and returns one outcome for each. Errors, after which the transaction must be rolled
-    /// back: `Memory`; `Store`; `Signer` if a command issues a CRL.
+    /// back: `Memory`; `Store`; `Signer` for a CRL, as no batch signs.
     pub(crate) fn run_each(
         &mut self,
         alloc: Global,
@@ -41,8 +41,8 @@ impl<C: Alter, S: Signer> Office<C, S> {
         Ok(outcomes)
     }
 
-    /// Runs a command inside the transaction that is under way. A refusal is an outcome too, and so is a fault that leaves the transaction under way. The errors
-    /// are those of [`Office::run_each`].
+    /// Runs a command inside the transaction that is under way. A refusal is an outcome too, and so is a fault that leaves the transaction under
+    /// way. The errors are those of [`Office::run_each`].
     fn run_within(&mut self, now: Moment, command: &Command) -> Result<Outcome, Fault>
         ensures ran { IfOk result (HappensWithin C.Store S.signs (S.identity self.old.signer)
             self.old.store self.new.store now command.now) }

@@ -1,4 +1,4 @@
-//! The command `register`.
+//! Decides the command `register`.
 
 ghost use Rattle.reg_core_laws.specs.Import.{register};
 ghost use Rattle.reg_office.specs.Looking.{DecidesCommand};
@@ -8,7 +8,6 @@ use reg_core::{CertRow, Change, Fault, Moment, Reply, decide_register};
 use reg_store::{Table, Tables};
 use sqlite::Alter;
 
-/// Decides the command `register`.
 pub(crate) fn register<C: Alter>(
     tables: &mut Tables<C>,
     now: Moment,

@@ -1,6 +1,5 @@
-//! Pages of the changes feed: the rows after some positions, in the order of entry, such that each row comes after those that it refers to.
-//!
-//! A page has rows of a table only if it has all rows of the tables before, because the rows of a page are limited in all.
+//! Pages of the changes feed: the rows after some positions (how far a client's copy has got), in the order of entry, such that each row comes after
+//! those that it refers to. A page has a limited number of rows in all, so it has rows of a table only if all those of earlier tables fit.
 
 ghost use Rattle.std.specs.Prelude.{◌≡◌, ◌-◌, length, option_map, IfErr, Some};
 ghost use Rattle.std.specs.List.{slice_get};
@@ -73,7 +72,7 @@ fn changes_after<C: Alter>(
     Ok(Changes::Page(text))
 }
 
-/// The page after these counts and declines.
+/// The page for a copy that has `counts` rows of the tables, and `declines` of the declined requests.
 fn page_after<C: Alter>(
     tables: &mut Tables<C>,
     alloc: Global,
@@ -166,6 +165,7 @@ fn rows_in<C: Alter>(
     let declined = tables.declined_after(from.last, room)?;
     let room = left(room, &declined);
     let entered = tables.entered_after::<RevocationRow>(counts.revocations, room)?;
+    // A revocation that only a later CRL than the next one can list waits for a later page.
     let revocations = before_later(entered, counts.crls);
     Ok(FeedRows {
         subscribers,
@@ -184,7 +184,7 @@ fn left<T>(room: u64, rows: &Vec<T>) -> u64
     room.saturating_sub(rows.len() as u64)
 }
 
-/// The CRL after the first ones, if there is one.
+/// The CRL after the first `crls` ones, if there is one.
 fn next_crl<C: Alter>(tables: &mut Tables<C>, crls: u64) -> Result<Option<FeedCrl>, DatabaseFault>
     ensures { Learns C.Store tables.old tables.new result (λ records next.
         option_map feed_crl_of next ≡ slice_get records.crls crls) }
@@ -236,7 +236,7 @@ fn digest_at<C: Alter>(
     Ok(digest)
 }
 
-/// The last rows of each table up to the counts.
+/// The last rows of each table up to the counts, at most `WINDOW` of each. The digest doesn't cover which requests were declined.
 fn windows_in<C: Alter>(
     tables: &mut Tables<C>,
     alloc: Global,

@@ -127,7 +127,7 @@ fn made_crl<C: Alter, S: Signer>(
     Ok((der, listed))
 }
 
-/// The DER of the TBSCertList (RFC 5280 5.1.2) of the next CRL, or the refusal of the command `crl` at this moment.
+/// The DER of the TBSCertList (RFC 5280 5.1.2) of the next CRL, for a signature that is requested before the command `crl` runs; or its refusal.
 pub(crate) fn next_message<C: Alter>(
     tables: &mut Tables<C>,
     alloc: Global,

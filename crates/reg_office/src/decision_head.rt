@@ -67,7 +67,7 @@ pub(crate) fn certificate_of<C: Alter>(
     Ok((certificate, revocation))
 }
 
-/// Whether the CRL number is below 10^18, and thisUpdate before `CLOCK_END`: a register writes no others.
+/// Whether the CRL number is below 10^18 and thisUpdate before `CLOCK_END`, as `decide_crl` and `due_of` require. A register writes no others.
 fn can_be_written(crl: &CrlRow) -> bool
     ensures { IsTrue result → (crl.now.number < 10 ^ 18) × (crl.now.this_update < clock_end) }
 {

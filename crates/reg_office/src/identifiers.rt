@@ -1,4 +1,4 @@
-//! A key identifier of the issuer's own, for the CRLs from the next one on (RFC 5280 5.2.1).
+//! Sets the authority key identifier of CRLs (RFC 5280 5.2.1), from the next CRL on.
 
 ghost use Rattle.std.specs.Prelude.{◌≡◌, IfOk, IfSome, OnOk};
 ghost use Rattle.sqlite.specs.Held.{state};
@@ -38,6 +38,7 @@ fn next_number_after(latest: Option<CrlRow>) -> Option<u64>
     }
 }
 
+/// The issuer with a key identifier of these octets, from the next CRL on.
 fn identified<C: Alter>(
     tables: &mut Tables<C>,
     alloc: Global,
@@ -59,7 +60,7 @@ fn identified<C: Alter>(
     }
 }
 
-/// Sets a key identifier of the issuer's own, which its CRLs have from the next one on (RFC 5280 5.2.1).
+/// Sets the key identifier that the issuer's CRLs have from the next one on, instead of the earlier one or the SHA-1 of its key.
 pub(crate) fn set_key_identifier<C: Alter>(
     store: &mut Store<C>,
     alloc: Global,

@@ -75,8 +75,7 @@ pub fn a_register_opened_after_a_stop_stands_before_or_after<C: Alter, S: Signer
     ensures { OpensBeforeOrAfter C.Store S.signs }
 {}
 
-/// A register that is opened after a stop in a run shows the records after a prefix of the commands. The prefix includes
-/// each command that was reported as accepted.
+/// A register opened after a stop in a run shows the records after a prefix of the commands, with each one that was reported as accepted.
 pub fn a_register_opened_after_a_stop_stands_after_a_prefix<C: Alter, S: Signer>()
     ensures { OpensAfterAPrefix C.Store S.signs }
 {}

@@ -1,5 +1,5 @@
-//! The response to an OCSP request: its ResponseData is made from the register's tables. It is signed here, or left as a draft, whose signature the
-//! caller requests from the signer's device itself.
+//! The response to an OCSP request: its ResponseData is made from the register's tables. It is signed here, or left as a draft: an event
+//! loop can request a draft's signature, and answer other requests meanwhile.
 
 ghost use Rattle.std.specs.Prelude.{◌≡◌, ◌^◌, ◌≤◌, ◌↔◌, None, length, IfOk, IfSome, option_copied, unwrap_or};
 ghost use Rattle.reg_ocsp.specs.Request.{CanBeAnswered};
@@ -27,8 +27,9 @@ use reg_store::Tables;
 use sqlite::Alter;
 use std::alloc::Global;
 
-/// The response (RFC 6960 4.2.1) to the bytes of a request at a moment; or, if it needs a signature that the caller can request from the signer's
-/// device itself (`Signer::public_key` is `Some`), a draft without the signature. No table changes. [`Memory`] if out of memory.
+/// The response (RFC 6960 4.2.1) to the bytes of a request at a moment. If it needs a signature, and the caller itself can request that from the
+/// signer's device (`Signer::public_key` is `Some`), a draft without one instead. A delegate's own signer signs, not `signer`. No table changes.
+/// [`Memory`] if out of memory.
 pub(crate) fn begin_ocsp<C: Alter, S: Signer>(
     alloc: Global,
     tables: &mut Tables<C>,
@@ -154,7 +155,8 @@ fn key_of<'a>(own: Option<&'a [u8]>, issuer: &'a Issuer) -> &'a [u8]
     }
 }
 
-/// The issuer, and the nextUpdate of an answer at this moment; `Clock` if the clock checks refuse the moment.
+/// The issuer, and the nextUpdate of an answer at this moment: the moment plus the life of OCSP answers. `Clock` if the clock checks refuse the
+/// moment, as when it is before the last accepted one.
 fn issuer_and_next_update<C: Alter>(
     tables: &mut Tables<C>,
     now: Moment,

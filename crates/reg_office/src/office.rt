@@ -22,8 +22,7 @@ use reg_store::{DatabaseFault, Store};
 use sqlite::Alter;
 use std::alloc::Global;
 
-/// A register in a store, the signer of its CRLs, and the responder to OCSP requests. The office keeps its records only in the store's
-/// tables.
+/// A register in a store, the signer of its CRLs, and the responder to OCSP requests. The office keeps its records only in the store's tables.
 #[derive(Drop)]
 pub struct Office<C: Alter, S: Signer> {
     /// The register's tables.
@@ -161,6 +160,7 @@ impl<C: Alter, S: Signer> reg_office_api::Office for Office<C, S> {
                 Err(fault) => Err(Fault::from(fault)),
             },
             Err(fault) => {
+                // Rolls back; `end` returns no other error than the one passed.
                 let _ = self.store.end(Err(DatabaseFault::Store));
                 Err(fault)
             }

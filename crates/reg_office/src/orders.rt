@@ -1,4 +1,4 @@
-//! The command `order`.
+//! Decides the command `order`.
 
 ghost use Rattle.reg_core.specs.declared.command.Command.TheVariants.{Order as EnterOrder};
 ghost use Rattle.reg_office.specs.Looking.{DecidesCommand};
@@ -8,7 +8,6 @@ use reg_core::{Change, Fault, Moment, Reply, decide_order};
 use reg_store::{Table, Tables};
 use sqlite::Alter;
 
-/// Decides the command `order`.
 pub(crate) fn enter_order<C: Alter>(
     tables: &mut Tables<C>,
     now: Moment,

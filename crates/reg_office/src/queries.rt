@@ -16,7 +16,6 @@ use reg_core::{Fault, Listing, Moment, Query, Refusal, Reply, Serial, clock, due
 use reg_store::{DatabaseFault, Tables};
 use sqlite::Alter;
 
-/// Answers a query.
 pub(crate) fn answer<C: Alter>(
     tables: &mut Tables<C>,
     now: Moment,
@@ -45,8 +44,7 @@ fn reply_to<C: Alter>(tables: &mut Tables<C>, now: Moment, query: &Query) -> Res
     }
 }
 
-/// The first CRL that lists a serial number, issued or not yet, and the last one, if issued; `None` if the serial number is not revoked;
-/// `UnknownSerial` if it is not registered.
+/// The first CRL that lists a serial number, issued or not, and the last, if issued; `None` if not revoked; `UnknownSerial` if not registered.
 fn listing<C: Alter>(tables: &mut Tables<C>, serial: Serial) -> Result<Option<Listing>, Fault>
     ensures { LooksAndDecides C.Store tables.old tables.new
         (λ records. first_refusal (query_checks records (AskListing serial))) (λ records found.

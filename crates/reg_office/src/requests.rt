@@ -1,4 +1,4 @@
-//! The commands `request`, `decline` and `revoke`.
+//! Decides the commands `request`, `decline` and `revoke`.
 
 ghost use Rattle.std.specs.Prelude.{◌<◌};
 ghost use Rattle.reg_core.specs.Calendar.{clock_end};
@@ -61,7 +61,6 @@ fn case_of<C: Alter>(tables: &mut Tables<C>, id: u64) -> Result<Case, DatabaseFa
     }
 }
 
-/// Decides the command `decline`.
 pub(crate) fn decline<C: Alter>(
     tables: &mut Tables<C>,
     now: Moment,
@@ -75,7 +74,6 @@ pub(crate) fn decline<C: Alter>(
     Ok((Reply::Declined, Change::Decline(row.id)))
 }
 
-/// Decides the command `revoke`.
 pub(crate) fn revoke<C: Alter>(
     tables: &mut Tables<C>,
     now: Moment,

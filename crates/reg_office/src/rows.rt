@@ -307,7 +307,7 @@ pub(crate) fn history_row<C: Alter>(
     })))
 }
 
-/// For how many seconds after its deadline a request was open, or has been open so far; `None` if it was declined. `Store` as for [`due_of`].
+/// How many seconds a request was open after its deadline, or has been so far (0 if none); `None` if it was declined. `Store` as for [`due_of`].
 fn lateness_of(
     now: Moment,
     request: &RequestRow,

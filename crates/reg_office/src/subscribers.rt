@@ -1,4 +1,4 @@
-//! The command `subscriber`.
+//! Decides the command `subscriber`.
 
 ghost use Rattle.reg_core.specs.declared.command.Command.TheVariants.{Subscriber as EnterSubscriber};
 ghost use Rattle.reg_office.specs.Looking.{DecidesCommand};
@@ -8,7 +8,6 @@ use reg_core::{Change, Fault, Label, Moment, Reply, decide_subscriber};
 use reg_store::{Table, Tables};
 use sqlite::Alter;
 
-/// Decides the command `subscriber`.
 pub(crate) fn enter_subscriber<C: Alter>(
     tables: &mut Tables<C>,
     now: Moment,

@@ -66,7 +66,8 @@ pub trait Office {
             self.old self.new };
 
     /// Begins the response of [`Office::ocsp`]: if the signer of OCSP answers has a public key, a response to sign is a draft, and the caller
-    /// requests its signature. A response with the placeholder digest is ready, and so is one without responseBytes. [`Memory`] if out of memory.
+    /// requests its signature. A response with the placeholder digest is ready, and so is one without responseBytes, such as internalError if
+    /// there is no signer, which counts as a failure of the signer. [`Memory`] if out of memory.
     fn begin_ocsp(
         &mut self,
         alloc: Global,
@@ -133,8 +134,8 @@ pub trait Office {
             self.old self.new }
         ensures faults { IfErr result IsOfStore };
 
-    /// Sets a key identifier of the issuer's own, which its CRLs have from the next one on (RFC 5280 5.2.1). This is no command:
-    /// nothing else changes, and at an error nothing does. Errors: `Memory`, `Store`.
+    /// Sets the key identifier that the issuer's CRLs have from the next one on (RFC 5280 5.2.1). This is no command: nothing else
+    /// changes, and at an error nothing does. Errors: `Memory`, `Store`.
     fn set_key_identifier(&mut self, alloc: Global, octets: Label) -> Result<(), Fault>
         ensures sets { Leads is_clean stands (λ signers. SetsKeyIdentifier octets result)
             self.old self.new }

@@ -38,7 +38,8 @@ impl<S: Alter> Store<S> {
         self.tables.connection.is_autocommit()
     }
 
-    /// Ends the transaction that is under way: commits it if `made` is `Ok`, or rolls it back. Errors: those of [`reg_store_changes::end`].
+    /// Ends the transaction that is under way: commits it if `made`, the result of its changes, is `Ok`, or rolls it back and returns the error of
+    /// `made`. Errors of the commit: those of [`reg_store_changes::end`].
     pub fn end(&mut self, made: Result<(), DatabaseFault>) -> Result<(), DatabaseFault>
         ensures { EndsTransaction S.Store self.old self.new made result }
     {
@@ -53,7 +54,8 @@ impl<S: Alter> Store<S> {
         reg_store_changes::apply(&mut self.tables.connection, now, change)
     }
 
-    /// Sets the last accepted moment; no other record changes. As in each change, the derived tables then match the records at this moment.
+    /// Sets the last accepted moment; no other record changes. As after each change, the tables derived from the records match them at that moment:
+    /// certificates with an earlier notAfter have expired.
     pub fn touch(&mut self, now: Moment) -> Result<(), DatabaseFault>
         ensures { MakesChange S.Store self.old self.new now Touch result }
     {
@@ -95,7 +97,7 @@ impl<S: Alter> Store<S> {
         self.apply(now, &Change::Decline(id))
     }
 
-    /// Adds the revocation of a certificate, whose notAfter the caller gives. `Store` too if the certificate is not good.
+    /// Adds the revocation of a certificate, whose notAfter the caller gives. `Store` also if the certificate is not good.
     pub fn add_revocation(
         &mut self,
         now: Moment,
@@ -107,22 +109,23 @@ impl<S: Alter> Store<S> {
         self.apply(now, &Change::Revocation(row, not_after))
     }
 
-    /// Adds a CRL, with its DER, and records it as the last CRL of each revocation without one whose certificate's notAfter is before its thisUpdate.
+    /// Adds a CRL, with its DER, and records it as the last one to list each revocation that has no last CRL yet and whose certificate's notAfter
+    /// is before the CRL's thisUpdate.
     pub fn add_crl(&mut self, now: Moment, row: CrlRow, der: &[u8]) -> Result<(), DatabaseFault>
         ensures { MakesChange S.Store self.old self.new now (Crl row der.entry) result }
     {
         self.apply(now, &Change::Crl(row, der))
     }
 
-    /// Sets the schedule of longest validities, not the last accepted moment. Errors: those of [`reg_store_changes::set_schedule`].
+    /// Sets the schedule of longest validities. The last accepted moment doesn't change. Errors: those of [`reg_store_changes::set_schedule`].
     pub fn set_schedule(&mut self, schedule: Schedule) -> Result<(), DatabaseFault>
         ensures { SetsSchedule S.Store self.old self.new schedule result }
     {
         reg_store_changes::set_schedule(&mut self.tables.connection, &schedule)
     }
 
-    /// Sets the issuer's Name and the key identifiers that were set for it. The issuer must have the same key as before; this is not checked.
-    /// Nothing else changes, not even the last accepted moment. Errors: those of [`reg_store_changes::set_issuer`].
+    /// Sets the issuer's Name and key identifiers. The issuer must have the same key as before; the call doesn't check it. Nothing else changes,
+    /// not even the last accepted moment. Errors: those of [`reg_store_changes::set_issuer`].
     pub fn set_issuer(&mut self, issuer: &Issuer) -> Result<(), DatabaseFault>
         ensures { SetsIssuer S.Store self.old self.new issuer.now result }
     {

@@ -1,4 +1,5 @@
-//! The steps of a change, inside its transaction.
+//! The steps of a change, inside a transaction. Three tables are derived from the records: `standing` has a state letter for each certificate (`G`
+//! good, `R` revoked, `X` expired), `kept` the counts of these letters, and `listed` the CRL entry of each revocation.
 
 ghost use Rattle.std.specs.Prelude.{◌≡◌, ◌+◌, length, IfOk, OnOk, true};
 ghost use Rattle.reg_core.specs.Changes.{touched, with_certificate, with_crl};
@@ -17,7 +18,7 @@ use reg_core::{CertRow, Change, Counts, CrlRow, Moment, RevocationRow};
 use reg_store_tables::{DatabaseFault, stored_counts_at_last};
 use sqlite::{Alter, Connection};
 
-/// The counts after `ended` good certificates expired and the change was made. `Store` if a count goes below 0 or above 2^64 - 1.
+/// The counts of good, revoked and expired certificates after `ended` good ones expired and the change was made. `Store` if one leaves 0..2^64 - 1.
 fn counts_after(counts: Counts, ended: usize, change: &Change<'_>) -> Result<Counts, DatabaseFault>
     ensures shifted { IfOk result (λ next. next ≡ shifted counts ended (newly_revoked change.now) (added change.now)) }
 {
@@ -78,7 +79,7 @@ fn register<S: Alter>(conn: &mut Connection<S>, row: CertRow) -> Result<(), Data
     put_letter(conn, serial, not_after)
 }
 
-/// Adds a revocation and its row of `listed`, and sets its certificate's state letter to `R`. `Store` too if the letter was not `G`.
+/// Adds a revocation and its row of `listed`, and sets the certificate's state letter to `R`. `Store` also if the letter was not `G`.
 fn revoke<S: Alter>(
     conn: &mut Connection<S>,
     row: RevocationRow,
@@ -96,7 +97,8 @@ fn revoke<S: Alter>(
     }
 }
 
-/// Adds a CRL, and records it as the last CRL of each revocation that has none yet and whose notAfter is before this thisUpdate.
+/// Adds a CRL, and records it as the last one to list each revocation that has no last CRL yet and whose certificate's notAfter is before the
+/// CRL's thisUpdate (RFC 5280 3.3: an entry stays until a CRL after the certificate expired has it).
 fn issue<S: Alter>(conn: &mut Connection<S>, row: CrlRow, der: &[u8]) -> Result<(), DatabaseFault>
     ensures made { MakesWithin S.Store conn.old conn.new result
         (TurnsWhere (λ records. row.number ≡ length records.crls + 1)
@@ -109,7 +111,7 @@ fn issue<S: Alter>(conn: &mut Connection<S>, row: CrlRow, der: &[u8]) -> Result<
     set_last_listed(conn, number, this_update)
 }
 
-/// Writes the rows of a change, and those of the derived tables except the counts, in a transaction that is under way.
+/// Writes the rows of a change (`Touch` has none), and those of `standing` and `listed`, in the transaction that is under way.
 fn put<S: Alter>(conn: &mut Connection<S>, change: &Change<'_>) -> Result<(), DatabaseFault>
     ensures made { ContinuesWithin S.Store conn.old conn.new result (Puts change.now) }
     ensures stepped { StepsWithin S.Store conn.old conn.new }

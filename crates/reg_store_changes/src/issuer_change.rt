@@ -1,4 +1,4 @@
-//! Replaces the stored Name of the issuer, and the key identifiers that were set for it, which are stored after the Name.
+//! Replaces the stored Name of the issuer and the key identifiers after it: those that were set for its CRLs (RFC 5280 5.2.1) instead of SHA-1.
 
 ghost use Rattle.reg_store_tables.specs.Stays.{Stepped};
 ghost use Rattle.reg_store_changes.specs.ChangeSteps.{ReplacesIssuer};
@@ -21,9 +21,9 @@ fn set_name<S: Alter>(tx: &mut Transaction<'_, S>, issuer: &Issuer) -> Result<()
     Ok(())
 }
 
-/// Sets the issuer's Name and the key identifiers that were set for it. The issuer must have the same key as before; this is not checked. The
-/// call is no command: other records, the derived tables and the last accepted moment don't change. Errors: `Memory`; `Store` if the database
-/// fails, or if a transaction is under way. An error changes nothing, unless the disk failed in the commit.
+/// Replaces the issuer's Name and key identifiers, in a transaction of its own. The issuer must have the same key as before; the call doesn't check
+/// it. The call is no command: other records, the derived tables and the last accepted moment don't change. Errors: `Memory`; `Store` if the
+/// database fails, or if a transaction is under way. An error changes nothing, unless the disk failed in the commit.
 pub fn set_issuer<S: Alter>(conn: &mut Connection<S>, issuer: &Issuer) -> Result<(), DatabaseFault>
     ensures { SetsIssuer S.Store conn.old conn.new issuer.now result }
 {

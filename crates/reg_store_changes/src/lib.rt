@@ -1,4 +1,4 @@
-//! The changes of the register in SQL tables: each is one transaction.
+//! The changes of the register in SQL tables: one in a transaction of its own, or several between [`begin`] and [`end`].
 #![tactic(auto)]
 
 mod change_statements;

@@ -1,4 +1,4 @@
-//! Replaces the schedule of longest validities.
+//! Replaces the schedule of longest validities. A step has a moment and the longest validity, in days, of a certificate from then on.
 
 ghost use Rattle.reg_store_tables.specs.Stays.{Stepped};
 ghost use Rattle.reg_store_changes.specs.ChangeSteps.{ClearsSteps, WritesSchedule};
@@ -30,9 +30,9 @@ fn write_schedule<S: Alter>(
     put_schedule_steps(tx, schedule.steps())
 }
 
-/// Sets the schedule of longest validities. The call is no command: other records, the derived tables, the last accepted moment and
-/// the column `days` of the office don't change. Errors: `Memory`; `Store` if the database fails, or if a transaction is under way. An error
-/// changes nothing, unless the disk failed in the commit.
+/// Sets the schedule, in a transaction of its own. The call is no command: other records, the derived tables, the last accepted moment and the
+/// column `days` of `office` (of the register's creation) don't change. Errors: `Memory`; `Store` if the database fails, or if a transaction is
+/// under way. An error changes nothing, unless the disk failed in the commit.
 pub fn set_schedule<S: Alter>(
     conn: &mut Connection<S>,
     schedule: &Schedule,

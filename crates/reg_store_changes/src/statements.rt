@@ -1,5 +1,5 @@
-//! The statements of the changes, inside a transaction. Errors: `Memory`; `Store` if the database fails or refuses a row, or for a number above
-//! 2^63 - 1.
+//! The statements of the changes, inside a transaction. Errors: `Memory`; `Store` if the database fails or refuses a row, if no transaction is under
+//! way, or for a number above 2^63 - 1 (SQL has no larger one).
 
 ghost use Rattle.std.specs.Prelude.{◌≡◌, ◌+◌, OnOk, length, true};
 ghost use Rattle.reg_core.specs.Changes.{touched, with_subscriber, with_order, with_certificate, with_request, with_declined, with_revocation, with_crl};
@@ -21,7 +21,7 @@ use reg_store_tables::write_statements::{
 use sqlite::types::ValueRef;
 use sqlite::{Alter, Connection};
 
-/// Sets the letter of each good certificate whose notAfter is before now to expired, and returns how many there were.
+/// Sets the state letter of each certificate whose letter is `G` (good) and whose notAfter is before now to `X` (expired). Returns their number.
 pub fn expire_ended<S: Alter>(conn: &mut Connection<S>, now: Moment) -> Result<usize, DatabaseFault>
     ensures made { YieldsWithin S.Store conn.old conn.new result (TurnsCounted (with_expired now) (count_ended_before now)) }
     ensures stepped { StepsWithin S.Store conn.old conn.new }
@@ -30,7 +30,7 @@ pub fn expire_ended<S: Alter>(conn: &mut Connection<S>, now: Moment) -> Result<u
     write(conn, sql::EXPIRE_ENDED, &[sql_moment(now)])
 }
 
-/// Sets the letter of the good certificate with this serial number to revoked, and returns how many such certificates there were: 0 or 1.
+/// Sets the state letter of the certificate with this serial number to `R` (revoked) if it is `G`. Returns how many were set: 0 or 1.
 pub fn mark_revoked<S: Alter>(
     conn: &mut Connection<S>,
     serial: Serial,
@@ -43,7 +43,7 @@ pub fn mark_revoked<S: Alter>(
     write(conn, sql::MARK_REVOKED, &[ValueRef::Blob(&bytes)])
 }
 
-/// Records this CRL as the last one of each revocation that has no last one yet and whose certificate's notAfter is before its thisUpdate.
+/// Records this CRL as the last one to list each revocation that has no last CRL yet and whose certificate's notAfter is before `this_update`.
 pub(crate) fn set_last_listed<S: Alter>(
     conn: &mut Connection<S>,
     number: u64,
@@ -59,7 +59,7 @@ pub(crate) fn set_last_listed<S: Alter>(
     Ok(())
 }
 
-/// Sets the counts in the table `kept`.
+/// Sets the counts of good, revoked and expired certificates (the table `kept`).
 pub(crate) fn set_counts<S: Alter>(
     conn: &mut Connection<S>,
     counts: Counts,
@@ -74,6 +74,7 @@ pub(crate) fn set_counts<S: Alter>(
     Ok(())
 }
 
+/// Sets the moment of the last accepted command.
 pub(crate) fn set_last<S: Alter>(conn: &mut Connection<S>, now: Moment) -> Result<(), DatabaseFault>
     ensures made { MakesRowsWithin S.Store conn.old conn.new result (TurnsRecords (λ records. touched records now)) }
     ensures stepped { StepsWithin S.Store conn.old conn.new }
@@ -201,7 +202,7 @@ pub(crate) fn put_revocation<S: Alter>(
     Ok(())
 }
 
-/// Adds the row of `listed` of a revocation, without a last CRL.
+/// Adds a revocation's row to the table `listed`, without a last CRL.
 pub(crate) fn put_listed<S: Alter>(
     conn: &mut Connection<S>,
     row: RevocationRow,

@@ -1,5 +1,5 @@
-//! The call that makes a change. It may be called with any change. Its contract says what the tables show afterwards only if sound records
-//! allow the change (`Fits`), and the moment is not before the last accepted one.
+//! The call that makes a change, of any kind. Its contract says what the tables show afterwards only if the records are sound, the change fits
+//! them (`Fits`: a new row has the next id, say), and the moment is not before the last accepted one.
 
 ghost use Rattle.reg_store_changes.specs.MadeChanges.{MakesChange};
 

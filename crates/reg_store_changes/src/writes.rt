@@ -31,7 +31,7 @@ pub(crate) fn write<S: Alter>(
     Ok(conn.execute(sql, params)?)
 }
 
-/// Begins a transaction. `Store` too if one is under way.
+/// Begins a transaction. Errors: `Memory`; `Store` if the database fails, or if a transaction is under way already.
 pub fn begin<S: Alter>(conn: &mut Connection<S>) -> Result<(), DatabaseFault>
     ensures { BeginsTransaction S.Store conn.old conn.new result }
 {
@@ -42,8 +42,9 @@ pub fn begin<S: Alter>(conn: &mut Connection<S>) -> Result<(), DatabaseFault>
     Ok(())
 }
 
-/// Ends the transaction that is under way: commits it if `made` is `Ok`, or rolls it back and returns the error. Errors of the commit: `Memory`;
-/// `Store` if the database fails, or if a failure has ended the transaction. Then it is rolled back, unless the disk failed.
+/// Ends the transaction that is under way: commits it if `made` is `Ok`, or rolls it back and returns the error of `made`. If the commit fails, the
+/// transaction is rolled back, unless the disk failed. Errors of the commit: `Memory`; `Store` if the database fails, or if an earlier failure has
+/// ended the transaction.
 pub fn end<S: Alter>(
     conn: &mut Connection<S>,
     made: Result<(), DatabaseFault>,
@@ -74,7 +75,7 @@ fn commit<S: Alter>(conn: &mut Connection<S>) -> Result<(), DatabaseFault>
     }
 }
 
-/// Rolls back the transaction that is under way, if one is.
+/// Rolls back the transaction that is under way, if one is. It drops an error, because its callers return the one that made them roll back.
 fn roll_back<S: Alter>(conn: &mut Connection<S>)
     ensures { RollsBack S.Store conn.old conn.new }
 {

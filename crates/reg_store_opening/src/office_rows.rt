@@ -97,6 +97,7 @@ fn last_in(row: &Row) -> Option<Moment>
     clock_moment_at(row, 5)
 }
 
+/// Checks the columns of the issuer's name (the Name, and after it the key identifiers that were set) and key.
 fn check_issuer(alloc: Global, row: &Row) -> Result<(), StoreFault>
     ensures { MatchResult result (λ _. (issuer : core.Issuer) × HasIssuer row.now issuer)
         (Refuses ((issuer : core.Issuer) → ¬ HasIssuer row.now issuer)) }
