@@ -136,17 +136,19 @@ def main(words):
         found = [it for it in functions() if is_forwarder(it)]
         print(*found, f"{len(found)} forwarders", sep="\n")
     elif words[:1] == ["--path"] and len(words) > 1:
-        path = [it for it in by_name()["main"] if it.crate == "reg_desk"]
-        for name in words[1:]:
-            callers, waiting = {path[-1]: None}, deque(path[-1:])
-            while waiting and waiting[0].name != name:
-                caller = waiting.popleft()
-                waiting += [it for it in called_by(caller) if it not in callers]
-                callers = {**dict.fromkeys(called_by(caller), caller), **callers}
-            part, at = [], waiting[0] if waiting else sys.exit(f"no call leads to {name}")
-            while at != path[-1]:
-                part, at = [at, *part], callers[at]
-            path += part
+        # A function, and how many of the names the path to it has.
+        first = next(it for it in by_name()["main"] if it.crate == "reg_desk"), 0
+        callers, waiting = {first: None}, deque([first])
+        while waiting and waiting[0][1] < len(words) - 1:
+            caller, count = waiting.popleft()
+            for it in called_by(caller):
+                place = it, count + (it.name == words[count + 1])
+                if place not in callers:
+                    callers[place] = caller, count
+                    waiting.append(place)
+        place, path = waiting[0] if waiting else sys.exit(f"no path has {' '.join(words[1:])}"), []
+        while place:
+            path, place = [place[0], *path], callers[place]
         print(*path, f"{len(path)} functions", sep="\n")
     else:
         sys.exit(__doc__)

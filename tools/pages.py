@@ -1,9 +1,9 @@
 #!/usr/bin/env python3
 """Checks the names in the pages against the repository: functions and definitions of docs/PROOFS.md and docs/ARCHITECTURE.md; files, crates
-and their uses in docs/ARCHITECTURE.md, files and definitions that docs/MODEL.md names after a crate, and links to headings. Also reports two crates that give
-one name to definitions, because the pages refer to a definition by its name; a promise of docs/PROOFS.md whose functions no call from `main` reaches; a proof
-that cites proofs of another crate outside of its PublicLaws; and a docs/architecture.svg that is out of date. Prints a line for each error, and exits with 1 if
-there is one."""
+and their uses in docs/ARCHITECTURE.md, files and definitions that docs/MODEL.md names after a crate, and links to files and headings. Also reports
+two crates that give one name to definitions, because the pages refer to a definition by its name; a promise of docs/PROOFS.md whose functions no call
+from `main` reaches; a proof that cites proofs of another crate outside of its PublicLaws; and a docs/architecture.svg that is out of date. Prints a
+line for each error, and exits with 1 if there is one."""
 import re
 import sys
 from pathlib import Path
@@ -41,9 +41,12 @@ def anchors(page):
 
 def look_at_links():
     for page in PAGES:
+        for path in re.findall(r"\]\((?!https?:)([^)#\s]+)", text(page)):
+            if not (TOP / page).parent.joinpath(path).exists():
+                miss(page, f"no {path}")
         for path, heading in re.findall(r"\]\(([^)#\s]*)#([^)]*)\)", text(page)):
             goal = str((TOP / page).parent.joinpath(path).resolve().relative_to(TOP)) if path else page
-            if not (TOP / goal).exists() or heading not in anchors(goal):
+            if (TOP / goal).exists() and heading not in anchors(goal):
                 miss(page, f"no heading {path}#{heading}")
         for named in re.findall(r"`?\b(docs/\w+\.md)(?!\w), \"([^\"]*)\"", text(page)):
             if (TOP / named[0]).exists() and not named[1].endswith("..") and anchor(named[1]) not in anchors(named[0]):
