@@ -94,7 +94,10 @@ class Case:
         self.t, self.path, self.opened = t, path, None
 
     def run(self):
-        for step in read(self.path):
+        steps = read(self.path)
+        if not steps:
+            raise Failed(f"{self.path.name}: it has no step")
+        for step in steps:
             self.do(step)
 
     def do(self, step):
@@ -104,6 +107,8 @@ class Case:
         came = work(step)
         if came is not None:
             self.judge(step, came)
+        elif step.wanted or step.told or step.status:
+            raise Failed(f"{self.path.name}:{step.line}: the step {step.word} prints nothing and has no status, so nothing can be expected of it")
 
     def judge(self, step, came):
         values = {"{port}": str(self.opened.port) if self.opened else ""}
