@@ -456,6 +456,47 @@ def a_late_crl_is_described(t, clock, due, wanted):
     t.tool("promtool", "test", "rules", "case.yml")
 
 
+# For each other alert its severity, series by which it fires, its labels besides the instance and the severity, and what it says after nine minutes.
+SAID = {
+    "DeskAway": ("page", ["up{job='desk'} 0x60"], "job: desk", "the desk does not answer"),
+    "DeskSignerFailing": ("page", ["desk_signer_failing_since_timestamp_seconds{of='ocsp'} 5x60"], "of: ocsp", "signatures of ocsp fail"),
+    "DeskResponderEnds": ("ticket", ["desk_responder_certificate_not_after_timestamp_seconds{} 266940x60", "desk_clock_timestamp_seconds{} 0+60x60"],
+                          "", "the responder's certificate ends in 3d 2h 0m 0s"),
+    "DeskStoreFailing": ("page", ["desk_store_failing_since_timestamp_seconds{} 5x60"], "", "the store fails, and no command is entered"),
+    "DeskRegisterUnreadable": ("page", ["desk_register_readable{} 0x60"], "", "the register can't be read"),
+    "DeskRequestOverdue": ("ticket", ["desk_requests_overdue{} 2x60"], "", "2 requests for revocation are overdue"),
+    "DeskFlooded": ("ticket", ["desk_http_responses_total{route='/requests',code='429'} 5x60"], "route: /requests, code: 429",
+                    "5 requests for revocation were refused with 429 in 15 minutes"),
+    "DeskTableFilling": ("page", ["desk_rows{table='orders'} 800001x60", "desk_rows_cap{} 1000000x60"], "table: orders",
+                         "the table of orders has 800001 rows, over four fifths of its cap"),
+    "DeskDiskFilling": ("page", [f"node_filesystem_{it}_bytes{{mountpoint='/var'}} {value}x60" for it, value in (("avail", 9), ("size", 100))],
+                        "mountpoint: /var", "9% of the disk at /var is left"),
+    "DeskClock": ("page", ["desk_clock_behind_seconds{} 100x60"], "", "the desk's clock is wrong by 1m 40s"),
+}
+
+
+@each({name: (name, *it) for name, it in SAID.items()})
+def what_each_alert_says(t, alert, severity, series, labels, wanted):
+    """A page wakes somebody up, and a ticket waits until the morning."""
+    need("promtool")
+    case = RULES.format(rules=ALERTS) + "  - interval: 1m\n    input_series:\n"
+    for one in series:
+        name, values = one.rsplit(" ", 1)
+        name = name.replace("{", "{instance='ca',").replace(",}", "}")
+        case += f'      - {{series: "{name}", values: "{values}"}}\n'
+    label = f"{{severity: {severity}, instance: ca{', ' * bool(labels)}{labels}}}"
+    case += f"""    alert_rule_test:
+      - {{eval_time: 9m, alertname: {alert}, exp_alerts: [{{exp_labels: {label}, exp_annotations: {{summary: "ca: {wanted}"}}}}]}}
+"""
+    (t.room / "case.yml").write_text(case)
+    t.tool("promtool", "test", "rules", "case.yml")
+
+
+@test
+def each_alert_is_described(t):
+    t.same(sorted({*SAID, "DeskCrlLate"}), sorted(re.findall(r"- alert: (\w+)", ALERTS.read_text())))
+
+
 @test(seconds=15)
 def a_real_prometheus_scrapes_it(t):
     need("prometheus")
