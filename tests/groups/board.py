@@ -10,7 +10,7 @@ import time
 
 from lib import authority
 from lib.authority import DAY, Authority, moment_of
-from lib.trial import Failed, need, test
+from lib.trial import Failed, each, need, test
 from lib.web_server import Front, certificates
 
 
@@ -287,6 +287,31 @@ def a_crl_of_2050(t):
     loaded(browser)
     wanted = {"number": "2", "this": "2050-01-02 03:04:05 UTC", "next": "2050-01-10 03:04:05 UTC", "fault": ""}
     t.same({name: browser.text_of(name) for name in wanted}, wanted, "what the page shows")
+
+
+# What a script in a page might do to send what the page shows to another server, and the directive of the page's policy that forbids it.
+SENDS = {
+    "img-src": "new Image().src = url", "connect-src": "fetch(url).catch(() => {})", "frame-src": "add('iframe', { src: url })",
+    "script-src-elem": "add('script', { src: url })", "style-src-elem": "add('link', { rel: 'stylesheet', href: url })",
+    "media-src": "add('video', { src: url })",
+}
+
+
+@each({name: name for name in ("board", "office")}, seconds=5)
+def a_page_requests_nothing_of_another_server(t, name):
+    """The pages show what others chose, such as the names of subscribers. Their policy (Content Security Policy) allows requests to their own server
+    alone."""
+    need("chromium")
+    browser = Browser(t)
+    browser.ask("Page.navigate", url=f"file://{authority.EXAMPLES / name / 'index.html'}")
+    browser.until("document.readyState === 'complete'")
+    found = {directive: browser.value(f"""new Promise(done => {{
+        const url = "http://127.0.0.1:1/", add = (kind, words) => document.body.append(Object.assign(document.createElement(kind), words));
+        document.addEventListener("securitypolicyviolation", it => it.blockedURI.startsWith(url.slice(0, -1)) && done(it.effectiveDirective));
+        setTimeout(() => done("nothing"), 5000);
+        {script};
+    }})""") for directive, script in SENDS.items()}
+    t.same(found, {it: it for it in SENDS}, "the directives that forbid requests to another server")
 
 
 def little(t, it, desk, browser):
