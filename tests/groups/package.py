@@ -383,6 +383,21 @@ def a_unit_that_fails_does_not_fail_the_package(t):
 
 
 @test
+def what_a_purge_says(t):
+    """Registers and keys stay, and a purge names the folder in which there are any. A removal, after which they can be used again, names none."""
+    says = lambda what, name: f"durshavon: the {what} in {t.room}/lib/{name} stay; remove them by hand if nobody needs them any more\n"
+    registers, keys = t.room / "lib/durshavon", t.room / "lib/durshavon-signer"
+    maintained(t, "postrm", "purge")
+    for folder in (registers, keys):
+        folder.mkdir(parents=True)
+    (registers / "ca.db").touch()
+    maintained(t, "postrm", "purge", reports=says("registers", "durshavon"))
+    (keys / "ca.key").touch()
+    maintained(t, "postrm", "remove")
+    maintained(t, "postrm", "purge", reports=says("registers", "durshavon") + says("keys", "durshavon-signer"))
+
+
+@test
 def the_package_is_installed_and_removed_without_systemd(t):
     """On a machine without systemd, such as a container, there is no systemctl, and the scripts end with status 0."""
     (t.room / "bin").mkdir()
@@ -496,6 +511,37 @@ def what_the_package_needs_and_has(t):
     named = {it.decode() for text in texts.values() for it in re.findall(rb"/usr/(?:lib|share)/durshavon/[\w./-]*\w", text)}
     t.true(len(named) > 15, f"too few paths were found: {named}")
     t.same(sorted(it for it in named if not (files / it[1:]).exists()), [], "paths that lead nowhere")
+
+
+# Crates of a toolchain: what each uses, and its licences. The program uses `one`, which uses `two`, and not `spare`.
+CRATES = {
+    "std": ("", {"LICENSE": "Standard terms"}),
+    "one": ("dep std\ndep two\n", {"LICENSE-MIT": "Some  terms\nof one", "LICENSE-APACHE": "Apache License\nVersion 2.0, with a text"}),
+    "two": ("dep std\n", {"LICENSE": "Some terms of\none"}), "spare": ("", {"LICENSE": "Spare terms"}),
+}
+
+
+@test
+def whose_licences_the_package_has(t):
+    """The file `copyright` has each text once, with all crates that are linked into the program, also those that other crates use. There is none
+    while the page names not all of them."""
+    kit, top = t.room / "kit", t.room / "top"
+    for name, (uses, licences) in CRATES.items():
+        for path, text in {f"rlibs/{name}.rlib/format": uses, **{f"rattle/{name}/{it}": text for it, text in licences.items()}}.items():
+            (kit / path).parent.mkdir(parents=True, exist_ok=True)
+            (kit / path).write_text(text)
+    (top / "docs").mkdir(parents=True)
+    (top / "crates.txt").write_text("# crates\nreg_desk: std reg_a\nreg_a: std one\n")
+    made = lambda: t.tried("env", "-C", top, sys.executable, TOP / "tools/copyright.py", kit)
+    (top / "docs/LICENCES.md").write_text("`one`, `std` and spare\n")
+    ran = made()
+    t.same((ran.returncode, ran.stdout, ran.stderr), (1, b"", b"docs/LICENCES.md does not name two, which the program is linked with\n"))
+    (top / "docs/LICENCES.md").write_text("`one`, `std` and `two`\n")
+    first, *parts = re.split(r"\n={100}\n", made().stdout.decode())
+    t.has(first, "`one`, `std` and `two`")
+    wanted = {"one/LICENSE-APACHE": "Apache License 2.0: /usr/share/common-licenses/Apache-2.0", "std/LICENSE": "Standard terms",
+              "one/LICENSE-MIT, two/LICENSE": "Some  terms\nof one"}
+    t.same(dict(zip(parts[::2], map(str.strip, parts[1::2]))), wanted, "the crates with each text")
 
 
 def linked(t, deb):
