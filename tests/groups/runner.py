@@ -7,8 +7,8 @@ import shlex
 import shutil
 import sys
 
-from lib import program
-from lib.trial import each, test
+from lib import documents, program
+from lib.trial import Failed, each, test
 
 GROUP = '''"""A group."""
 import os
@@ -222,6 +222,25 @@ def a_fault_that_can_t_be_injected(t, rule):
     got = t.tried("sh", "-c", "echo ran", env=env)
     t.same((got.returncode, got.stdout), (99, b""))
     t.has(got.stderr, b" is not understood\n")
+
+
+@each({"the second": ("write:2", "a\nc\n"), "from the second on": ("write:2+", "a\n"), "the first two": ("write:1-2", "c\n"),
+       "one after the last": ("write:4", "a\nb\nc\n")})
+def which_calls_fail(t, rule, wanted):
+    """The shell writes each line by a call of its own."""
+    env = {**os.environ, "LD_PRELOAD": os.environ["DESK_FAULTS_LIBRARY"], "FAULTS_FAIL": rule, "FAULTS_ONLY": "stdout"}
+    t.same(t.tried("dash", "-c", "echo a; echo b; echo c", env=env).stdout.decode(), wanted)
+
+
+@test
+def lines_of_a_page_that_are_not_there(t):
+    """Tests that type the lines of a page would otherwise type nothing, and pass."""
+    for read in (lambda: documents.blocks("No such part"), lambda: documents.block("Signatures", "no such line")):
+        try:
+            read()
+        except Failed:
+            continue
+        raise Failed("lines that are not there are read")
 
 
 @test(seconds=10)
