@@ -375,6 +375,45 @@ def what_a_build_leaves(t, words, stays):
     t.same(it.desk("script", "ca.db"), (0, "proved script ca.db\n", ""), "the program runs, and is not built again")
 
 
+# A stub of rt, which makes a library or the program, if the libraries that its crate uses are there. It fails for the crate that FAILS names.
+NEEDS = """#!/bin/sh
+name=$(basename "$PWD")
+echo "$name" >>"$CALLS"
+for it in $(sed -n "s/^$name: *//p" ../../crates.txt); do
+    [ -e "../$it/out/rlib/stamp" ] || { echo "no library $it"; exit 1; }
+done
+[ "$name" != reg_slow ] || sleep 1
+case $FAILS in "$name fails") echo "not proved"; exit 1 ;; "$name is killed") kill -9 $$ ;; esac
+mkdir -p out/rlib && echo "stamp of $name" >out/rlib/stamp
+"""
+# The crates, some of which wait for two others.
+DIAMOND = {"reg_core": "", "reg_slow": "reg_core", "reg_quick": "reg_core", "reg_both": "reg_slow reg_quick", "reg_desk": "reg_both reg_quick"}
+
+
+@each({"each crate is proved": ("", []), "a crate is not proved": ("reg_slow fails", ["reg_both", "reg_desk"]),
+       "rt is killed, as if memory is short": ("reg_slow is killed", ["reg_both", "reg_desk"]),
+       "the first crate is not proved": ("reg_core fails", ["reg_both", "reg_desk", "reg_quick", "reg_slow"])}, seconds=3)
+def a_crate_is_built_after_those_that_it_uses(t, fails, left):
+    """Each crate is built once. A crate that can't be built ends the build with status 126 and the output of rt, and the earlier library stays."""
+    top = t.room / "top"
+    put(top / "crates.txt", "".join(f"{name}: {uses}\n" for name, uses in reversed(DIAMOND.items())))
+    for name in DIAMOND:
+        put(top / f"crates/{name}/src/{'main' if name == 'reg_desk' else 'lib'}.rt", "fn it() {}\n")
+    put(top / "crates/reg_slow/out/rlib/stamp", "an earlier one\n")
+    (top / "tools").mkdir()
+    shutil.copy2(program.TOP / "tools/build.py", top / "tools")
+    put(t.room / "bin/rt", NEEDS, is_program=True)
+    env = {**os.environ, "PATH": f"{t.room / 'bin'}:{os.environ['PATH']}", "CALLS": str(t.room / "calls"), "FAILS": fails}
+    ran = t.tried(top / "tools/build.py", env=env)
+    t.same(sorted((t.room / "calls").read_text().split()), sorted(it for it in DIAMOND if it not in left), "the crates that rt was started for")
+    t.same((ran.returncode, ran.stdout), (126 if fails else 0, b""), f"status and standard output; standard error is {ran.stderr!r}")
+    if fails:
+        name, how = fails.split(" ", 1)
+        t.has(ran.stderr.decode(), f"desk: {name} could not be built:\n{'not proved' if how == 'fails' else ''}")
+    wanted = "an earlier one\n" if fails else "stamp of reg_slow\n"
+    t.same((top / "crates/reg_slow/out/rlib/stamp").read_text(), wanted, "the library")
+
+
 @test(seconds=4)
 def a_changed_source_or_toolchain_is_built_anew(t):
     it = Repository(t)
