@@ -88,6 +88,7 @@ fn run<M: Machine, R: Source, W: Sink>(
             file: None,
             signer: Some(_),
         } => Err(Failure::BadSigner),
+        // A script with `--clock` or `--strict`.
         Job::Lines(line_script) => script_by_lines(
             alloc,
             machine,
@@ -150,7 +151,7 @@ fn keep_policy_cause<M: Machine>(machine: &M, job: &Job<'_>, ending: &Result<(),
     }
 }
 
-/// The option that is out of its range; or, for `schedule`, that the steps are no schedule.
+/// The cause of `BadPolicy`: the option of `init` that is out of its range, or the invalid steps of `schedule`.
 fn wrong_terms(job: &Job<'_>) -> Option<Cause> {
     match job {
         Job::Init(new) => policy_cause_of(new.days, new.crl_life, new.ocsp_life, new.cap),

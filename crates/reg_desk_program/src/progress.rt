@@ -75,6 +75,7 @@ impl<'a> Write for CountedOutput<'a> {
                 return Err(error);
             }
         };
+        // Each reply is one write. If the output takes only a part of it, the rest is another write, and counts again.
         if self.shows_progress && buf.ends_with(b"\n") {
             self.count();
         }
