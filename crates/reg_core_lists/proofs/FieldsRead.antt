@@ -1,5 +1,5 @@
 -- Fields and lines that were written are read.
-use Rattle.std.proofs.Common.{◌≡◌, ℕ, ◌+◌, ◌<◌, ◌≤◌, ◌^◌, true, ◌==◌, List, [], ◌∷◌, ◌++◌, length, drop, Some, append_assoc, lit<, lit≤, refl, arith}
+use Rattle.std.proofs.Common.{◌≡◌, ℕ, ◌+◌, ◌<◌, ◌≤◌, ◌^◌, true, ◌==◌, List, [], ◌∷◌, ◌++◌, length, drop, Option, Some, append_assoc, lit<, lit≤, refl, arith}
 use Rattle.std.specs.Prelude.{decimal, flat_map, nat_le, nat_lt}
 use Rattle.std.specs.List.{AllByRecursion, list_all, position_or_len}
 use Rattle.std.specs.Str.Parse.{AllDigits}
@@ -20,7 +20,7 @@ use Rattle.reg_core.specs.declared.grounds.Ground.{Ground}
 use Rattle.reg_core.specs.declared.grounds.Ground.TheVariants.{Asked, Unauthorized, KeyCompromise, ControlLost, Affiliation, Superseded, Cessation, Misuse, NameNotPermitted, Nonconforming, Inaccurate}
 use Rattle.reg_core.proofs.PublicLaws.{label_of-is, moment_of-text, numbers_are_read, serials_are_read, written_numbers_are_read, written_serials_are_read}
 use Rattle.reg_core_lists.specs.FeedLines.{feed_line, field_text}
-use Rattle.reg_core_lists.specs.FeedReading.{after_prefix, field_read, ground_of, line_read, allowed_name_of, octet_of}
+use Rattle.reg_core_lists.specs.FeedReading.{after_prefix, allowed_name_of, field_read, ground_of, line_read, octet_of, row_read, value_read}
 use Rattle.reg_core_lists.specs.Fields.{ground_name, plain_text}
 use Rattle.reg_core_lists.specs.declared.fields.Cell.{Cell}
 use Rattle.reg_core_lists.specs.declared.fields.Cell.TheVariants.{Number, Serial, At, Text}
@@ -101,10 +101,23 @@ pub written_line : (word : List ℕ) (cells : List Cell) (more : List ℕ) → H
 unfolding feed_line
 written_line word cells more all = line_found word (flat_map field_text cells) more (fields_in_line cells all)
 
--- the first field of a line that was written
-pub written_field : (cell : Cell) (cells : List Cell) → IsField (plain_text cell)
-    → field_read (flat_map field_text (cell ∷ cells)) ≡ Some (plain_text cell, flat_map field_text cells)
-written_field cell cells is = field_found (plain_text cell) (flat_map field_text cells) is (ends_field cells)
+-- the text of a cell can be a field, and has this value
+pub record Says (cell : Cell) {A : Type 0} (value : List ℕ → Option A) (it : A) : Type 0 where
+  pub bytes : IsField (plain_text cell)
+  pub reads : value (plain_text cell) ≡ Some it
+
+-- the first value of a line that was written
+pub written_value : {A : Type 0} {cell : Cell} {value : List ℕ → Option A} {it : A} → Says cell value it → (cells : List Cell)
+    → value_read value (flat_map field_text (cell ∷ cells)) ≡ Some (it, flat_map field_text cells)
+unfolding value_read
+written_value {cell = cell} is cells =
+    rw (field_found (plain_text cell) (flat_map field_text cells) is.bytes (ends_field cells), is.reads) refl
+
+-- the row of a line that was written
+pub written_row : {A : Type 0} (word : List ℕ) (row : List ℕ → Option A) (it : A) (cells : List Cell) (more : List ℕ) → HasFields cells
+    → row (flat_map field_text cells) ≡ Some it → row_read word row (feed_line word cells ++ more) ≡ Some (it, more)
+unfolding row_read
+written_row word row it cells more all is = rw (written_line word cells more all, is) refl
 
 -- ---- the values of fields
 
@@ -122,20 +135,23 @@ digits_number n small = digits_from 10 (decimal n) (lit≤ tt) (written_numbers_
 pub number_read : (n : ℕ) → n < 10 ^ 18 → number_of (decimal n) ≡ Some n
 number_read n small = (numbers_are_read (decimal n) n).1 (written_numbers_are_read n small)
 
-pub number_field : (n : ℕ) → n < 10 ^ 18 → IsField (plain_text (Number n)) × (number_of (plain_text (Number n)) ≡ Some n)
+pub number_field : (n : ℕ) → n < 10 ^ 18 → Says (Number n) number_of n
 unfolding plain_text
-number_field n small = (weaker (decimal n) (digits_number n small), number_read n small)
+number_field n small = record { bytes = weaker (decimal n) (digits_number n small); reads = number_read n small }
 
-pub octet_field : (n : ℕ) → n < 256 → IsField (plain_text (Number n)) × (octet_of (plain_text (Number n)) ≡ Some n)
+pub octet_field : (n : ℕ) → n < 256 → Says (Number n) octet_of n
 octet_field n small =
     let as_number = number_field n (omega arith) in
-    (as_number.0, rw (as_number.1, lt-ltb n 256 small) refl)
+    record { bytes = as_number.bytes; reads = rw (as_number.reads, lt-ltb n 256 small) refl }
 
-pub serial_field : (n : ℕ) → IsSerial n → IsField (plain_text (Serial n)) × (serial_of (plain_text (Serial n)) ≡ Some n)
+pub serial_field : (n : ℕ) → IsSerial n → Says (Serial n) serial_of n
 unfolding plain_text
 serial_field n is =
     let text = written_serials_are_read n is in
-    (weaker (serial_text n) (digits_from 16 (serial_text n) (lit≤ tt) text.digits), (serials_are_read (serial_text n) n).1 text)
+    record {
+      bytes = weaker (serial_text n) (digits_from 16 (serial_text n) (lit≤ tt) text.digits);
+      reads = (serials_are_read (serial_text n) n).1 text;
+    }
 
 from_zero : (n : ℕ) → nat_le 45 (48 + n) ≡ true
 from_zero n = le-leb 45 (48 + n) (omega arith)
@@ -148,32 +164,31 @@ pub moment_length : (m : ℕ) → length (moment_text m) ≡ 20
 unfolding moment_text date_time
 moment_length m = refl
 
-pub moment_field : (m : ℕ) → IsMoment m → IsField (plain_text (At m)) × (moment_of (plain_text (At m)) ≡ Some m)
+pub moment_field : (m : ℕ) → IsMoment m → Says (At m) moment_of m
 unfolding plain_text
-moment_field m is = (moment_bytes m, moment_of-text m is)
+moment_field m is = record { bytes = moment_bytes m; reads = moment_of-text m is }
 
 name_bytes : (text : List ℕ) → is_name text ≡ true → IsField text
 name_bytes [] is = refl
 name_bytes (byte ∷ rest) is = grind (arith, nat_tests, name_bytes rest)
 
-pub name_field : (text : List ℕ) → IsLabel text → is_name text ≡ true → IsField (plain_text (Text text)) × (allowed_name_of (plain_text
-    (Text text)) ≡ Some text)
+pub name_field : (text : List ℕ) → IsLabel text → is_name text ≡ true → Says (Text text) allowed_name_of text
 unfolding plain_text
-name_field text label is = (name_bytes text is, rw (label_of-is text label, is) refl)
+name_field text label is = record { bytes = name_bytes text is; reads = rw (label_of-is text label, is) refl }
 
-pub ground_field : (it : Ground) → IsField (plain_text (Text (ground_name it))) × (ground_of (plain_text (Text (ground_name it))) ≡ Some it)
+pub ground_field : (it : Ground) → Says (Text (ground_name it)) ground_of it
 unfolding plain_text
-ground_field Asked = (refl, refl)
-ground_field Unauthorized = (refl, refl)
-ground_field KeyCompromise = (refl, refl)
-ground_field ControlLost = (refl, refl)
-ground_field Affiliation = (refl, refl)
-ground_field Superseded = (refl, refl)
-ground_field Cessation = (refl, refl)
-ground_field Misuse = (refl, refl)
-ground_field NameNotPermitted = (refl, refl)
-ground_field Nonconforming = (refl, refl)
-ground_field Inaccurate = (refl, refl)
+ground_field Asked = record { bytes = refl; reads = refl }
+ground_field Unauthorized = record { bytes = refl; reads = refl }
+ground_field KeyCompromise = record { bytes = refl; reads = refl }
+ground_field ControlLost = record { bytes = refl; reads = refl }
+ground_field Affiliation = record { bytes = refl; reads = refl }
+ground_field Superseded = record { bytes = refl; reads = refl }
+ground_field Cessation = record { bytes = refl; reads = refl }
+ground_field Misuse = record { bytes = refl; reads = refl }
+ground_field NameNotPermitted = record { bytes = refl; reads = refl }
+ground_field Nonconforming = record { bytes = refl; reads = refl }
+ground_field Inaccurate = record { bytes = refl; reads = refl }
 
 pub hex_bytes : (bytes : List ℕ) → IsBytes bytes → list_all (nat_le 48) (encode_lower bytes) ≡ true
 hex_bytes bytes are =
@@ -183,7 +198,3 @@ hex_bytes bytes are =
     go : (text : List ℕ) → list_all is_hex_digit text ≡ true → list_all (nat_le 48) text ≡ true
     go [] is = refl
     go (byte ∷ rest) is = grind (arith, nat_tests, go rest)
-
-pub hex_field : (bytes : List ℕ) → IsBytes bytes → IsField (plain_text (Text (encode_lower bytes)))
-unfolding plain_text
-hex_field bytes are = weaker (encode_lower bytes) (hex_bytes bytes are)

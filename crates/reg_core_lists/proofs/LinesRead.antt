@@ -16,12 +16,12 @@ use Rattle.reg_core.specs.declared.rows.CrlRow.{CrlRow}
 use Rattle.reg_core.proofs.PublicLaws.{moment_of-text}
 use Rattle.reg_core_lists.specs.Feed.{crl_part, last_line}
 use Rattle.reg_core_lists.specs.FeedLines.{crl_feed_text, crl_line, feed_line, issuer_line, page_head, policy_line, schedule_line, step_text}
-use Rattle.reg_core_lists.specs.FeedReading.{ReadsItems, certificate_read, crl_line_read, declined_read, field_read, head_read, is_other_version, issuer_read, last_line_read, line_read, order_read, policy_read, positions_in_line, request_read, revocation_read, step_read, subscriber_read, version_read}
+use Rattle.reg_core_lists.specs.FeedReading.{ReadsItems, crl_line_read, field_read, head_read, is_other_version, issuer_read, last_line_read, line_read, policy_read, positions_in_line, step_read, value_read, version_read}
 use Rattle.reg_core_lists.specs.Positions.{counts_read, declines_read, declines_text, number_and_rest, part_text, positions_of_text, positions_text, row_counts_text}
 use Rattle.reg_core_lists.specs.ReceivedPages.{HasNoRow, HeadTerms, IsReadableHead, IsReadableNumber, IsReadablePositions, fields_of_terms, head_terms_text}
 use Rattle.reg_core_lists.specs.declared.fields.Cell.TheVariants.{Number, At}
 use Rattle.reg_core_lists.specs.declared.positions.Positions.{Positions}
-use Rattle.reg_core_lists.proofs.FieldsRead.{EndsField, IsField, IsLine, digits_number, field_found, field_in_line, first_at, hex_bytes, joined, line_found, moment_bytes, moment_field, moment_length, number_field, number_read, weaker, written_field, written_line}
+use Rattle.reg_core_lists.proofs.FieldsRead.{EndsField, IsField, IsLine, digits_number, field_found, field_in_line, first_at, hex_bytes, joined, line_found, moment_bytes, moment_field, moment_length, number_field, number_read, weaker, written_line, written_value}
 
 -- ---- positions
 
@@ -139,14 +139,12 @@ crl_line_found row octets more number_ok moment_ok octets_ok =
     let number = number_field row.number number_ok in
     let moment = moment_field row.this_update moment_ok in
     let count = number_field octets octets_ok in
+    let last = Number octets ∷ [] in
     rw (
-      written_line (codes "crl") (Number row.number ∷ At row.this_update ∷ Number octets ∷ []) more (number.0, (moment.0, (count.0, tt))),
-      written_field (Number row.number) (At row.this_update ∷ Number octets ∷ []) number.0,
-      written_field (At row.this_update) (Number octets ∷ []) moment.0,
-      written_field (Number octets) [] count.0,
-      number.1,
-      moment.1,
-      count.1,
+      written_line (codes "crl") (Number row.number ∷ At row.this_update ∷ last) more (number.bytes, (moment.bytes, (count.bytes, tt))),
+      written_value number (At row.this_update ∷ last),
+      written_value moment last,
+      written_value count [],
     ) refl
 
 pub no_crl : (ends : Bool) (positions : Positions) → crl_line_read (last_line ends positions) ≡ None
@@ -156,13 +154,10 @@ no_crl false positions = refl
 
 -- neither a CRL nor the last line is a row
 pub no_row : (crl : Option Crl) (ends : Bool) (positions : Positions) → HasNoRow (crl_part crl ++ last_line ends positions)
-unfolding subscriber_read order_read certificate_read request_read declined_read revocation_read line_read last_line crl_feed_text feed_line
-no_row (Some crl) ends positions =
-    record { subscribers = refl; orders = refl; certificates = refl; requests = refl; declined = refl; revocations = refl }
-no_row None true positions =
-    record { subscribers = refl; orders = refl; certificates = refl; requests = refl; declined = refl; revocations = refl }
-no_row None false positions =
-    record { subscribers = refl; orders = refl; certificates = refl; requests = refl; declined = refl; revocations = refl }
+unfolding line_read last_line crl_feed_text feed_line
+no_row (Some crl) ends positions = (refl, (refl, (refl, (refl, (refl, (refl, tt))))))
+no_row None true positions = (refl, (refl, (refl, (refl, (refl, (refl, tt))))))
+no_row None false positions = (refl, (refl, (refl, (refl, (refl, (refl, tt))))))
 
 -- ---- the head
 
@@ -235,14 +230,12 @@ policy_found policy more is =
     let crl = number_field policy.crl_life (omega arith) in
     let ocsp = number_field policy.ocsp_life (omega arith) in
     let cap = number_field policy.cap (omega arith) in
+    let last = Number policy.cap ∷ [] in
     rw (
-      written_line (codes "policy") (Number policy.crl_life ∷ Number policy.ocsp_life ∷ Number policy.cap ∷ []) more (crl.0, (ocsp.0, (cap.0, tt))),
-      written_field (Number policy.crl_life) (Number policy.ocsp_life ∷ Number policy.cap ∷ []) crl.0,
-      written_field (Number policy.ocsp_life) (Number policy.cap ∷ []) ocsp.0,
-      written_field (Number policy.cap) [] cap.0,
-      crl.1,
-      ocsp.1,
-      cap.1,
+      written_line (codes "policy") (Number policy.crl_life ∷ Number policy.ocsp_life ∷ last) more (crl.bytes, (ocsp.bytes, (cap.bytes, tt))),
+      written_value crl (Number policy.ocsp_life ∷ last),
+      written_value ocsp last,
+      written_value cap [],
     ) refl
 
 schedule_found : (steps : List (ℕ × ℕ)) (more : List ℕ) → AllByRecursion HasDays steps
@@ -264,9 +257,8 @@ head_found head rest ok =
       issuer_found head.name head.key t1 ok.name ok.key,
       policy_found head.policy t2 policy,
       schedule_found head.policy.schedule t3 policy.schedule.days,
-      written_line (codes "last") (At head.last ∷ []) rest (last.0, tt),
-      written_field (At head.last) [] last.0,
-      last.1,
+      written_line (codes "last") (At head.last ∷ []) rest (last.bytes, tt),
+      written_value last [],
     ) refl
 
 pub head_steps : (head : HeadTerms) → IsReadableHead head
@@ -275,12 +267,8 @@ head_steps head ok = steps_found head.policy.schedule ok.moments ok.policy.sched
 
 -- ---- the version
 
-one_field : field_read (32 ∷ 49 ∷ []) ≡ Some (49 ∷ [], [])
-unfolding field_read
-one_field = refl
-
-one : number_of (49 ∷ []) ≡ Some 1
-unfolding number_of
+one : value_read number_of (32 ∷ 49 ∷ []) ≡ Some (1, [])
+unfolding value_read field_read number_of
 one = refl
 
 pub this_version : (head : HeadTerms) (rest : List ℕ) → is_other_version (head_terms_text head ++ rest) ≡ false
@@ -289,4 +277,4 @@ this_version head rest =
     let t1 = issuer_line head.name head.key ++ policy_line head.policy ++ schedule_line head.policy.schedule ++ feed_line (codes "last")
     (At head.last ∷ []) ++ rest in
     let regrouped : head_terms_text head ++ rest ≡ codes "changes 1\n" ++ t1 = simp append_assoc in
-    ap is_other_version regrouped ∙ rw (line_found (codes "changes") (32 ∷ 49 ∷ []) t1 refl, one_field, one) refl
+    ap is_other_version regrouped ∙ rw (line_found (codes "changes") (32 ∷ 49 ∷ []) t1 refl, one) refl

@@ -9,11 +9,11 @@ use Rattle.reg_core.specs.declared.rows.RequestRow.{RequestRow}
 use Rattle.reg_core.specs.declared.rows.RevocationRow.{RevocationRow}
 use Rattle.reg_core_lists.specs.Feed.{RowLists, feed_rows_text}
 use Rattle.reg_core_lists.specs.FeedLines.{certificate_line, declined_line, feed_line, order_line, request_line, revocation_line, subscriber_line}
-use Rattle.reg_core_lists.specs.FeedReading.{ReadsFirst, ReadsItems, certificate_read, declined_read, line_read, order_read, request_read, revocation_read, subscriber_read}
+use Rattle.reg_core_lists.specs.FeedReading.{HasNoneOf, ReadsFirst, ReadsItems, certificate_row_of, declined_id_of, line_read, order_row_of, request_row_of, revocation_row_of, row_read, subscriber_row_of}
 use Rattle.reg_core_lists.specs.Fields.{ground_name}
 use Rattle.reg_core_lists.specs.ReceivedPages.{HasNoRow, IsReadableCertificate, IsReadableNumber, IsReadableOrder, IsReadableRequest, IsReadableRevocation, IsReadableRows, IsReadableSubscriber, ReadsRows}
 use Rattle.reg_core_lists.specs.declared.fields.Cell.TheVariants.{Number, Serial, At, Text}
-use Rattle.reg_core_lists.proofs.FieldsRead.{ground_field, moment_field, name_field, number_field, octet_field, serial_field, written_field, written_line}
+use Rattle.reg_core_lists.proofs.FieldsRead.{ground_field, moment_field, name_field, number_field, octet_field, serial_field, written_row, written_value}
 
 -- ---- one item after the other
 
@@ -43,150 +43,120 @@ module _ {A : Type 0} (read : List ℕ → Option (A × List ℕ)) where
       let more = same_items xs ys left.reads.0 a b left_rest right_rest in
       (λ i. item i ∷ more.0 i, more.1)
 
-  module _ (line : A → List ℕ) where
-    -- the item of a line is read, whatever follows
-    abbrev pub IsRead : A → Type 0
-    IsRead item = (more : List ℕ) → read (line item ++ more) ≡ Some (item, more)
-
-    pub lines_read : (items : List A) (rest : List ℕ) → AllByRecursion IsRead items → read rest ≡ None
-        → ReadsItems read items (flat_map line items ++ rest) rest
-    lines_read [] rest all none = record { reads = refl; ends = none }
-    lines_read (item ∷ items) rest all none =
-        let others = lines_read items rest all.1 none in
-        let first : read ((line item ++ flat_map line items) ++ rest) ≡ Some (item, flat_map line items ++ rest) =
-        ap read (append_assoc (line item) (flat_map line items) rest) ∙ all.0 (flat_map line items ++ rest) in
-        record { reads = (flat_map line items ++ rest, first, others.reads); ends = others.ends }
-
-    -- lines of this kind, and what follows them, have no item of another kind
-    pub none_over : {B : Type 0} (other : List ℕ → Option (B × List ℕ)) → ((item : A) (more : List ℕ) → other (line item ++ more) ≡ None)
-        → (items : List A) (rest : List ℕ) → other rest ≡ None → other (flat_map line items ++ rest) ≡ None
-    none_over other skips [] rest none = none
-    none_over other skips (item ∷ items) rest none =
-        ap other (append_assoc (line item) (flat_map line items) rest) ∙ skips item (flat_map line items ++ rest)
-
-    -- what is read of lines is what they were written of
-    pub same_lines : (wanted got : List A) (text rest after : List ℕ) → AllByRecursion IsRead wanted → read rest ≡ None
-        → text ≡ flat_map line wanted ++ rest → ReadsItems read got text after → (got ≡ wanted) × (after ≡ rest)
-    same_lines wanted got text rest after all none is reads =
-        same_items got wanted text after rest reads (subst (λ t. ReadsItems read wanted t rest) (sym is) (lines_read wanted rest all none))
-
-all_of : {A : Type 0} (P Q : A → Type 0) → ((a : A) → P a → Q a) → (xs : List A) → AllByRecursion P xs → AllByRecursion Q xs
-all_of P Q step [] all = tt
-all_of P Q step (x ∷ xs) all = (step x all.0, all_of P Q step xs all.1)
+  -- lines of items that are read, whatever follows
+  pub lines_read : (line : A → List ℕ) (P : A → Type 0) → ((item : A) → P item → (more : List ℕ) → read (line item ++ more) ≡ Some (item, more))
+      → (items : List A) (rest : List ℕ) → AllByRecursion P items → read rest ≡ None
+      → ReadsItems read items (flat_map line items ++ rest) rest
+  lines_read line P found [] rest all none = record { reads = refl; ends = none }
+  lines_read line P found (item ∷ items) rest all none =
+      let others = lines_read line P found items rest all.1 none in
+      let first : read ((line item ++ flat_map line items) ++ rest) ≡ Some (item, flat_map line items ++ rest) =
+      ap read (append_assoc (line item) (flat_map line items) rest) ∙ found item all.0 (flat_map line items ++ rest) in
+      record { reads = (flat_map line items ++ rest, first, others.reads); ends = others.ends }
 
 -- ---- the row of each line
 
 pub subscriber_found : (row : SubscriberRow) → IsReadableSubscriber row → (more : List ℕ)
-    → subscriber_read (subscriber_line row ++ more) ≡ Some (row, more)
-unfolding subscriber_read
+    → row_read (codes "subscriber") subscriber_row_of (subscriber_line row ++ more) ≡ Some (row, more)
+unfolding subscriber_row_of
 subscriber_found row ok more =
     let id = number_field row.id ok.id in
     let name = name_field row.name ok.label ok.name in
-    rw (
-      written_line (codes "subscriber") (Number row.id ∷ Text row.name ∷ []) more (id.0, (name.0, tt)),
-      written_field (Number row.id) (Text row.name ∷ []) id.0,
-      written_field (Text row.name) [] name.0,
-      id.1,
-      name.1,
-    ) refl
+    written_row (codes "subscriber") subscriber_row_of row _ more (id.bytes, (name.bytes, tt))
+    (rw (written_value id (Text row.name ∷ []), written_value name []) refl)
 
-pub order_found : (row : OrderRow) → IsReadableOrder row → (more : List ℕ) → order_read (order_line row ++ more) ≡ Some (row, more)
-unfolding order_read
+pub order_found : (row : OrderRow) → IsReadableOrder row → (more : List ℕ)
+    → row_read (codes "order") order_row_of (order_line row ++ more) ≡ Some (row, more)
+unfolding order_row_of
 order_found row ok more =
     let id = number_field row.id ok.id in
     let subscriber = number_field row.subscriber ok.subscriber in
     let days = number_field row.days ok.days in
-    rw (
-      written_line (codes "order") (Number row.id ∷ Number row.subscriber ∷ Number row.days ∷ []) more (id.0, (subscriber.0, (days.0, tt))),
-      written_field (Number row.id) (Number row.subscriber ∷ Number row.days ∷ []) id.0,
-      written_field (Number row.subscriber) (Number row.days ∷ []) subscriber.0,
-      written_field (Number row.days) [] days.0,
-      id.1,
-      subscriber.1,
-      days.1,
-    ) refl
+    let last = Number row.days ∷ [] in
+    written_row (codes "order") order_row_of row _ more (id.bytes, (subscriber.bytes, (days.bytes, tt)))
+    (rw (written_value id (Number row.subscriber ∷ last), written_value subscriber last, written_value days []) refl)
 
 pub certificate_found : (row : CertRow) → IsReadableCertificate row → (more : List ℕ)
-    → certificate_read (certificate_line row ++ more) ≡ Some (row, more)
-unfolding certificate_read
+    → row_read (codes "certificate") certificate_row_of (certificate_line row ++ more) ≡ Some (row, more)
+unfolding certificate_row_of
 certificate_found row ok more =
     let serial = serial_field row.serial ok.serial in
     let order = number_field row.order ok.order in
     let from = moment_field row.not_before ok.not_before in
     let to = moment_field row.not_after ok.not_after in
-    rw (
-      written_line (codes "certificate") (Serial row.serial ∷ Number row.order ∷ At row.not_before ∷ At row.not_after ∷ []) more
-          (serial.0, (order.0, (from.0, (to.0, tt)))),
-      written_field (Serial row.serial) (Number row.order ∷ At row.not_before ∷ At row.not_after ∷ []) serial.0,
-      written_field (Number row.order) (At row.not_before ∷ At row.not_after ∷ []) order.0,
-      written_field (At row.not_before) (At row.not_after ∷ []) from.0,
-      written_field (At row.not_after) [] to.0,
-      serial.1,
-      order.1,
-      from.1,
-      to.1,
-    ) refl
+    let last = At row.not_after ∷ [] in
+    let moments = At row.not_before ∷ last in
+    written_row (codes "certificate") certificate_row_of row _ more (serial.bytes, (order.bytes, (from.bytes, (to.bytes, tt))))
+    (rw (written_value serial (Number row.order ∷ moments), written_value order moments, written_value from last, written_value to []) refl)
 
-pub request_found : (row : RequestRow) → IsReadableRequest row → (more : List ℕ) → request_read (request_line row ++ more) ≡ Some (row, more)
-unfolding request_read
+pub request_found : (row : RequestRow) → IsReadableRequest row → (more : List ℕ)
+    → row_read (codes "request") request_row_of (request_line row ++ more) ≡ Some (row, more)
+unfolding request_row_of
 request_found row ok more =
     let id = number_field row.id ok.id in
     let serial = serial_field row.serial ok.serial in
     let named = ground_field row.ground in
     let received = moment_field row.received ok.received in
-    rw (
-      written_line (codes "request") (Number row.id ∷ Serial row.serial ∷ Text (ground_name row.ground) ∷ At row.received ∷ []) more
-          (id.0, (serial.0, (named.0, (received.0, tt)))),
-      written_field (Number row.id) (Serial row.serial ∷ Text (ground_name row.ground) ∷ At row.received ∷ []) id.0,
-      written_field (Serial row.serial) (Text (ground_name row.ground) ∷ At row.received ∷ []) serial.0,
-      written_field (Text (ground_name row.ground)) (At row.received ∷ []) named.0,
-      written_field (At row.received) [] received.0,
-      id.1,
-      serial.1,
-      named.1,
-      received.1,
-    ) (ap (λ declined. Some (record row { declined = declined }, more)) (sym ok.declined))
+    let last = At row.received ∷ [] in
+    let others = Text (ground_name row.ground) ∷ last in
+    written_row (codes "request") request_row_of row _ more (id.bytes, (serial.bytes, (named.bytes, (received.bytes, tt))))
+    (rw (written_value id (Serial row.serial ∷ others), written_value serial others, written_value named last, written_value received [])
+    (ap (λ declined. Some (record row { declined = declined })) (sym ok.declined)))
 
-pub declined_found : (id : ℕ) → IsReadableNumber id → (more : List ℕ) → declined_read (declined_line id ++ more) ≡ Some (id, more)
-unfolding declined_read
+pub declined_found : (id : ℕ) → IsReadableNumber id → (more : List ℕ)
+    → row_read (codes "declined") declined_id_of (declined_line id ++ more) ≡ Some (id, more)
+unfolding declined_id_of
 declined_found id ok more =
     let number = number_field id ok in
-    rw (
-      written_line (codes "declined") (Number id ∷ []) more (number.0, tt),
-      written_field (Number id) [] number.0,
-      number.1,
-    ) refl
+    written_row (codes "declined") declined_id_of id _ more (number.bytes, tt) (rw (written_value number []) refl)
 
 pub revocation_found : (row : RevocationRow) → IsReadableRevocation row → (more : List ℕ)
-    → revocation_read (revocation_line row ++ more) ≡ Some (row, more)
-unfolding revocation_read
+    → row_read (codes "revocation") revocation_row_of (revocation_line row ++ more) ≡ Some (row, more)
+unfolding revocation_row_of
 revocation_found row ok more =
     let serial = serial_field row.serial ok.serial in
     let at = moment_field row.at ok.at in
     let reason = octet_field row.reason ok.reason in
     let request = number_field row.request ok.request in
     let first = number_field row.first ok.first in
-    rw (
-      written_line (codes "revocation") (Serial row.serial ∷ At row.at ∷ Number row.reason ∷ Number row.request ∷ Number row.first ∷ []) more
-          (serial.0, (at.0, (reason.0, (request.0, (first.0, tt))))),
-      written_field (Serial row.serial) (At row.at ∷ Number row.reason ∷ Number row.request ∷ Number row.first ∷ []) serial.0,
-      written_field (At row.at) (Number row.reason ∷ Number row.request ∷ Number row.first ∷ []) at.0,
-      written_field (Number row.reason) (Number row.request ∷ Number row.first ∷ []) reason.0,
-      written_field (Number row.request) (Number row.first ∷ []) request.0,
-      written_field (Number row.first) [] first.0,
-      serial.1,
-      at.1,
-      reason.1,
-      request.1,
-      first.1,
-    ) refl
+    let last = Number row.first ∷ [] in
+    let numbers = Number row.request ∷ last in
+    let others = Number row.reason ∷ numbers in
+    written_row (codes "revocation") revocation_row_of row _ more (serial.bytes, (at.bytes, (reason.bytes, (request.bytes, (first.bytes, tt)))))
+    (rw (
+      written_value serial (At row.at ∷ others),
+      written_value at others,
+      written_value reason numbers,
+      written_value request last,
+      written_value first [],
+    ) refl)
 
 -- ---- the tables
+
+-- lines that none of the words begins, and what follows them
+none_over : {A : Type 0} (line : A → List ℕ) (words : List (List ℕ)) → ((item : A) (more : List ℕ) → HasNoneOf words (line item ++ more))
+    → (items : List A) (rest : List ℕ) → HasNoneOf words rest → HasNoneOf words (flat_map line items ++ rest)
+none_over line words skips [] rest none = none
+none_over line words skips (item ∷ items) rest none =
+    subst (HasNoneOf words) (sym (append_assoc (line item) (flat_map line items) rest)) (skips item (flat_map line items ++ rest))
+
+no_row_of : {A : Type 0} (word : List ℕ) (row : List ℕ → Option A) (text : List ℕ) → line_read word text ≡ None → row_read word row text ≡ None
+unfolding row_read
+no_row_of word row text is = rw is refl
+
+-- what is read of a table's lines is what they were written of
+same_table : {A : Type 0} {P : A → Type 0} (word : List ℕ) (row : List ℕ → Option A) (line : A → List ℕ)
+    → ((it : A) → P it → (more : List ℕ) → row_read word row (line it ++ more) ≡ Some (it, more)) → (wanted got : List A) (text rest after : List ℕ)
+    → AllByRecursion P wanted → line_read word rest ≡ None → text ≡ flat_map line wanted ++ rest → ReadsItems (row_read word row) got text after
+    → (got ≡ wanted) × (after ≡ rest)
+same_table {P = P} word row line found wanted got text rest after all none is reads =
+    let written = lines_read (row_read word row) line P found wanted rest all (no_row_of word row rest none) in
+    same_items (row_read word row) got wanted text after rest reads (subst (λ t. ReadsItems (row_read word row) wanted t rest) (sym is) written)
 
 -- the rows that are read are those that were written, and no other table's
 pub same_rows : (wanted got : RowLists) (text rest : List ℕ) → IsReadableRows wanted → HasNoRow rest → text ≡ feed_rows_text wanted ++ rest
     → ReadsRows got text → got ≡ wanted
-unfolding feed_rows_text subscriber_read order_read certificate_read request_read declined_read revocation_read line_read feed_line
+unfolding feed_rows_text line_read feed_line
 same_rows wanted got text rest ok none is reads =
     let t5 = flat_map revocation_line wanted.revocations ++ rest in
     let t4 = flat_map declined_line wanted.declined ++ t5 in
@@ -194,37 +164,24 @@ same_rows wanted got text rest ok none is reads =
     let t2 = flat_map certificate_line wanted.certificates ++ t3 in
     let t1 = flat_map order_line wanted.orders ++ t2 in
     let whole : text ≡ flat_map subscriber_line wanted.subscribers ++ t1 = is ∙ simp append_assoc in
-    let d5 : declined_read t5 ≡ None =
-    none_over revocation_read revocation_line declined_read (λ row more. refl) wanted.revocations rest none.declined in
-    let r5 : request_read t5 ≡ None =
-    none_over revocation_read revocation_line request_read (λ row more. refl) wanted.revocations rest none.requests in
-    let c5 : certificate_read t5 ≡ None =
-    none_over revocation_read revocation_line certificate_read (λ row more. refl) wanted.revocations rest none.certificates in
-    let o5 : order_read t5 ≡ None = none_over revocation_read revocation_line order_read (λ row more. refl) wanted.revocations rest none.orders in
-    let s5 : subscriber_read t5 ≡ None =
-    none_over revocation_read revocation_line subscriber_read (λ row more. refl) wanted.revocations rest none.subscribers in
-    let r4 : request_read t4 ≡ None = none_over declined_read declined_line request_read (λ row more. refl) wanted.declined t5 r5 in
-    let c4 : certificate_read t4 ≡ None = none_over declined_read declined_line certificate_read (λ row more. refl) wanted.declined t5 c5 in
-    let o4 : order_read t4 ≡ None = none_over declined_read declined_line order_read (λ row more. refl) wanted.declined t5 o5 in
-    let s4 : subscriber_read t4 ≡ None = none_over declined_read declined_line subscriber_read (λ row more. refl) wanted.declined t5 s5 in
-    let c3 : certificate_read t3 ≡ None = none_over request_read request_line certificate_read (λ row more. refl) wanted.requests t4 c4 in
-    let o3 : order_read t3 ≡ None = none_over request_read request_line order_read (λ row more. refl) wanted.requests t4 o4 in
-    let s3 : subscriber_read t3 ≡ None = none_over request_read request_line subscriber_read (λ row more. refl) wanted.requests t4 s4 in
-    let o2 : order_read t2 ≡ None = none_over certificate_read certificate_line order_read (λ row more. refl) wanted.certificates t3 o3 in
-    let s2 : subscriber_read t2 ≡ None = none_over certificate_read certificate_line subscriber_read (λ row more. refl) wanted.certificates t3 s3 in
-    let s1 : subscriber_read t1 ≡ None = none_over order_read order_line subscriber_read (λ row more. refl) wanted.orders t2 s2 in
-    let a = same_lines subscriber_read subscriber_line wanted.subscribers got.subscribers text t1 reads.after_subscribers
-    (all_of _ _ subscriber_found wanted.subscribers ok.subscribers) s1 whole reads.subscribers in
-    let b = same_lines order_read order_line wanted.orders got.orders reads.after_subscribers t2 reads.after_orders
-    (all_of _ _ order_found wanted.orders ok.orders) o2 a.1 reads.orders in
-    let c = same_lines certificate_read certificate_line wanted.certificates got.certificates reads.after_orders t3 reads.after_certificates
-    (all_of _ _ certificate_found wanted.certificates ok.certificates) c3 b.1 reads.certificates in
-    let d = same_lines request_read request_line wanted.requests got.requests reads.after_certificates t4 reads.after_requests
-    (all_of _ _ request_found wanted.requests ok.requests) r4 c.1 reads.requests in
-    let e = same_lines declined_read declined_line wanted.declined got.declined reads.after_requests t5 reads.after_declined
-    (all_of _ _ declined_found wanted.declined ok.declined) d5 d.1 reads.declined in
-    let f = same_lines revocation_read revocation_line wanted.revocations got.revocations reads.after_declined rest reads.rest
-    (all_of _ _ revocation_found wanted.revocations ok.revocations) none.revocations e.1 reads.revocations in
+    let words1 = codes "subscriber" ∷ [] in
+    let words2 = codes "order" ∷ words1 in
+    let words3 = codes "certificate" ∷ words2 in
+    let words4 = codes "request" ∷ words3 in
+    let words5 = codes "declined" ∷ words4 in
+    let none5 = none_over revocation_line words5 (λ row more. (refl, (refl, (refl, (refl, (refl, tt)))))) wanted.revocations rest none.1 in
+    let none4 = none_over declined_line words4 (λ row more. (refl, (refl, (refl, (refl, tt))))) wanted.declined t5 none5.1 in
+    let none3 = none_over request_line words3 (λ row more. (refl, (refl, (refl, tt)))) wanted.requests t4 none4.1 in
+    let none2 = none_over certificate_line words2 (λ row more. (refl, (refl, tt))) wanted.certificates t3 none3.1 in
+    let none1 = none_over order_line words1 (λ row more. (refl, tt)) wanted.orders t2 none2.1 in
+    let a =
+    same_table _ _ subscriber_line subscriber_found wanted.subscribers got.subscribers _ t1 _ ok.subscribers none1.0 whole reads.subscribers in
+    let b = same_table _ _ order_line order_found wanted.orders got.orders _ t2 _ ok.orders none2.0 a.1 reads.orders in
+    let c =
+    same_table _ _ certificate_line certificate_found wanted.certificates got.certificates _ t3 _ ok.certificates none3.0 b.1 reads.certificates in
+    let d = same_table _ _ request_line request_found wanted.requests got.requests _ t4 _ ok.requests none4.0 c.1 reads.requests in
+    let e = same_table _ _ declined_line declined_found wanted.declined got.declined _ t5 _ ok.declined none5.0 d.1 reads.declined in
+    let f = same_table _ _ revocation_line revocation_found wanted.revocations got.revocations _ rest _ ok.revocations none.0 e.1 reads.revocations in
     λ i. record {
       subscribers = a.0 i;
       orders = b.0 i;

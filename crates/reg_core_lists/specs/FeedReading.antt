@@ -1,7 +1,7 @@
 -- The lines of a page of the changes feed and their fields, as functions that read them. They read more texts than the feed has, such as numbers with
 -- leading zeros. (10 is the code of LF, 32 of a space.)
 use Rattle.std.specs.Prelude.{ℕ, ◌+◌, Bool, true, false, not, ◌==◌, List, [], ◌∷◌, length, take, drop, cond, codes, bytes_eq, nat_le, nat_lt, ◌≡◌, Option, Some, None, option_map}
-use Rattle.std.specs.List.{position, position_or_len}
+use Rattle.std.specs.List.{AllByRecursion, position, position_or_len}
 use Rattle.std.specs.Option.{option_or}
 use Rattle.std.specs.Result.{result_ok}
 use Rattle.reg_core.specs.Calendar.{moment_of}
@@ -51,6 +51,13 @@ field_read text =
       drop (position_or_len (λ byte. byte == 32) rest) rest,
     )
 
+-- the value of the first field, and the other fields
+unfoldable pub value_read : {A : Type 0} → (List ℕ → Option A) → List ℕ → Option (A × List ℕ)
+value_read value text = do
+  field ← field_read text
+  it ← value field.0
+  Some (it, field.1)
+
 -- a name, a ground, and a number below 256
 abbrev pub allowed_name_of : List ℕ → Option (List ℕ)
 allowed_name_of text = label_of text >>= λ name. cond (is_name name) (Some name) None
@@ -61,99 +68,63 @@ ground_of text = result_ok (ground text)
 abbrev pub octet_of : List ℕ → Option ℕ
 octet_of text = number_of text >>= λ number. cond (nat_lt number 256) (Some number) None
 
--- ---- rows: the row of the first line, if the line has one of this kind, and the text after the line
+-- ---- rows
 
-unfoldable pub subscriber_read : List ℕ → Option (SubscriberRow × List ℕ)
-subscriber_read text = do
-  line ← line_read (codes "subscriber") text
-  id ← field_read line.0
-  name ← field_read id.1
-  id_value ← number_of id.0
-  name_value ← allowed_name_of name.0
-  Some (record { id = id_value; name = name_value }, line.1)
+-- the row of the first line, if the line begins with this word and its fields have a row, and the text after the line
+unfoldable pub row_read : {A : Type 0} → List ℕ → (List ℕ → Option A) → List ℕ → Option (A × List ℕ)
+row_read word row text = do
+  line ← line_read word text
+  it ← row line.0
+  Some (it, line.1)
 
-unfoldable pub order_read : List ℕ → Option (OrderRow × List ℕ)
-order_read text = do
-  line ← line_read (codes "order") text
-  id ← field_read line.0
-  subscriber ← field_read id.1
-  days ← field_read subscriber.1
-  id_value ← number_of id.0
-  subscriber_value ← number_of subscriber.0
-  days_value ← number_of days.0
-  Some (record { id = id_value; subscriber = subscriber_value; days = days_value }, line.1)
+-- none of the words begins a line at the beginning of the text
+abbrev pub HasNoneOf : List (List ℕ) → List ℕ → Type 0
+HasNoneOf words text = AllByRecursion (λ word. line_read word text ≡ None) words
 
-unfoldable pub certificate_read : List ℕ → Option (CertRow × List ℕ)
-certificate_read text = do
-  line ← line_read (codes "certificate") text
-  serial ← field_read line.0
-  order ← field_read serial.1
-  from ← field_read order.1
-  to ← field_read from.1
-  serial_value ← serial_of serial.0
-  order_value ← number_of order.0
-  from_value ← moment_of from.0
-  to_value ← moment_of to.0
-  Some (
-    record { serial = serial_value; order = order_value; not_before = from_value; not_after = to_value },
-    line.1,
-  )
+-- the row of each kind with these fields
+unfoldable pub subscriber_row_of : List ℕ → Option SubscriberRow
+subscriber_row_of fields = do
+  id ← value_read number_of fields
+  name ← value_read allowed_name_of id.1
+  Some (record { id = id.0; name = name.0 })
+
+unfoldable pub order_row_of : List ℕ → Option OrderRow
+order_row_of fields = do
+  id ← value_read number_of fields
+  subscriber ← value_read number_of id.1
+  days ← value_read number_of subscriber.1
+  Some (record { id = id.0; subscriber = subscriber.0; days = days.0 })
+
+unfoldable pub certificate_row_of : List ℕ → Option CertRow
+certificate_row_of fields = do
+  serial ← value_read serial_of fields
+  order ← value_read number_of serial.1
+  from ← value_read moment_of order.1
+  to ← value_read moment_of from.1
+  Some (record { serial = serial.0; order = order.0; not_before = from.0; not_after = to.0 })
 
 -- the line does not say whether the request is declined
-unfoldable pub request_read : List ℕ → Option (RequestRow × List ℕ)
-request_read text = do
-  line ← line_read (codes "request") text
-  id ← field_read line.0
-  serial ← field_read id.1
-  named ← field_read serial.1
-  received ← field_read named.1
-  id_value ← number_of id.0
-  serial_value ← serial_of serial.0
-  ground_value ← ground_of named.0
-  received_value ← moment_of received.0
-  Some (
-    record {
-      id = id_value;
-      serial = serial_value;
-      ground = ground_value;
-      received = received_value;
-      declined = false;
-    },
-    line.1,
-  )
+unfoldable pub request_row_of : List ℕ → Option RequestRow
+request_row_of fields = do
+  id ← value_read number_of fields
+  serial ← value_read serial_of id.1
+  named ← value_read ground_of serial.1
+  received ← value_read moment_of named.1
+  Some (record { id = id.0; serial = serial.0; ground = named.0; received = received.0; declined = false })
 
-unfoldable pub declined_read : List ℕ → Option (ℕ × List ℕ)
-declined_read text = do
-  line ← line_read (codes "declined") text
-  id ← field_read line.0
-  id_value ← number_of id.0
-  Some (id_value, line.1)
+unfoldable pub declined_id_of : List ℕ → Option ℕ
+declined_id_of fields = do
+  id ← value_read number_of fields
+  Some id.0
 
-abbrev pub revocation_with : List ℕ → List ℕ → List ℕ → List ℕ → List ℕ → Option RevocationRow
-revocation_with serial at reason request first = do
-  serial_value ← serial_of serial
-  at_value ← moment_of at
-  reason_value ← octet_of reason
-  request_value ← number_of request
-  first_value ← number_of first
-  Some (record {
-    serial = serial_value;
-    at = at_value;
-    reason = reason_value;
-    request = request_value;
-    first = first_value;
-  })
-
-unfoldable pub revocation_read : List ℕ → Option (RevocationRow × List ℕ)
-revocation_read text = do
-  line ← line_read (codes "revocation") text
-  serial ← field_read line.0
-  at ← field_read serial.1
-  reason ← field_read at.1
-  request ← field_read reason.1
-  first ← field_read request.1
-  row ← revocation_with serial.0 at.0 reason.0 request.0 first.0
-  Some (row, line.1)
+unfoldable pub revocation_row_of : List ℕ → Option RevocationRow
+revocation_row_of fields = do
+  serial ← value_read serial_of fields
+  at ← value_read moment_of serial.1
+  reason ← value_read octet_of at.1
+  request ← value_read number_of reason.1
+  first ← value_read number_of request.1
+  Some (record { serial = serial.0; at = at.0; reason = reason.0; request = request.0; first = first.0 })
 
 -- ---- the other lines
 
@@ -161,8 +132,8 @@ revocation_read text = do
 unfoldable pub version_read : List ℕ → Option ℕ
 version_read text = do
   line ← line_read (codes "changes") text
-  version ← field_read line.0
-  number_of version.0
+  version ← value_read number_of line.0
+  Some version.0
 
 -- it is not 1
 abbrev pub is_other : Option ℕ → Bool
@@ -176,13 +147,10 @@ is_other_version text = is_other (version_read text)
 unfoldable pub crl_line_read : List ℕ → Option (CrlRow × ℕ)
 crl_line_read text = do
   line ← line_read (codes "crl") text
-  number ← field_read line.0
-  this_update ← field_read number.1
-  octets ← field_read this_update.1
-  number_value ← number_of number.0
-  update_value ← moment_of this_update.0
-  octets_value ← number_of octets.0
-  Some (record { number = number_value; this_update = update_value }, octets_value)
+  number ← value_read number_of line.0
+  this_update ← value_read moment_of number.1
+  octets ← value_read number_of this_update.1
+  Some (record { number = number.0; this_update = this_update.0 }, octets.0)
 
 -- the positions after a word
 unfoldable pub positions_in_line : List ℕ → List ℕ → Option Positions
@@ -233,13 +201,10 @@ issuer_read text = do
 unfoldable pub policy_read : List ℕ → Option (ℕ × ℕ × ℕ × List ℕ)
 policy_read text = do
   line ← line_read (codes "policy") text
-  crl_life ← field_read line.0
-  ocsp_life ← field_read crl_life.1
-  cap ← field_read ocsp_life.1
-  crl_value ← number_of crl_life.0
-  ocsp_value ← number_of ocsp_life.0
-  cap_value ← number_of cap.0
-  Some (crl_value, ocsp_value, cap_value, line.1)
+  crl_life ← value_read number_of line.0
+  ocsp_life ← value_read number_of crl_life.1
+  cap ← value_read number_of ocsp_life.1
+  Some (crl_life.0, ocsp_life.0, cap.0, line.1)
 
 -- the fields of the lines before the rows, of the version that this reader knows
 unfoldable pub head_read : List ℕ → Option HeadFields
@@ -249,8 +214,7 @@ head_read text = do
   policy ← policy_read issuer.2
   steps ← line_read (codes "schedule") policy.3
   line ← line_read (codes "last") steps.1
-  field ← field_read line.0
-  last ← moment_of field.0
+  last ← value_read moment_of line.0
   Some (record {
     name = issuer.0;
     key = issuer.1;
@@ -258,5 +222,5 @@ head_read text = do
     ocsp_life = policy.1;
     cap = policy.2;
     steps = steps.0;
-    last = last;
+    last = last.0;
   })

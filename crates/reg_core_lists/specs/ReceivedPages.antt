@@ -1,5 +1,5 @@
 -- A page of the changes feed as it is received: its text, and which pages can be read.
-use Rattle.std.specs.Prelude.{◌≡◌, ℕ, ◌^◌, ◌<◌, false, List, ◌++◌, flat_map, length, Option, Some, None, option_map, Result, Ok, Err}
+use Rattle.std.specs.Prelude.{◌≡◌, ℕ, ◌^◌, ◌<◌, false, List, [], ◌∷◌, ◌++◌, codes, flat_map, length, Option, Some, None, option_map, Result, Ok, Err}
 use Rattle.std.specs.List.{AllByRecursion}
 use Rattle.hex.specs.Hex.{IsBytes, encode_lower}
 use Rattle.reg_core.specs.Calendar.{IsMoment}
@@ -14,7 +14,7 @@ use Rattle.reg_core.specs.declared.rows.RequestRow.{RequestRow}
 use Rattle.reg_core.specs.declared.rows.RevocationRow.{RevocationRow}
 use Rattle.reg_core_lists.specs.Feed.{PageParts, RowLists, crl_alone, feed_crl_of, feed_rows_of, page_parts_text}
 use Rattle.reg_core_lists.specs.FeedLines.{page_head, step_text}
-use Rattle.reg_core_lists.specs.FeedReading.{HeadFields, ReadsItems, certificate_read, declined_read, order_read, request_read, revocation_read, subscriber_read}
+use Rattle.reg_core_lists.specs.FeedReading.{HasNoneOf, HeadFields, ReadsItems, certificate_row_of, declined_id_of, order_row_of, request_row_of, revocation_row_of, row_read, subscriber_row_of}
 use Rattle.reg_core_lists.specs.declared.feed_fields.HeadFields.{HeadFields as DeclaredFields}
 use Rattle.reg_core_lists.specs.declared.feed_reader.FeedHead.{FeedHead}
 use Rattle.reg_core_lists.specs.declared.feed_reader.PageFault.{PageFault}
@@ -170,13 +170,12 @@ pub record IsReadable (page : Received) : Type 0 where
 -- ---- what follows rows
 
 -- no row of any kind
-pub record HasNoRow (text : List ℕ) : Type 0 where
-  pub subscribers : subscriber_read text ≡ None
-  pub orders : order_read text ≡ None
-  pub certificates : certificate_read text ≡ None
-  pub requests : request_read text ≡ None
-  pub declined : declined_read text ≡ None
-  pub revocations : revocation_read text ≡ None
+abbrev pub HasNoRow : List ℕ → Type 0
+HasNoRow =
+    HasNoneOf (
+    codes "revocation"
+    ∷ codes "declined" ∷ codes "request" ∷ codes "certificate" ∷ codes "order" ∷ codes "subscriber" ∷ []
+    )
 
 -- the rows that are read from a text, table after table
 pub record ReadsRows (rows : RowLists) (text : List ℕ) : Type 0 where
@@ -186,12 +185,12 @@ pub record ReadsRows (rows : RowLists) (text : List ℕ) : Type 0 where
   pub after_requests : List ℕ
   pub after_declined : List ℕ
   pub rest : List ℕ
-  pub subscribers : ReadsItems subscriber_read rows.subscribers text after_subscribers
-  pub orders : ReadsItems order_read rows.orders after_subscribers after_orders
-  pub certificates : ReadsItems certificate_read rows.certificates after_orders after_certificates
-  pub requests : ReadsItems request_read rows.requests after_certificates after_requests
-  pub declined : ReadsItems declined_read rows.declined after_requests after_declined
-  pub revocations : ReadsItems revocation_read rows.revocations after_declined rest
+  pub subscribers : ReadsItems (row_read (codes "subscriber") subscriber_row_of) rows.subscribers text after_subscribers
+  pub orders : ReadsItems (row_read (codes "order") order_row_of) rows.orders after_subscribers after_orders
+  pub certificates : ReadsItems (row_read (codes "certificate") certificate_row_of) rows.certificates after_orders after_certificates
+  pub requests : ReadsItems (row_read (codes "request") request_row_of) rows.requests after_certificates after_requests
+  pub declined : ReadsItems (row_read (codes "declined") declined_id_of) rows.declined after_requests after_declined
+  pub revocations : ReadsItems (row_read (codes "revocation") revocation_row_of) rows.revocations after_declined rest
 
 -- the page that is read, unless memory runs out
 abbrev pub ReadsAs : Result ReceivedPage PageFault → Received → Type 0

@@ -1,17 +1,20 @@
-//! Reads the fields of a line of the changes feed, and the lines that are no rows. It reads more texts than the feed has, such as numbers with
-//! leading zeros; `feed_reader.rt` compares the text with that of what was read.
+//! Reads the fields of a line of the changes feed, and the lines that are no rows. It accepts more than a desk writes, such as numbers with leading
+//! zeros: `feed_reader.rt` then writes what was read, and refuses a page whose text differs.
 
 ghost use Rattle.std.specs.Prelude.{◌≡◌, ◌≢◌, ◌<◌, ◌+◌, ◌++◌, ℕ, List, IfSome, MatchOption, length, option_map};
-ghost use Rattle.reg_core_lists.specs.FeedReading.{after_prefix, crl_line_read, field_read, ground_of, head_read, is_other_version, issuer_read, last_line_read, line_read, allowed_name_of, octet_of, policy_read, positions_in_line, version_read};
+ghost use Rattle.reg_core.specs.Calendar.{moment_of};
+ghost use Rattle.reg_core.specs.Number.{number_of};
+ghost use Rattle.reg_core.specs.Serial.{serial_of};
+ghost use Rattle.reg_core_lists.specs.FeedReading.{after_prefix, allowed_name_of, crl_line_read, field_read, ground_of, head_read, is_other_version, issuer_read, last_line_read, line_read, octet_of, policy_read, positions_in_line, value_read, version_read};
 ghost use Rattle.reg_core_lists.specs.ReceivedPages.{head_fields_of};
 
 use crate::list_parameters::{index_of, position_of};
 use crate::positions::Positions;
-use reg_core::{CrlRow, Ground, Label, Moment, read_number};
+use reg_core::{CrlRow, Ground, Label, Moment, Serial, read_number};
 
-// ---- the other lines
+// ---- the lines that are no rows
 
-/// Whether the first line has the number of another version.
+/// Whether the page's first line, `changes N`, has another version N of the feed than 1. A page without a number is malformed instead.
 pub(crate) fn is_other_version(page: &[u8]) -> bool
     ensures { result ≡ is_other_version page.now }
 {
@@ -25,28 +28,24 @@ pub(crate) fn is_other_version(page: &[u8]) -> bool
 fn read_version(page: &[u8]) -> Option<u64>
     ensures { result ≡ version_read page.now }
 {
-    let (fields, _) = line_after(b"changes", page)?;
-    let (version, _) = take_field(fields)?;
-    read_number(version)
+    let (mut fields, _) = line_after(b"changes", page)?;
+    next_value(&mut fields)
 }
 
-/// A CRL without its octets, and how many octets it has.
+/// A CRL without its octets, by its line, and how many octets follow that line.
 #[tactic(auto, unfolding(crate::specs::FeedReading::crl_line_read))]
 pub(crate) fn read_crl_line(text: &[u8]) -> Option<(CrlRow, u64)>
     ensures { result ≡ crl_line_read text.now }
 {
-    let (fields, _) = line_after(b"crl", text)?;
-    let (number, fields) = take_field(fields)?;
-    let (this_update, fields) = take_field(fields)?;
-    let (octets, _) = take_field(fields)?;
+    let (mut fields, _) = line_after(b"crl", text)?;
     let row = CrlRow {
-        number: read_number(number)?,
-        this_update: Moment::read(this_update)?,
+        number: next_value(&mut fields)?,
+        this_update: next_value(&mut fields)?,
     };
-    Some((row, read_number(octets)?))
+    Some((row, next_value(&mut fields)?))
 }
 
-/// The last line: whether there is nothing after the page, and the positions after it.
+/// The last line: whether there is nothing after the page (`end`, else `more`), and the positions after the page.
 #[tactic(auto, unfolding(crate::specs::FeedReading::last_line_read))]
 pub(crate) fn read_last_line(text: &[u8]) -> Option<(bool, Positions)>
     ensures { result ≡ last_line_read text.now }
@@ -66,16 +65,16 @@ fn read_positions(word: &[u8], text: &[u8]) -> Option<Positions>
     Positions::read(positions)
 }
 
-/// The fields of the lines before the rows.
+/// The fields of the lines before the rows. Lives are in seconds, `cap` is the most rows of a table, and `last` the last accepted moment.
 #[derive(Clone, Copy)]
 pub(crate) struct HeadFields<'a> {
-    /// The digits of the stored name, and of the key.
+    /// The columns `name` and `pubkey` of the table `office`, in hexadecimal digits.
     pub(crate) name: &'a [u8],
     pub(crate) key: &'a [u8],
     pub(crate) crl_life: u64,
     pub(crate) ocsp_life: u64,
     pub(crate) cap: u64,
-    /// The steps of the schedule.
+    /// The text of the schedule's steps.
     pub(crate) steps: &'a [u8],
     pub(crate) last: Moment,
 }
@@ -88,9 +87,8 @@ pub(crate) fn read_head_fields(text: &[u8]) -> Option<HeadFields<'_>>
     let (name, key, rest) = read_issuer(rest)?;
     let (crl_life, ocsp_life, cap, rest) = read_policy(rest)?;
     let (steps, rest) = line_after(b"schedule", rest)?;
-    let (fields, _) = line_after(b"last", rest)?;
-    let (last, _) = take_field(fields)?;
-    let last = Moment::read(last)?;
+    let (mut fields, _) = line_after(b"last", rest)?;
+    let last = next_value(&mut fields)?;
     Some(HeadFields {
         name,
         key,
@@ -102,6 +100,7 @@ pub(crate) fn read_head_fields(text: &[u8]) -> Option<HeadFields<'_>>
     })
 }
 
+/// The issuer's name and key, in hexadecimal digits, and the text after their line.
 #[tactic(auto, unfolding(crate::specs::FeedReading::issuer_read))]
 fn read_issuer(text: &[u8]) -> Option<(&[u8], &[u8], &[u8])>
     ensures { option_map (λ it. (it.0.now, it.1.now, it.2.now)) result ≡ issuer_read text.now }
@@ -112,49 +111,98 @@ fn read_issuer(text: &[u8]) -> Option<(&[u8], &[u8], &[u8])>
     Some((name, key, behind))
 }
 
+/// The numbers `crl_life`, `ocsp_life` and `cap` of the policy, and the text after their line.
 #[tactic(auto, unfolding(crate::specs::FeedReading::policy_read))]
 fn read_policy(text: &[u8]) -> Option<(u64, u64, u64, &[u8])>
     ensures { option_map (λ it. (it.0, it.1, it.2, it.3.now)) result ≡ policy_read text.now }
 {
-    let (fields, behind) = line_after(b"policy", text)?;
-    let (crl_life, fields) = take_field(fields)?;
-    let (ocsp_life, fields) = take_field(fields)?;
-    let (cap, _) = take_field(fields)?;
-    let crl_life = read_number(crl_life)?;
-    let ocsp_life = read_number(ocsp_life)?;
-    Some((crl_life, ocsp_life, read_number(cap)?, behind))
+    let (mut fields, behind) = line_after(b"policy", text)?;
+    let crl_life = next_value(&mut fields)?;
+    let ocsp_life = next_value(&mut fields)?;
+    Some((crl_life, ocsp_life, next_value(&mut fields)?, behind))
 }
 
 // ---- fields
 
-pub(crate) fn read_name(text: &[u8]) -> Option<Label>
-    ensures { result ≡ allowed_name_of text.now }
-{
-    let name = Label::of(text)?;
-    if name.is_name() { Some(name) } else { None }
+/// A type that the value of a field can have.
+pub(crate) trait FieldValue: Copy {
+    ghost use Rattle.std.specs.Prelude.{ℕ, List, Option, ◌≡◌};
+
+    ghost value: { List ℕ → Option Self };
+
+    /// The value with this text; `None` if there is none. A `Label` must be allowed as a name.
+    fn of(text: &[u8]) -> Option<Self>
+        ensures { result ≡ value text.now };
 }
 
-pub(crate) fn read_ground(text: &[u8]) -> Option<Ground>
-    ensures { result ≡ ground_of text.now }
-{
-    match Ground::read(text) {
-        Ok(ground) => Some(ground),
-        Err(_) => None,
+impl FieldValue for u64 {
+    ghost value = { number_of };
+
+    fn of(text: &[u8]) -> Option<u64> {
+        read_number(text)
     }
 }
 
-pub(crate) fn read_octet(text: &[u8]) -> Option<u8>
-    ensures { result ≡ octet_of text.now }
-{
-    let number = read_number(text)?;
-    if number < 256 {
-        Some(number as u8)
-    } else {
-        None
+impl FieldValue for u8 {
+    ghost value = { octet_of };
+
+    fn of(text: &[u8]) -> Option<u8> {
+        let number = read_number(text)?;
+        if number < 256 {
+            Some(number as u8)
+        } else {
+            None
+        }
     }
 }
 
-/// The text of the first field, after its space, and the other fields.
+impl FieldValue for Serial {
+    ghost value = { serial_of };
+
+    fn of(text: &[u8]) -> Option<Serial> {
+        Serial::read(text)
+    }
+}
+
+impl FieldValue for Moment {
+    ghost value = { moment_of };
+
+    fn of(text: &[u8]) -> Option<Moment> {
+        Moment::read(text)
+    }
+}
+
+impl FieldValue for Label {
+    ghost value = { allowed_name_of };
+
+    fn of(text: &[u8]) -> Option<Label> {
+        let name = Label::of(text)?;
+        if name.is_name() { Some(name) } else { None }
+    }
+}
+
+impl FieldValue for Ground {
+    ghost value = { ground_of };
+
+    fn of(text: &[u8]) -> Option<Ground> {
+        match Ground::read(text) {
+            Ok(ground) => Some(ground),
+            Err(_) => None,
+        }
+    }
+}
+
+/// The value of the first field, `None` if it has none; the other fields remain in `fields`.
+#[tactic(auto, unfolding(crate::specs::FeedReading::value_read))]
+pub(crate) fn next_value<'a, T: FieldValue>(fields: &mut &'a [u8]) -> Option<T>
+    ensures { option_map (λ it. (it, fields.new.now)) result ≡ value_read T.value fields.old.now }
+{
+    let (text, others) = take_field(*fields)?;
+    *fields = others;
+    T::of(text)
+}
+
+/// The text of the first field, without the space before it, and the other fields.
 #[tactic(auto, unfolding(crate::specs::FeedReading::field_read))]
 pub(crate) fn take_field(fields: &[u8]) -> Option<(&[u8], &[u8])>
     ensures value { option_map (λ it. (it.0.now, it.1.now)) result ≡ field_read fields.now }
@@ -165,7 +213,7 @@ pub(crate) fn take_field(fields: &[u8]) -> Option<(&[u8], &[u8])>
     Some((&rest[..end], &rest[end..]))
 }
 
-/// The fields of the first line, if the line begins with this word, and the text after the line.
+/// The fields of the first line, each with a space before it, if the line begins with this word; and the text after the line.
 #[tactic(auto, unfolding(crate::specs::FeedReading::line_read))]
 pub(crate) fn line_after<'a>(word: &[u8], text: &'a [u8]) -> Option<(&'a [u8], &'a [u8])>
     ensures value { option_map (λ it. (it.0.now, it.1.now)) result ≡ line_read word.now text.now }

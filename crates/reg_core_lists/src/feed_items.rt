@@ -1,18 +1,13 @@
 //! Reads the rows of a page of the changes feed, and the steps of a schedule. It accepts more than a desk writes, such as numbers with leading zeros:
 //! `feed_reader.rt` then writes the rows that were read, and refuses a page whose text differs.
 
-ghost use Rattle.std.specs.Prelude.{◌≡◌, ◌<◌, ◌+◌, ℕ, List, IfOk, length};
-ghost use Rattle.reg_core_lists.specs.FeedReading.{ReadsItems, certificate_read, declined_read, order_read, request_read, revocation_read, revocation_with, step_read, subscriber_read};
+ghost use Rattle.std.specs.Prelude.{◌≡◌, ◌<◌, ◌+◌, ℕ, List, IfOk, codes, length};
+ghost use Rattle.reg_core_lists.specs.FeedReading.{ReadsItems, certificate_row_of, declined_id_of, order_row_of, request_row_of, revocation_row_of, row_read, step_read, subscriber_row_of};
 
-use crate::feed_fields::{
-    after_prefix, line_after, read_ground, read_name, read_octet, take_field,
-};
-use reg_core::{
-    CertRow, Moment, OrderRow, RequestRow, RevocationRow, Serial, SubscriberRow, read_number,
-};
+use crate::feed_fields::{after_prefix, line_after, next_value, take_field};
+use reg_core::{CertRow, Moment, OrderRow, RequestRow, RevocationRow, SubscriberRow, read_number};
 use std::alloc::{AllocError, Global};
 
-/// The octets of a moment's text.
 const MOMENT_OCTETS: usize = 20;
 
 /// What can be read at the beginning of a text.
@@ -46,72 +41,61 @@ pub(crate) fn read_all<T: Leading>(
 // ---- rows
 
 impl Leading for SubscriberRow {
-    ghost read = { subscriber_read };
+    ghost read = { row_read (codes "subscriber") subscriber_row_of };
 
-    #[tactic(auto, unfolding(crate::specs::FeedReading::subscriber_read))]
+    #[tactic(auto, unfolding(crate::specs::FeedReading::row_read, crate::specs::FeedReading::subscriber_row_of))]
     fn read(text: &[u8]) -> Option<(SubscriberRow, &[u8])> {
-        let (fields, behind) = line_after(b"subscriber", text)?;
-        let (id, fields) = take_field(fields)?;
-        let (name, _) = take_field(fields)?;
-        let id = read_number(id)?;
-        let name = read_name(name)?;
-        Some((SubscriberRow { id, name }, behind))
+        let (mut fields, behind) = line_after(b"subscriber", text)?;
+        let row = SubscriberRow {
+            id: next_value(&mut fields)?,
+            name: next_value(&mut fields)?,
+        };
+        Some((row, behind))
     }
 }
 
 impl Leading for OrderRow {
-    ghost read = { order_read };
+    ghost read = { row_read (codes "order") order_row_of };
 
-    #[tactic(auto, unfolding(crate::specs::FeedReading::order_read))]
+    #[tactic(auto, unfolding(crate::specs::FeedReading::row_read, crate::specs::FeedReading::order_row_of))]
     fn read(text: &[u8]) -> Option<(OrderRow, &[u8])> {
-        let (fields, behind) = line_after(b"order", text)?;
-        let (id, fields) = take_field(fields)?;
-        let (subscriber, fields) = take_field(fields)?;
-        let (days, _) = take_field(fields)?;
+        let (mut fields, behind) = line_after(b"order", text)?;
         let row = OrderRow {
-            id: read_number(id)?,
-            subscriber: read_number(subscriber)?,
-            days: read_number(days)?,
+            id: next_value(&mut fields)?,
+            subscriber: next_value(&mut fields)?,
+            days: next_value(&mut fields)?,
         };
         Some((row, behind))
     }
 }
 
 impl Leading for CertRow {
-    ghost read = { certificate_read };
+    ghost read = { row_read (codes "certificate") certificate_row_of };
 
-    #[tactic(auto, unfolding(crate::specs::FeedReading::certificate_read))]
+    #[tactic(auto, unfolding(crate::specs::FeedReading::row_read, crate::specs::FeedReading::certificate_row_of))]
     fn read(text: &[u8]) -> Option<(CertRow, &[u8])> {
-        let (fields, behind) = line_after(b"certificate", text)?;
-        let (serial, fields) = take_field(fields)?;
-        let (order, fields) = take_field(fields)?;
-        let (not_before, fields) = take_field(fields)?;
-        let (not_after, _) = take_field(fields)?;
+        let (mut fields, behind) = line_after(b"certificate", text)?;
         let row = CertRow {
-            serial: Serial::read(serial)?,
-            order: read_number(order)?,
-            not_before: Moment::read(not_before)?,
-            not_after: Moment::read(not_after)?,
+            serial: next_value(&mut fields)?,
+            order: next_value(&mut fields)?,
+            not_before: next_value(&mut fields)?,
+            not_after: next_value(&mut fields)?,
         };
         Some((row, behind))
     }
 }
 
 impl Leading for RequestRow {
-    ghost read = { request_read };
+    ghost read = { row_read (codes "request") request_row_of };
 
-    #[tactic(auto, unfolding(crate::specs::FeedReading::request_read))]
+    #[tactic(auto, unfolding(crate::specs::FeedReading::row_read, crate::specs::FeedReading::request_row_of))]
     fn read(text: &[u8]) -> Option<(RequestRow, &[u8])> {
-        let (fields, behind) = line_after(b"request", text)?;
-        let (id, fields) = take_field(fields)?;
-        let (serial, fields) = take_field(fields)?;
-        let (ground, fields) = take_field(fields)?;
-        let (received, _) = take_field(fields)?;
+        let (mut fields, behind) = line_after(b"request", text)?;
         let row = RequestRow {
-            id: read_number(id)?,
-            serial: Serial::read(serial)?,
-            ground: read_ground(ground)?,
-            received: Moment::read(received)?,
+            id: next_value(&mut fields)?,
+            serial: next_value(&mut fields)?,
+            ground: next_value(&mut fields)?,
+            received: next_value(&mut fields)?,
             declined: false,
         };
         Some((row, behind))
@@ -120,50 +104,31 @@ impl Leading for RequestRow {
 
 /// The id of a declined request.
 impl Leading for u64 {
-    ghost read = { declined_read };
+    ghost read = { row_read (codes "declined") declined_id_of };
 
-    #[tactic(auto, unfolding(crate::specs::FeedReading::declined_read))]
+    #[tactic(auto, unfolding(crate::specs::FeedReading::row_read, crate::specs::FeedReading::declined_id_of))]
     fn read(text: &[u8]) -> Option<(u64, &[u8])> {
-        let (fields, behind) = line_after(b"declined", text)?;
-        let (id, _) = take_field(fields)?;
-        Some((read_number(id)?, behind))
+        let (mut fields, behind) = line_after(b"declined", text)?;
+        Some((next_value(&mut fields)?, behind))
     }
 }
 
 /// The last field, `first`, is the number of the first CRL that can list the revocation.
 impl Leading for RevocationRow {
-    ghost read = { revocation_read };
+    ghost read = { row_read (codes "revocation") revocation_row_of };
 
-    #[tactic(auto, unfolding(crate::specs::FeedReading::revocation_read))]
+    #[tactic(auto, unfolding(crate::specs::FeedReading::row_read, crate::specs::FeedReading::revocation_row_of))]
     fn read(text: &[u8]) -> Option<(RevocationRow, &[u8])> {
-        let (fields, behind) = line_after(b"revocation", text)?;
-        let (serial, fields) = take_field(fields)?;
-        let (at, fields) = take_field(fields)?;
-        let (reason, fields) = take_field(fields)?;
-        let (request, fields) = take_field(fields)?;
-        let (first, _) = take_field(fields)?;
-        let row = revocation_with(serial, at, reason, request, first)?;
+        let (mut fields, behind) = line_after(b"revocation", text)?;
+        let row = RevocationRow {
+            serial: next_value(&mut fields)?,
+            at: next_value(&mut fields)?,
+            reason: next_value(&mut fields)?,
+            request: next_value(&mut fields)?,
+            first: next_value(&mut fields)?,
+        };
         Some((row, behind))
     }
-}
-
-/// The revocation with the values of these fields.
-fn revocation_with(
-    serial: &[u8],
-    at: &[u8],
-    reason: &[u8],
-    request: &[u8],
-    first: &[u8],
-) -> Option<RevocationRow>
-    ensures { result ≡ revocation_with serial.now at.now reason.now request.now first.now }
-{
-    Some(RevocationRow {
-        serial: Serial::read(serial)?,
-        at: Moment::read(at)?,
-        reason: read_octet(reason)?,
-        request: read_number(request)?,
-        first: read_number(first)?,
-    })
 }
 
 /// A step of a schedule.
