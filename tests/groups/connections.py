@@ -164,6 +164,29 @@ def control_connections_have_all_of_16_descriptors(t):
 
 
 @test(seconds=4)
+def the_control_socket_has_the_next_descriptor(t):
+    """No descriptor is left while a hundred clients wait at the port. The first one that an evicted client frees is for a client at the control
+    socket, and not for the next silent one, which would keep it for 30 seconds."""
+    t.register()
+    desk = t.open("ca.db", "--log")
+    files = lambda: len(os.listdir(f"/proc/{desk.process.pid}/fd"))
+    before = files()
+    t.tool("prlimit", "--pid", desk.process.pid, f"--nofile={before + 3}:{before + 3}")
+    for at in range(3):
+        peer(t, desk)
+        until(lambda: files() == before + at + 1, f"connection {at + 1}")
+    desk.process.send_signal(signal.SIGSTOP)
+    for _ in range(100):
+        peer(t, desk)
+    control = t.enter_context(Control(t.room / "counter", timeout=20))
+    control.peer.sendall(b"counts\n")
+    desk.process.send_signal(signal.SIGCONT)
+    t.same(control.file.readline(), b"good 0 revoked 0 expired 0\n")
+    told = [it.split()[1] for it in desk.end().err_lines if " lost crowded" in it or " control " in it]
+    t.true(told.index("control") < 10, f"{told.index('control')} clients were evicted before the line was answered")
+
+
+@test(seconds=4)
 def the_last_descriptor_evicts_no_connection(t):
     """accept(2) fails for lack of descriptors even if no client waits. The oldest connection is evicted only once another client connects."""
     desk = opened(t)

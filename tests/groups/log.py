@@ -3,7 +3,7 @@
 import re
 import socket
 
-from lib import authority, program
+from lib import authority, faults, program
 from lib.program import ANY_SIGNATURE, Control
 from lib.trial import each, test
 
@@ -149,3 +149,40 @@ def a_control_connection_that_closes_before_its_reply_is_lost(t):
             pass
     told = within(desk, "control lost broken")
     t.same([it for it in told if " lost " in it], [f"{DAY} control lost broken"], "lost connections, without the one that had its reply")
+
+
+@test
+def to_standard_error_and_to_a_file(t):
+    """With both options each line is in both logs."""
+    t.register()
+    t.clock(DAY)
+    desk = t.open("ca.db", "--log", "--log-file", "ca.log")
+    t.same(t.control().ask("subscriber acme"), "subscriber 1")
+    desk.send(b"GET /counts HTTP/1.1\r\n\r\n")
+    lines = desk.end().err_lines
+    t.same([it.split()[1][:9] for it in lines], ["control", "127.0.0.1"], "the clients of the log on standard error")
+    t.same((t.room / "ca.log").read_text().splitlines(), lines, "the log in the file")
+
+
+@test
+def each_line_is_one_write(t):
+    """The file may be renamed at any time, and other programs may append to it. So the desk writes no line in parts."""
+    t.register()
+    desk = t.open("ca.db", "--log-file", "ca.log", faults=faults.environment(count=t.room / "count", only="ca.log"))
+    t.desk("at", "counter", given="subscriber acme\nsubscriber b\ncounts\n")
+    desk.send(b"GET /counts HTTP/1.1\r\n\r\n")
+    desk.end()
+    t.same(((t.room / "ca.log").read_text().count("\n"), faults.counted(t.room / "count")["write"]), (4, 4), "lines, and writes")
+
+
+@test
+def a_line_after_one_that_was_cut_off_is_whole(t):
+    """The disk is full once 20 octets of a line are written. The next line does not continue them: `desk replay` stops at the part."""
+    t.register()
+    t.clock(DAY)
+    desk = t.open("ca.db", "--log-file", "ca.log", faults=faults.environment(only="ca.log", short=20, fail="write:2=ENOSPC"))
+    for name in ("acme", "b"):
+        t.desk("at", "counter", given=f"subscriber {name}\n")
+    desk.end()
+    part, *rest = (t.room / "ca.log").read_text().splitlines()
+    t.same((part, [re.sub(r"\d+$", "N", it) for it in rest]), (DAY[:19], [f'{DAY} control "subscriber b" "subscriber 2" 13 N']))

@@ -1,4 +1,4 @@
-//! The machine that the program runs on.
+//! The machine on which the program runs: the calls of the trait `Machine`, made by the library's system calls.
 
 ghost use Rattle.std.specs.Prelude.{◌≡◌, ◌≤◌, ◌/◌, ℕ, List, [], Ok, IfOk, IfSome, MatchResult, length};
 ghost use Rattle.std.specs.Duration.{as_nanos};
@@ -52,19 +52,19 @@ const LOCK_PAUSE_MILLIS: u64 = 5;
 /// The machine on which the program runs: its files, clock, TCP ports and Unix sockets. It keeps the cause of the last failure, for `--why`.
 #[derive(Clone, Copy)]
 pub struct Host<'a> {
+    /// Each library call that uses the system takes it.
     pub(crate) rt: HostRuntime,
     /// The cause that was kept last; `None` if that failure had no known cause.
     pub(crate) last_cause: &'a Cell<Option<FailureCause>>,
-    /// Whether exchanges are logged on standard error.
+    /// Where exchanges are logged: on standard error, in the file at this path, in both, or nowhere.
     pub(crate) logs_to_stderr: bool,
-    /// The path of the file in which exchanges are logged, if one is given.
     pub(crate) log_file: Option<&'a str>,
     /// Whether an audit shows its progress on standard error.
     pub(crate) shows_progress: bool,
 }
 
 impl<'a> Host<'a> {
-    /// The failure for files that could not be read: `NotARegister` if there is no database yet, else the fault, whose cause is kept.
+    /// The failure for files that can't be read: `NotARegister` if there is no database yet, else the fault. `location` is the argument for them.
     pub(crate) fn failure_of(&self, location: Option<Location>, why: ReadFailure) -> Failure
         requires { IsReadFailureOfFiles why }
         ensures told { result ≡ failure_of why }
@@ -77,7 +77,7 @@ impl<'a> Host<'a> {
         }
     }
 
-    /// The fault of files that could not be read, whose cause is kept.
+    /// The fault of files that can't be read. Its cause is kept with the location.
     fn fault_of(&self, location: Option<Location>, why: FileFault) -> Fault
         ensures { result ≡ why.fault }
     {
@@ -95,7 +95,7 @@ impl<'a> Host<'a> {
         }
     }
 
-    /// Whether a path was claimed. If it was not, the cause is kept.
+    /// Whether a path was claimed, by an empty file that was created there. If it was not, the cause is kept.
     fn is_claimed(&self, claim: Result<(), ClaimFault>) -> Result<bool, Memory>
         ensures { result ≡ is_claimed claim }
     {
@@ -110,9 +110,9 @@ impl<'a> Host<'a> {
     }
 }
 
-/// Most methods make one library call with the arguments that they were given. No clause can state what that call did outside the program, so
-/// the method's relation in [`Machine`] states nothing here (`Unspecified`). Only `fresh`, `certified`, `opened`, `made` and `audited` state what the
-/// program itself did.
+/// [`Machine`] describes the methods and their arguments. Most make one library call. No clause can state what that call did outside the program, so
+/// the method's relation states nothing here (`Unspecified`). Only `fresh`, `certified`, `opened`, `made` and `audited` state what the program itself
+/// did. `not_waited` and `answer_in_form_signs` are proofs. No code uses an argument `lock`: contracts name it, as the lock that the caller holds.
 impl<'a> Machine for Host<'a> {
     ghost use Rattle.std.specs.Prelude.{false};
     ghost use Rattle.std.proofs.Common.{inr, refl};
@@ -263,7 +263,7 @@ impl<'a> Machine for Host<'a> {
         issuer: Issuer,
         policy: Policy,
     ) -> Result<FileOffice, Failure> {
-        // The job `init`, which creates the register, signs nothing with it.
+        // The job `init`, which creates the register, issues no CRL, so it needs no key.
         let signer: FileSigner = RegisterSigner::Digest(DigestSeal);
         match create_over(database, issuer, policy, signer) {
             Ok(office) => Ok(FileOffice { office }),
@@ -295,6 +295,7 @@ impl<'a> Machine for Host<'a> {
     fn copy(&mut self, path: &str, to: &str) -> Result<u64, Failure> {
         match copy_closed(&self.rt, path, to) {
             Ok(bytes) => Ok(bytes),
+            // The cause may be of either path, so it has no location.
             Err(why) => Err(self.failure_of(None, why)),
         }
     }
@@ -464,7 +465,7 @@ fn copy_fault_by(why: ReadFailure) -> CopyFault
     }
 }
 
-/// The whole seconds since the start of 1970; 0 if the clock is before that.
+/// The whole seconds since the start of 1970; 0 if the clock is before that (then `time` is the error `InvalidData`).
 fn seconds_of(time: io::Result<Duration>) -> io::Result<u64>
     ensures { IfOk time (λ time. result ≡ Ok (as_nanos time / 1000000000)) }
 {
@@ -481,7 +482,7 @@ fn micros_of(time: Duration) -> u64 {
         .saturating_add(u64::from(time.subsec_micros()))
 }
 
-/// The folder that contains a path.
+/// The folder that contains a path, which may be relative.
 fn folder_of(path: &str) -> Path<'_> {
     match Path::new(path).parent() {
         Some(folder) if folder.as_str() != "" => folder,
@@ -503,10 +504,28 @@ fn lock_once_free(rt: &HostRuntime, folder: &File) -> io::Result<()> {
     Err(io::Error::from(ErrorKind::AddrInUse))
 }
 
-/// Appends a line to the log file, opened for each line, so that after a rename the next goes to a new file. A line that can't be written is lost.
+/// Appends a line to the log file, which is opened anew, so that a line after a rename goes to a new file. A line that can't be written is lost.
 fn append(rt: &HostRuntime, path: &str, line: &[u8]) {
-    if let Ok(mut file) = open_log(rt, path) {
-        let _ = write_whole(&mut file, line);
+    let Ok(mut file) = open_log(rt, path) else {
+        return;
+    };
+    let Ok(before) = file.metadata() else {
+        return;
+    };
+    if write_whole(&mut file, line).is_err() {
+        end_cut_line(&mut file, before.len());
+    }
+}
+
+/// Ends a line that a full disk cut off, so that the next line does not continue it. The last byte of the file is replaced with an LF.
+/// `before` is the length of the file, in bytes, without that line.
+fn end_cut_line(file: &mut File, before: u64) {
+    let Ok(metadata) = file.metadata() else {
+        return;
+    };
+    let after = metadata.len();
+    if after > before && file.set_len(after - 1).is_ok() {
+        let _ = write_whole(file, b"\n");
     }
 }
 
