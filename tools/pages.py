@@ -114,6 +114,18 @@ def look_at_promises():
                 miss(page, f"no definition {file}.{it[2]}: {promise[:60]}")
 
 
+def look_at_security():
+    """Checks that each promise of SECURITY.md that is proved names a function, or links to PROOFS.md."""
+    page = "SECURITY.md"
+    for line in text(page).splitlines():
+        cells = [it.strip() for it in line.strip("|").split(" | ")]
+        if line.startswith("|") and len(cells) == 2 and "proved" in cells[1] and "docs/PROOFS.md#" not in cells[1]:
+            names = {*re.findall(r"\breg_\w+", cells[1])}
+            if not names:
+                miss(page, f"a promise names no function: {cells[0][:60]}")
+            look_at_functions(page, cells[0], cells[1], names)
+
+
 def look_at_functions(page, promise, functions, crates):
     """Checks that a promise's functions and clauses exist. Calls from `main` must reach one of the functions, unless it is a law or an example."""
     names = [it.split("::")[-1] for it in re.findall(r"`((?:[A-Za-z_]+::)*[a-z_0-9]+)`", functions)]
@@ -176,7 +188,7 @@ def look_at_names():
             miss("specs", f"{name} is defined in {' and '.join(sorted(crates))}")
 
 
-for look in (look_at_links, look_at_ways, look_at_laws, look_at_promises, look_at_crates, look_at_model, look_at_names, look_at_proofs):
+for look in (look_at_links, look_at_ways, look_at_laws, look_at_promises, look_at_security, look_at_crates, look_at_model, look_at_names, look_at_proofs):
     look()
 print(*missing, sep="\n", end="\n" if missing else "")
 sys.exit(1 if missing else 0)
