@@ -48,9 +48,10 @@ fn is_over_register<S: Alter>(alloc: Global, conn: &Connection<S>) -> Result<boo
 /// migrate a register of version 1 or 2. The connection must be in no transaction. The observer receives the progress.
 ///
 /// `Sound`: the tables show sound records, if the connection was open and two facts hold that no query can check (`IsPresumed`: the
-/// transaction isn't broken, and no row of `listed` lacks its last column). `Broken`: the tables show no sound records with values and derived
-/// tables that a register can have; a defect other than the bytes of a CRL proves this for any bytes of the CRLs (`Disproves`).
-/// `Older` and `OtherSchema` say which tables there are.
+/// transaction isn't broken, and no row of `listed` lacks its last column). `Broken`: one of these fails (`Disproves`): the values are those of a
+/// register, the records are sound, the derived tables match, and each CRL has the bytes of its entries. After a defect other than `OtherBytes`,
+/// one of the first three fails. `Older`: the tables are those of version 1 or 2 by the row of `office`. `OtherSchema`: that row is of version 3,
+/// but the schema is another.
 ///
 /// # Errors
 /// `NotARegister` and `NewVersion`, as from [`examine`]; `Memory`; `Store` as from [`crate::audit`].

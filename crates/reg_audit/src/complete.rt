@@ -1,5 +1,5 @@
 //! Checks that a register's tables have only rows that a register writes, so that there are records that the tables show. A register deletes no
-//! records, so ids, CRL numbers and rowids are 1, 2, 3 and so on.
+//! records, and deletes derived rows only to fill their table anew. So ids, CRL numbers and rowids are 1, 2, 3 and so on.
 
 ghost use Rattle.std.specs.Prelude.{◌≡◌, ℕ, IsTrue, IfOk, IfSome, OnOk};
 ghost use Rattle.std.specs.List.{AllByRecursion, AllZip};
@@ -52,7 +52,7 @@ fn is_number(row: &Row, at: usize, n: u64) -> bool
     }
 }
 
-/// Checks that the first column of the rows is 1, 2, 3 and so on.
+/// Checks that the first column of the rows is 1, 2, 3 and so on. `table`, here and below, is only for the report of a broken row.
 fn check_counted(table: RegisterTable, rows: &[Row]) -> Result<(), AuditFault>
     ensures counted { OnOk result (CountedFrom 1 rows.now) }
     ensures broken { CountedFrom 1 rows.now → NoBrokenRow result }
@@ -65,6 +65,7 @@ fn check_counted(table: RegisterTable, rows: &[Row]) -> Result<(), AuditFault>
     Ok(())
 }
 
+/// Whether the row is that of some record: it has values that `T` can hold.
 fn stands<T: RowKind>(row: &Row) -> bool
     ensures { IsTrue result → IsOfSomeRecord T.has_valid_serial T.shown row.now }
 {
@@ -74,7 +75,7 @@ fn stands<T: RowKind>(row: &Row) -> bool
     }
 }
 
-/// Checks that each row is that of some record. `Store` if one is not.
+/// Checks that each row is that of some record. `Store` if one is not; no such row gets here, because `check_read` has reported it.
 fn check_are_of_some_record<T: RowKind>(rows: &[Row]) -> Result<(), AuditFault>
     ensures stand { OnOk result (AllByRecursion (IsOfSomeRecord T.has_valid_serial T.shown) rows.now) }
     ensures broken { NoBrokenRow result }
@@ -97,7 +98,7 @@ fn check_keyed<T: RowKind>(table: RegisterTable, rows: &[Row]) -> Result<(), Aud
     check_are_of_some_record::<T>(rows)
 }
 
-/// Checks that the rows of a table are those of some records, with the rowids 1, 2, 3 and so on.
+/// Checks that the rows of a table are those of some records, with the rowids 1, 2, 3 and so on; `rowids` has one row for each, with its rowid.
 fn check_table<T: RowKind>(
     table: RegisterTable,
     rows: &[Row],
@@ -111,7 +112,7 @@ fn check_table<T: RowKind>(
     check_are_of_some_record::<T>(rows)
 }
 
-/// Checks that the table `kept` has one row, with counts, and the rowid 1.
+/// Checks that `kept` (B-tree 14) has one row, of three counts (`rows`), with the rowid 1 (`rowids`). If not, `Store`: its CHECK allows no other.
 fn check_counts(rows: &[Row], rowids: &[Row]) -> Result<(), AuditFault>
     ensures hold { (db : Database) → AreTables db → IsReadFrom db OfCounts rows.now
         → IsReadFrom db CountsRowid rowids.now → OnOk result (AreCounts (db.trees 14)) }
@@ -126,6 +127,7 @@ fn check_counts(rows: &[Row], rowids: &[Row]) -> Result<(), AuditFault>
     check_are_of_some_record::<Counts>(rows)
 }
 
+/// Numbers of the row of `office`: the lives of CRLs and OCSP responses in seconds, the most rows of a table, and the last accepted moment.
 #[derive(Clone, Copy)]
 struct Terms {
     crl_life: u64,
@@ -134,7 +136,7 @@ struct Terms {
     last: u64,
 }
 
-/// The numbers of the only row of `office`; `None` for other rows, another version, or a value of another type.
+/// The numbers of the only row of `office`, by the columns of [`AuditQuery::Terms`]; `None` for another rowid, version, type or number of rows.
 fn terms_in(rows: &[Row]) -> Option<Terms>
     ensures { IfSome result (IsTermsOf rows.now) }
 {
@@ -152,6 +154,7 @@ fn terms_in(rows: &[Row]) -> Option<Terms>
     })
 }
 
+/// The steps of the schedule: a notBefore, and the longest validity in days from it on. `Store` if a row has other values.
 fn steps_in(alloc: Global, rows: &[Row]) -> Result<Vec<(Moment, u64)>, AuditFault>
     ensures told { IfOk result
         (λ steps. AllZip (λ (step : ℕ × ℕ) (row : Cells). HasCells 0 row (shown_step step))
@@ -189,6 +192,7 @@ fn check_policy(steps: &[(Moment, u64)], terms: Terms) -> Result<(), AuditFault>
     }
 }
 
+/// Checks that the row of `office` and the rows of the schedule, `steps`, have values that a register writes; if not, `Store`.
 fn check_office(alloc: Global, office: &[Row], steps: &[Row]) -> Result<(), AuditFault>
     ensures hold { (db : Database) → AreTables db → IsReadFrom db OfTerms office.now
         → IsReadFrom db Steps steps.now → OnOk result (AreOffice db.trees) }
@@ -201,8 +205,8 @@ fn check_office(alloc: Global, office: &[Row], steps: &[Row]) -> Result<(), Audi
     }
 }
 
-/// Checks that the rows of all tables are those of records. `all` has the rows that were read for each item of
-/// [`crate::whole_audit::TABLE_QUERIES`], and `more` those for each item of [`OTHER_QUERIES`].
+/// Checks that the rows of all tables are those of records and of derived rows. `all` has the rows that were read for each item of
+/// [`crate::whole_audit::TABLE_QUERIES`], and `more` those for each item of [`OTHER_QUERIES`], at the item's index.
 pub(crate) fn check_complete(
     alloc: Global,
     all: &[Vec<Row>],

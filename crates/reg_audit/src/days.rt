@@ -14,6 +14,7 @@ use reg_core::Schedule;
 use reg_store_tables::sql_values::number_at;
 use sqlite::Row;
 
+/// Whether the column `days` of this row of `office` is 1 to 398.
 fn are_allowed(row: &Row) -> bool
     ensures allowed { IsTrue result → (days : ℕ) × (column row.now 6 ≡ number days) × IsDays days }
     ensures others { (days : ℕ) → column row.now 6 ≡ number days → IsDays days → IsTrue result }
@@ -24,9 +25,9 @@ fn are_allowed(row: &Row) -> bool
     }
 }
 
-/// Checks that the column `days` of `office`, the longest validity at creation, is a number that a schedule can have. `more` has the
-/// rows that were read for each item of [`crate::complete::OTHER_QUERIES`].
-pub(crate) fn check_days(more: &[Vec<Row>]) -> Result<(), AuditFault>
+/// Checks the column `days` of `office` (the longest validity of certificates, in days, at the register's creation). `Store` if `office` has not one
+/// row. `more` has the rows that were read for each item of [`crate::complete::OTHER_QUERIES`]; item 5 is `Terms`, column 6 `days`, counted from 0.
+pub(crate) fn check_longest_validity(more: &[Vec<Row>]) -> Result<(), AuditFault>
     ensures allowed { OnEachRead other_queries more.now (λ rows. rows.items)
         (λ records columns. OnOk result (HasAllowedDays columns)) }
     ensures broken { OnEachRead other_queries more.now (λ rows. rows.items)

@@ -4,14 +4,12 @@ use reg_audit_rows::{BrokenRow, CheckFault, Defect, RegisterTable};
 use reg_store_tables::DatabaseFault;
 use std::alloc::AllocFailed;
 
-/// Why [`audit`](crate::audit) does not find all rows sound.
+/// Why [`audit`](crate::audit) does not find all rows sound: `Memory`, out of memory; `Store`; or `Broken`, a row that breaks a rule.
 #[derive(Clone, Copy, PartialEq, Eq)]
 pub enum AuditFault {
-    /// Out of memory.
     Memory,
     /// The database failed, or the issuer, the policy, the version, or the rowid in `office` or `kept` is one that no register writes.
     Store,
-    /// A row breaks a rule.
     Broken(BrokenRow),
 }
 
@@ -52,7 +50,7 @@ impl<T: Drop> From<AllocFailed<T>> for AuditFault {
     }
 }
 
-/// The fault for a row that breaks a rule. `row_index` counts the rows of the table from 0, the report from 1.
+/// The fault for a row that has the defect `why`. `row_index` counts the rows of the table from 0, the fault's `row` from 1.
 pub(crate) fn broken_at(table: RegisterTable, row_index: usize, why: Defect) -> AuditFault {
     let row = (row_index as u64).saturating_add(1);
     AuditFault::Broken(BrokenRow { table, row, why })

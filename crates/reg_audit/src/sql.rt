@@ -4,6 +4,7 @@
 ghost use Rattle.std.specs.Prelude.{◌≡◌};
 ghost use Rattle.reg_audit.specs.ReadQueries.{sql_of};
 
+/// The numbers of `office` with which rows of other tables are checked.
 pub(crate) const OFFICE: &str = "SELECT cap, last_at FROM office";
 
 pub(crate) const SUBSCRIBERS: &str = "SELECT id, name FROM subscriber ORDER BY id";
@@ -38,6 +39,7 @@ pub(crate) const COUNTS_ROWID: &str = "SELECT one FROM kept ORDER BY one";
 
 pub(crate) const LISTING_ROWIDS: &str = "SELECT rowid FROM listed ORDER BY rowid";
 
+/// All numbers of `office`, which are themselves checked, after the rows of other tables.
 pub(crate) const TERMS: &str =
     "SELECT one, version, crl_life, ocsp_life, cap, last_at, days FROM office ORDER BY one";
 

@@ -35,12 +35,13 @@ use std::alloc::Global;
 
 const SEQUENCE: u8 = 0x30;
 
-/// The most octets of the signatureAlgorithm, as for a signer's (`IsAlgorithm` of `reg_crl`).
+/// The most octets of a CRL's signatureAlgorithm: a signer's has no more (`IsAlgorithm` of `reg_crl`).
 const MOST_ALGORITHM: usize = 1_024;
 
-/// The most octets of a CRL, 2^28. By the contracts of `reg_crl`, a register's CRL has at most 2^27 + 66,573.
+/// 2^28: a stored CRL of more octets is not parsed, but a defect. By the contracts of `reg_crl`, a register's CRL has at most 2^27 + 66,573.
 const MOST_CRL: usize = 268_435_456;
 
+/// The fault for the CRL with this number, which is also the number of its row.
 fn other_bytes_fault(number: u64) -> AuditFault
     ensures { ¬ BreaksRule result }
 {
@@ -51,7 +52,7 @@ fn other_bytes_fault(number: u64) -> AuditFault
     })
 }
 
-/// The value that follows the tbsCertList of a CRL (RFC 5280 5.1.1).
+/// The value that follows the tbsCertList of a CRL (RFC 5280 5.1.1). `None` if these bytes have none; `take` gives the first value and the rest.
 fn value_after_tbs(crl: &[u8]) -> Option<Tlv<'_>>
     ensures exact { AgreesWith (λ value. record { tag = value.tag; contents = value.contents.now }) result
         (behind_signed crl.now) }
@@ -88,7 +89,8 @@ fn algorithm_in(crl: &[u8]) -> Option<&[u8]>
     }
 }
 
-/// Checks that the bytes are the CRL of these entries, with nextUpdate `crl_life` seconds after thisUpdate, the algorithm they name, any signature.
+/// Checks that the bytes are those of the CRL `crl`, with the entries that the rows of `listed` give it. Its nextUpdate is `crl_life` seconds after
+/// thisUpdate (863,999 at most, under ten days). It may have any algorithm and any signature.
 fn check_bytes(
     alloc: Global,
     issuer: &Issuer,
@@ -125,7 +127,7 @@ fn check_bytes(
     }
 }
 
-/// Checks that the stored bytes of one CRL are those of its entries.
+/// Reads the stored bytes of one CRL, and checks them by `check_bytes`. If there are none, that is the same defect.
 fn check_stored<S: Alter>(
     alloc: Global,
     conn: &mut Connection<S>,
@@ -151,7 +153,7 @@ fn check_stored<S: Alter>(
     }
 }
 
-/// Checks each CRL. Only one CRL's bytes are in memory at a time.
+/// Checks each CRL, and calls the observer after each that has the right bytes. Only one CRL's bytes are in memory at a time.
 fn check_each<S: Alter, W: ProgressObserver>(
     alloc: Global,
     conn: &mut Connection<S>,
@@ -180,7 +182,7 @@ fn check_each<S: Alter, W: ProgressObserver>(
     Ok(())
 }
 
-/// The issuer, and the seconds from thisUpdate to nextUpdate, which all CRLs share.
+/// What all CRLs share: the issuer, and the seconds from thisUpdate to nextUpdate.
 fn terms<S: Alter>(conn: &mut Connection<S>) -> Result<(Issuer, u64), DatabaseFault>
     ensures found { (records : Records) → Shows S.Store conn.old records
         → HasCleanDisk (state S.Store conn.new)
@@ -193,8 +195,8 @@ fn terms<S: Alter>(conn: &mut Connection<S>) -> Result<(Issuer, u64), DatabaseFa
     Ok((issuer, policy.crl_life()))
 }
 
-/// Checks that the stored bytes of each CRL are those of its entries, with any algorithm and any signature. `all` has the rows that
-/// were read for each item of [`crate::whole_audit::TABLE_QUERIES`]. The observer is called after each CRL that has the right bytes.
+/// Checks that the stored bytes of each CRL are those of its entries, with any algorithm and any signature. `all` has the rows that were read for
+/// each item of [`crate::whole_audit::TABLE_QUERIES`]: item 6, counted from 0, is `Crls`, and item 9 is `Listings`.
 pub(crate) fn check_crls<S: Alter, W: ProgressObserver>(
     alloc: Global,
     conn: &mut Connection<S>,

@@ -1,4 +1,4 @@
-//! Converts the rows that were read of each table to rows of the records and of the derived tables.
+//! Converts SQLite's rows to rows of the records and of the derived tables: by `only` for a table with one row, by `typed` for each other table.
 
 ghost use Rattle.std.specs.Prelude.{◌≡◌, map, IfOk};
 ghost use Rattle.reg_core.specs.Crls.{row_of};
@@ -70,6 +70,7 @@ pub(crate) fn crls(alloc: Global, rows: &[Row]) -> Result<Vec<CrlRow>, AuditFaul
     typed::<CrlRow>(alloc, RegisterTable::Crl, rows)
 }
 
+/// The state letters of the certificates: `G`, `R` or `X`.
 pub(crate) fn letters(alloc: Global, rows: &[Row]) -> Result<Vec<Standing>, AuditFault>
     ensures read { OnRead Standings rows.now
         (λ records columns. IfOk result (λ found. map standing_in found.items ≡ columns.letters)) }

@@ -16,6 +16,7 @@ use reg_store_tables::sql_values::{
 use sqlite::Row;
 use std::alloc::Global;
 
+/// The row of the table `office`, as far as it is read here: the most rows of a table, and the last accepted moment.
 #[derive(Clone, Copy)]
 pub(crate) struct OfficeRow {
     pub(crate) cap: u64,
@@ -95,7 +96,6 @@ impl RowKind for ListedRows {
     }
 }
 
-/// The typed value of each row of a table.
 pub(crate) fn typed<T: RowKind>(
     alloc: Global,
     table: RegisterTable,

@@ -13,7 +13,7 @@ ghost use Rattle.reg_audit.specs.ReadableValues.{IsSoundRegister};
 ghost use Rattle.reg_audit.specs.ShownTables.{OnShown};
 
 use crate::complete::{OTHER_QUERIES, check_complete};
-use crate::days::check_days;
+use crate::days::check_longest_validity;
 use crate::fault::AuditFault;
 use crate::observer::{NoProgress, ProgressObserver};
 use crate::read_rows::check_read;
@@ -41,8 +41,9 @@ const TABLE_QUERIES: [AuditQuery; 10] = [
 /// Reads the rows of a register's tables, and checks that they show sound records, and that `standing` (the state of each
 /// certificate), `kept` (the counts of each state) and `listed` (CRL entries) follow from these ([`reg_audit_rows::check`]). Then it
 /// reads each CRL in turn, and checks that its bytes encode the entries that the records have for it (RFC 5280 5.1), with the algorithm
-/// that the CRL names and any signature ([`reg_audit_rows::check_crl`]). Last, it checks the rowids, `office` and the schedule. It
-/// verifies no signature, checks neither the schema nor a validity against the schedule, changes nothing, and reports its progress to the observer.
+/// that the CRL names ([`reg_audit_rows::check_crl`]). Last, it checks the rowids, the table `office` (issuer, policy, last moment) and the
+/// schedule, and by `check_longest_validity` the longest validity at creation, in `office`. It verifies no signature, checks neither the schema nor a
+/// validity against the schedule, changes nothing, and reports its progress to the observer.
 ///
 /// A row with a value that the register's types can't hold is reported as broken. `IsDisproved` says what a broken row disproves.
 /// If the tables have a register's schema (`AreTables`) and the audit succeeds, they show sound records (`ShowsSound`).
@@ -70,6 +71,6 @@ pub fn audit<S: Alter, W: ProgressObserver>(
     check_crls(alloc, conn, &all, observer)?;
     let more = read_each(alloc, conn, &OTHER_QUERIES, &mut NoProgress)?;
     check_complete(alloc, &all, &more)?;
-    check_days(&more)?;
+    check_longest_validity(&more)?;
     Ok(audited)
 }

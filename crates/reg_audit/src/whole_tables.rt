@@ -39,7 +39,7 @@ fn read_whole<S: Alter>(
     read(conn, text(what))
 }
 
-/// The rows that each of these statements returns. The observer gets their count after each statement.
+/// The rows that each of the statements `whats`, without parameters, returns, at its index. The observer gets their count after each statement.
 pub(crate) fn read_each<S: Alter, W: ProgressObserver>(
     alloc: Global,
     conn: &mut Connection<S>,

@@ -1,4 +1,5 @@
-//! Checks that numbers rise by one, and that moments do not fall and are not after the last accepted one.
+//! Checks of the order of rows: ids and CRL numbers are 1, 2, 3 and so on; moments and numbers of first CRLs do not fall from one row to a later
+//! one; no moment is after the last accepted one. `table` is only for the report of a broken row.
 
 ghost use Rattle.std.specs.Prelude.{◌≡◌, ◌≤◌, OnOk};
 ghost use Rattle.std.specs.List.{AllByRecursion};
@@ -98,7 +99,7 @@ impl Dated for CrlRow {
     }
 }
 
-/// Checks that moments do not fall from one row to a later one.
+/// Checks that moments do not fall; `why` is the defect of a row whose moment is before the previous row's.
 pub(crate) fn moments_never_decrease<T: Dated>(
     table: RegisterTable,
     rows: &[T],
@@ -118,7 +119,7 @@ pub(crate) fn moments_never_decrease<T: Dated>(
     Ok(())
 }
 
-/// Checks that no revocation has a lower number as its first CRL than an earlier revocation.
+/// Checks that no revocation's first CRL (the first that lists it) has a lower number than that of an earlier revocation.
 pub(crate) fn firsts_never_decrease(revocations: &[RevocationRow]) -> Result<(), CheckFault>
     ensures ok { OnOk result (NeverDecreases (λ row. row.first) revocations.now) }
     ensures broken { NotBrokenIf (NeverDecreases (λ row. row.first) revocations.now) result }
@@ -133,7 +134,7 @@ pub(crate) fn firsts_never_decrease(revocations: &[RevocationRow]) -> Result<(),
     Ok(())
 }
 
-/// Checks that no moment is after the last accepted one.
+/// Checks that no moment is after the last accepted one, `last`.
 pub(crate) fn are_by_last<T: Dated>(
     table: RegisterTable,
     rows: &[T],

@@ -1,4 +1,4 @@
-/// A table of a register that can have a broken row: each except `longest`, the schedule.
+/// A table of a register that can have a broken row: each except `longest`, the schedule. If its rows make no schedule, the audit ends with an error.
 #[derive(Clone, Copy, PartialEq, Eq)]
 pub enum RegisterTable {
     Office,
@@ -16,12 +16,12 @@ pub enum RegisterTable {
     Listed,
 }
 
-/// What is wrong with a row.
+/// What is wrong with a row; `lines.rt` has the text of each.
 #[derive(Clone, Copy, PartialEq, Eq)]
 pub enum Defect {
     /// The last accepted moment is at or past `CLOCK_END`, 9999-12-22T00:00:00Z.
     PastClockEnd,
-    /// No command can have set the last accepted moment: there is no subscriber, and it is neither 0 nor the thisUpdate of a CRL.
+    /// There is no subscriber, so only `crl` can have been accepted; but the last accepted moment is neither 0 nor the thisUpdate of a CRL.
     NeverAccepted,
     /// There are more rows than the policy's cap, the most rows of a table.
     AboveCap,
@@ -32,14 +32,11 @@ pub enum Defect {
     SameName,
     /// The days of an order, or the column `days` of `office`, are not 1 to 398.
     BadDays,
-    /// An earlier row has the same serial number (RFC 5280 4.1.2.2).
     SameSerial,
     SameOrder,
-    /// An earlier row has the same request.
     SameRequest,
     NoSubscriber,
     NoOrder,
-    /// Its notBefore is after its notAfter (RFC 5280 4.1.2.5).
     ReversedValidity,
     /// Its validity, both ends included, is longer than the days of its order.
     TooLong,
@@ -58,7 +55,7 @@ pub enum Defect {
     Earlier,
     /// The number of the first CRL that can list it is neither that of an issued CRL nor that of the next one.
     NoFirst,
-    /// A CRL before its first CRL has a thisUpdate after its moment, or its first CRL or a later one has a thisUpdate before it.
+    /// Its first CRL is not the first after its moment: an earlier CRL has a thisUpdate after the moment, or this or a later CRL has one before it.
     WrongFirst,
     /// Its first CRL is before that of the previous row.
     EarlierFirst,

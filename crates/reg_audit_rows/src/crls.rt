@@ -17,11 +17,13 @@ use reg_crl::{crl_tbs, crl_whole};
 use reg_der::{Issuer, take};
 use std::alloc::Global;
 
+/// The most octets of a signature that `crl_whole` takes.
 const MOST_SIGNATURE: usize = 65_536;
 
+/// The most entries of a CRL, because no table has more rows.
 const MOST_ENTRIES: usize = 1_000_000;
 
-/// The octets of the signature in a CRL (RFC 5280 5.1.1.3).
+/// The octets of the signature in a CRL (RFC 5280 5.1.1.3), without the first octet of the BIT STRING, which counts unused bits.
 fn signature_in(crl: &[u8]) -> Option<&[u8]>
     ensures { AgreesWith (λ signature. signature.now) result (signature_at crl.now) }
 {
@@ -33,6 +35,7 @@ fn signature_in(crl: &[u8]) -> Option<&[u8]>
     Some(signature)
 }
 
+/// The octets of the signature; empty if there is none, and then the bytes are not those of any CRL.
 fn signature_of(crl: &[u8]) -> &[u8]
     ensures { (signature : List ℕ) → signature_at crl.now ≡ Some signature → result.now ≡ signature }
 {
@@ -93,7 +96,7 @@ fn entries_of(alloc: Global, listed: &[Listed], number: u64) -> Result<Vec<Entry
     Ok(entries)
 }
 
-/// Checks that the bytes are the CRL of these entries, with this algorithm and any signature: encodes the CRL again, and compares.
+/// Checks that the bytes are the CRL of these entries, with this algorithm and any signature: encodes it again with that signature, and compares.
 fn check_bytes(
     alloc: Global,
     issuer: &Issuer,
@@ -133,9 +136,9 @@ fn check_bytes(
     }
 }
 
-/// Checks that the bytes of a CRL are those of its entries by the records, with this algorithm and any signature of at most 65,536 bytes.
-/// `crl_life` is in seconds. Errors: `Memory`; `Broken` if the bytes differ, or if the CRL would have over 1,000,000 entries or two for one
-/// serial number. The row in `Broken` does not name the CRL.
+/// Checks that the bytes of a CRL are those of its entries by the rows of `listed`, with this algorithm and any signature of at most 65,536 bytes.
+/// `crl_life` is in seconds. Errors: `Memory`; `Broken` if the bytes differ, or if the CRL would have over 1,000,000 entries or two for one serial
+/// number. The row in `Broken` does not name the CRL, which the caller knows.
 pub fn check_crl(
     alloc: Global,
     issuer: &Issuer,

@@ -31,8 +31,7 @@ pub struct Standing {
     pub letter: Letter,
 }
 
-/// A row of `listed`: a revocation's CRL entry (RFC 5280 5.1.2.6), its certificate's notAfter, and the numbers of the first and the last CRL
-/// that list it (`last`: `None` until that CRL is issued).
+/// A row of `listed`: a revocation's CRL entry, its certificate's notAfter, and the numbers of the first and last CRL with it (`None`: not issued).
 #[derive(Clone, Copy)]
 pub struct Listed {
     pub serial: Serial,
@@ -51,7 +50,6 @@ pub struct StoredDerivedRows<'a> {
     pub listed: &'a [Listed],
 }
 
-/// A row with a serial number.
 pub(crate) trait HasSerial: Copy {
     ghost use Rattle.std.specs.Prelude.{◌≡◌, ◌↔◌, ℕ, IsTrue};
 
@@ -95,6 +93,7 @@ impl HasSerial for Listed {
     }
 }
 
+/// The letter of a certificate's status, which is never `Unknown`.
 fn letter_of(status: Status) -> Letter
     ensures { result ≡ letter_by status }
 {
@@ -149,6 +148,7 @@ fn last_listing(crls: &[CrlRow], first: u64, not_after: Moment) -> Option<u64>
     }
 }
 
+/// The notAfter of a revocation's certificate. `None` does not occur: `check_rows` ran before, and reports a revocation without a certificate.
 fn not_after_or_epoch(certificate: Option<CertRow>) -> Moment
     ensures { result ≡ found_not_after certificate }
 {
@@ -198,6 +198,7 @@ fn count_of(rows: &[Standing], letter: Letter) -> u64
     count
 }
 
+/// Checks the table `kept`: how many certificates are good, revoked and expired.
 pub(crate) fn check_counts(rows: &[Standing], counts: Counts) -> Result<(), CheckFault>
     ensures ok { OnOk result (counts ≡ found_counts rows.now) }
     ensures broken { NotBrokenIf (counts ≡ found_counts rows.now) result }
@@ -212,7 +213,7 @@ pub(crate) fn check_counts(rows: &[Standing], counts: Counts) -> Result<(), Chec
     }
 }
 
-/// The index of the first row that differs from the wanted row with that index; the number of rows if only wanted ones follow; `None` if all agree.
+/// The first index at which `held` and `wanted` differ, perhaps the end of one of them; `None` if they are equal.
 fn first_difference<T: HasSerial>(held: &[T], wanted: &[T]) -> Option<usize>
     ensures { MatchOption result (held.now ≡ wanted.now) (λ _. held.now ≢ wanted.now) }
 {
@@ -229,7 +230,7 @@ fn first_difference<T: HasSerial>(held: &[T], wanted: &[T]) -> Option<usize>
     }
 }
 
-/// The index of a row among others, or their number if the row is not there. Only the report uses this index.
+/// The index of a row in `rows`, or the length of `rows` if it is not there. Only the report uses this index.
 fn index_of<T: HasSerial>(rows: &[T], row: Option<&T>) -> usize {
     let Some(row) = row else {
         return rows.len();
@@ -242,6 +243,7 @@ fn index_of<T: HasSerial>(rows: &[T], row: Option<&T>) -> usize {
     rows.len()
 }
 
+/// Checks that a table has the wanted rows, in any order.
 pub(crate) fn same_rows<T: HasSerial>(
     alloc: Global,
     table: RegisterTable,

@@ -42,7 +42,7 @@ impl<T: Drop> From<AllocFailed<T>> for CheckFault {
     }
 }
 
-/// The fault for a row that breaks a rule, by its index in the table, counted from 0.
+/// The fault for a row that has the defect `why`. `row_index` counts the rows of the table from 0, the fault's `row` from 1.
 pub(crate) fn broken_at(table: RegisterTable, row_index: usize, why: Defect) -> CheckFault
     ensures { IsBroken result }
 {
@@ -50,6 +50,7 @@ pub(crate) fn broken_at(table: RegisterTable, row_index: usize, why: Defect) -> 
     CheckFault::Broken(BrokenRow { table, row, why })
 }
 
+/// Checks that a table of `rows` rows has at most `cap`, the policy's limit. If it has more, its last row is reported.
 pub(crate) fn within_cap(table: RegisterTable, rows: usize, cap: u64) -> Result<(), CheckFault>
     ensures ok { OnOk result (rows ≤ cap) }
     ensures broken { NotBrokenIf (rows ≤ cap) result }

@@ -1,4 +1,4 @@
-//! Maps of rows by their keys, and checks that no two rows have the same key.
+//! Maps of rows by a serial number or an id, and checks that no two rows have the same key. If two have it, the later one is reported.
 
 ghost use Rattle.std.specs.Prelude.{OnOk, IfOk};
 ghost use Rattle.std.specs.BTreeMap.{get};

@@ -1,4 +1,4 @@
-//! Checks of rows against other rows.
+//! Checks of rows against other rows. A function named `.._defect` or `.._mismatch` gives `None` if there is nothing wrong.
 
 ghost use Rattle.std.specs.Prelude.{◌≡◌, ◌+◌, ◌<◌, ◌≤◌, ◌==◌, ◌↔◌, find, IsTrue, OnOk};
 ghost use Rattle.std.specs.BTreeMap.{get};
@@ -18,7 +18,7 @@ use std::collections::BTreeMap;
 
 const SECONDS_OF_DAY: u64 = 86_400;
 
-/// Whether an id is from 1 to the number of rows.
+/// Whether one of `rows` rows has this id: `in_order` has checked that their ids are 1, 2, 3 and so on.
 fn is_one_of(id: u64, rows: usize) -> bool
     ensures { IsTrue result ↔ ((1 ≤ id) × (id ≤ rows)) }
 {
@@ -42,6 +42,7 @@ pub(crate) fn subscribers_exist(
     Ok(())
 }
 
+/// The row with this number, whose index is one less: `in_order` has checked the numbers. `None` if there is none.
 fn row_with<T: Numbered + Copy>(rows: &[T], number: u64) -> Option<T>
     ensures { NumberedFrom T.number 1 rows.now → result ≡ find (λ row. T.number row == number) rows.now }
 {
@@ -52,7 +53,7 @@ fn row_with<T: Numbered + Copy>(rows: &[T], number: u64) -> Option<T>
     }
 }
 
-/// Why a certificate does not match its order; `None` if it does.
+/// Why a certificate does not match its order (`None`: there is none). The certificate is valid in the seconds of notBefore and of notAfter, too.
 fn certificate_defect(certificate: &CertRow, order: Option<OrderRow>) -> Option<Defect>
     ensures { NoDefectIff (IsAsOrdered certificate.now order) result }
 {
@@ -86,7 +87,7 @@ pub(crate) fn are_as_ordered(
     Ok(())
 }
 
-/// Why a request can't have been received for its certificate; `None` if it can.
+/// Why a request can't have been received: its certificate does not exist (`None`), or was past notAfter.
 fn request_defect(request: &RequestRow, certificate: Option<CertRow>) -> Option<Defect>
     ensures { NoDefectIff (IsInTime request.now certificate) result }
 {
@@ -99,6 +100,7 @@ fn request_defect(request: &RequestRow, certificate: Option<CertRow>) -> Option<
     None
 }
 
+/// Checks that each request's certificate exists, and was not past notAfter when the request was received.
 pub(crate) fn are_in_time(
     requests: &[RequestRow],
     certificates: &BTreeMap<Serial, CertRow>,
@@ -124,6 +126,7 @@ fn is_before(request: &RequestRow, revocation: Option<RevocationRow>) -> bool
     }
 }
 
+/// Checks that no request was received after the revocation of its certificate. `revocations` has those by serial number.
 pub(crate) fn none_after(
     requests: &[RequestRow],
     revocations: &BTreeMap<Serial, RevocationRow>,
@@ -140,7 +143,7 @@ pub(crate) fn none_after(
     Ok(())
 }
 
-/// Why this request can't have led to the revocation; `None` if it can.
+/// Why this request can't have led to the revocation.
 fn request_mismatch(request: &RequestRow, revocation: &RevocationRow) -> Option<Defect>
     ensures { NoDefectIff (LeadsTo revocation.now request.now) result }
 {
@@ -156,7 +159,7 @@ fn request_mismatch(request: &RequestRow, revocation: &RevocationRow) -> Option<
     None
 }
 
-/// Whether a CRL's thisUpdate is not after `at` if its number is below `first`, and not before `at` otherwise.
+/// Whether a CRL fits a revocation at `at` with the first CRL `first`: an earlier CRL's thisUpdate is not after `at`, another's is not before it.
 fn is_around(crl: &CrlRow, first: u64, at: Moment) -> bool
     ensures { IsTrue result ↔ ((crl.now.number < first → crl.now.this_update ≤ at)
         × (first ≤ crl.now.number → at ≤ crl.now.this_update)) }
@@ -179,7 +182,7 @@ fn are_around(crls: &[CrlRow], first: u64, at: Moment) -> bool
     true
 }
 
-/// Why a revocation does not fit the certificate, the request and the CRLs that were looked up; `None` if it does.
+/// Why a revocation does not fit its certificate and its request (`None`: there is none), all CRLs, or the last accepted moment, `last`.
 fn revocation_defect(
     revocation: &RevocationRow,
     certificate: Option<CertRow>,
@@ -214,7 +217,7 @@ fn revocation_defect(
     }
 }
 
-/// Checks that each revocation fits its certificate, its request and the CRLs.
+/// Checks that each revocation fits its certificate, its request, the CRLs and the last accepted moment, `last`.
 pub(crate) fn revocations_fit(
     revocations: &[RevocationRow],
     certificates: &BTreeMap<Serial, CertRow>,

@@ -28,8 +28,7 @@ use reg_core::{
 use std::alloc::Global;
 use std::collections::BTreeMap;
 
-/// The policy's cap (the most rows of a table), the last accepted moment, and the rows of each table of records, in rowid order. The CRLs are
-/// without their bytes.
+/// The policy's cap (the most rows of a table), the last accepted moment, and the rows of the records in rowid order; CRLs are without their bytes.
 #[derive(Clone, Copy)]
 pub struct Rows<'a> {
     pub cap: u64,
@@ -113,8 +112,7 @@ fn check_requests(
     are_in_time(rows, certificates)
 }
 
-/// Checks that there are no more rows than the cap, and numbers are 1, 2, 3 and so on (RFC 5280 5.2.3). Checks that thisUpdates do not fall, and
-/// none is after the last accepted moment.
+/// Checks that there are no more rows than the cap, numbers are 1, 2, 3 and so on, and thisUpdates do not fall or pass the last accepted moment.
 fn check_crls(rows: &[CrlRow], last: Moment, cap: u64) -> Result<(), CheckFault>
     ensures ok { OnOk result (AreCrls cap last rows.now) }
     ensures broken { NotBrokenIf (AreCrls cap last rows.now) result }
@@ -125,6 +123,8 @@ fn check_crls(rows: &[CrlRow], last: Moment, cap: u64) -> Result<(), CheckFault>
     are_by_last(RegisterTable::Crl, rows, last)
 }
 
+/// Checks that each revocation fits its certificate, its request and the CRLs, that moments and numbers of first CRLs do not fall, and that requests
+/// and serial numbers differ. Checks that no request was received after the revocation of its certificate. Returns the revocations by serial number.
 fn check_revocations(
     alloc: Global,
     certificates: &BTreeMap<Serial, CertRow>,
@@ -169,7 +169,7 @@ fn is_issued_at(crls: &[CrlRow], moment: Moment) -> bool
     crls.iter().any(|crl| crl.this_update == moment)
 }
 
-/// Checks the last accepted moment of a register without subscribers: it is 0 or the thisUpdate of a CRL.
+/// Checks the last accepted moment of a register without subscribers: it is 0 or the thisUpdate of a CRL, because only `crl` can have set it.
 fn check_last_set(rows: &Rows<'_>) -> Result<(), CheckFault>
     ensures ok { OnOk result (IsLastSet rows.now) }
     ensures broken { NotBrokenIf (IsLastSet rows.now) result }
@@ -189,6 +189,7 @@ pub(crate) struct RowsBySerial {
     pub(crate) revocations: BTreeMap<Serial, RevocationRow>,
 }
 
+/// Checks the records, table by table. The order matters: the check of orders, for example, relies on ids of subscribers that were checked before.
 pub(crate) fn check_rows(alloc: Global, rows: &Rows<'_>) -> Result<RowsBySerial, CheckFault>
     ensures ok { (records : Records) → AreOf rows.now records → OnOk result (ReachedRows records) }
     ensures found { IfOk result (IsIndexOf rows.now) }

@@ -1,4 +1,4 @@
-//! Checks of single rows.
+//! Checks of each row by itself: the names of subscribers, the days of orders (1 to 398), the validities of certificates.
 
 ghost use Rattle.std.specs.Prelude.{◌≤◌, OnOk};
 ghost use Rattle.std.specs.List.{AllByRecursion};

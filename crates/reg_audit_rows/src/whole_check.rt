@@ -16,6 +16,7 @@ use crate::fault::CheckFault;
 use crate::rows::{Rows, RowsBySerial, check_rows};
 use std::alloc::Global;
 
+/// Checks the derived rows, `beside`, against the sound records, `rows`; `found` has the certificates and revocations by serial number.
 fn check_derived(
     alloc: Global,
     rows: &Rows<'_>,
@@ -36,9 +37,9 @@ fn check_derived(
     same_rows(alloc, RegisterTable::Listed, beside.listed, listed)
 }
 
-/// Checks that the rows are those of sound records (`ReachedRows`), and that the derived tables match these: the letters, their counts, and the
-/// entries of CRLs. The bytes of CRLs are not checked. Errors: `Memory`; `Broken` with a row that breaks a rule. The check takes
-/// O(n log n) steps for n rows, and one step for each pair of a revocation and a CRL.
+/// Checks that `rows` are those of sound records (`ReachedRows`), and that the derived rows, `beside`, match the records: the letter of each
+/// certificate (good, revoked or expired), the counts of letters, and the entries of CRLs. The bytes of CRLs are not checked. Errors: `Memory`;
+/// `Broken` with a row that breaks a rule. The check takes O(n log n) steps for n rows, and one step for each pair of a revocation and a CRL.
 pub fn check(
     alloc: Global,
     rows: &Rows<'_>,

@@ -6,8 +6,7 @@ ghost use Rattle.reg_core.specs.Calendar.{IsMoment, Spells, two_digits};
 use jiff::ToSpan;
 use jiff::civil::{Date, date};
 
-/// A date of the Gregorian calendar with a time of day in UTC, without leap seconds. [`Moment::civil`](crate::Moment::civil) gives
-/// years from 1970 to 9999, months and days from 1 on, and hours, minutes and seconds from 0 on.
+/// A date of the Gregorian calendar (months and days from 1 on) and a time of day in UTC, without leap seconds. A moment's year is 1970 to 9999.
 #[derive(Clone, Copy, PartialEq, Eq)]
 pub struct Civil {
     pub year: u16,
@@ -106,6 +105,7 @@ impl Civil {
     }
 }
 
+/// The date so many days after 1970-01-01. 10000-01-01 is 2,932,897 days after it.
 fn date_after_epoch(days: u64) -> Date
     requires { days < 2932897 }
     ensures { epoch_day result ≡ pos days }
@@ -116,6 +116,7 @@ fn date_after_epoch(days: u64) -> Date
     }
 }
 
+/// The days from 1970-01-01 to a day; `None` if it is earlier.
 fn days_since_epoch(day: Date) -> Option<u64>
     ensures { MatchOption result (epoch_day day <ℤ pos 0)
         (λ n. (n < 2932897) × (epoch_day day ≡ pos n)) }

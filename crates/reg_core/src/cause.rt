@@ -8,17 +8,14 @@ use std::io::ErrorKind;
 #[derive(Clone, Copy, PartialEq, Eq)]
 pub enum Cause {
     NoFile,
-    /// Permission denied, or the file system is read-only.
     NoPermission,
     /// Another program has the file open, or listens at the socket.
     InUse,
     /// The file is not what was written, or not a database.
     Damaged,
     DiskFull,
-    /// Something exists at the path already.
     PathExists,
     PortInUse,
-    /// The machine's clock can't be read.
     Clock,
     /// The latest CRL is signed with another algorithm than the signer's, or there is no signer now.
     OtherAlgorithm,
@@ -116,7 +113,7 @@ pub fn port_cause_of(kind: ErrorKind) -> Option<Cause>
     }
 }
 
-/// The cause for the first value that is out of its range, as in [`Policy::new`](crate::Policy::new); `None` if all are in range.
+/// The cause for the first value out of its range, as in [`Policy::new`](crate::Policy::new), which has the units, too; `None` if all are in range.
 #[tactic(auto, unfolding(crate::specs::Causes::policy_cause))]
 pub fn policy_cause_of(days: u64, crl_life: u64, ocsp_life: u64, cap: u64) -> Option<Cause>
     ensures { result ≡ policy_cause days crl_life ocsp_life cap }

@@ -12,7 +12,7 @@ pub enum Change<'a> {
     Request(RequestRow),
     /// The request with this id is declined.
     Decline(u64),
-    /// A new revocation, of a certificate with this notAfter.
+    /// A new revocation, and its certificate's notAfter, which decides the last CRL that lists it.
     Revocation(RevocationRow, Moment),
     /// A new CRL, with its DER.
     Crl(CrlRow, &'a [u8]),

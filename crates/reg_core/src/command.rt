@@ -28,7 +28,6 @@ pub enum Command {
         serial: Serial,
         ground: Label,
     },
-    /// Declines a request for revocation.
     Decline {
         request: u64,
     },
@@ -95,9 +94,7 @@ pub struct Overdue {
 /// The reply to an accepted command or to a query.
 #[derive(Clone, Copy, PartialEq, Eq)]
 pub enum Reply {
-    /// The id of the subscriber that was entered.
     Subscriber { id: u64 },
-    /// The id of the order that was entered.
     Order { id: u64 },
     Registered,
     /// The same certificate, equal in all fields, was registered already.

@@ -1,5 +1,5 @@
-//! The pure decisions. Each takes the rows that the caller looked up for one command, and returns the first refusal that applies, or
-//! the row to add or change. No decision changes anything.
+//! The pure decisions: each takes the rows that the caller looked up for one command, and gives the first refusal that applies, or the row to write.
+//! `head` has the moments, the policy, and in `held` the number of rows in the table to which the command would add a row.
 
 ghost use Rattle.std.specs.Prelude.{◌≡◌, ℕ, ◌+◌, ◌<◌, ◌^◌, false, IfSome, ⊤};
 ghost use Rattle.reg_core.specs.Checks.{clock_checks, first_refusal, live_checks, pending_request_checks, validity_checks, refused_if};
@@ -14,8 +14,7 @@ use crate::rows::{CertRow, CrlRow, Head, OrderRow, RequestRow, RevocationRow, Su
 
 const SECONDS_OF_DAY: u64 = 86_400;
 
-/// Checks that the moment is before the clock's end, and not before the last accepted moment.
-/// Refusals: `ClockEnd` from 9999-12-22T00:00:00Z on; else `ClockBack` before the last accepted moment.
+/// Checks the moment of a command. Refusals: `ClockEnd` from 9999-12-22T00:00:00Z on; else `ClockBack` if it is before `last`, the last accepted one.
 pub fn clock(now: Moment, last: Moment) -> Result<(), Refusal>
     ensures { IsDecidedBy (first_refusal (clock_checks now last)) (λ _. ⊤) result }
 {
@@ -153,8 +152,8 @@ pub fn decide_decline(
     })
 }
 
-/// The row of the new revocation, and whether it is after the request's deadline. `certificate` and `revocation` are those of
-/// the request's serial number, `latest` is the CRL that was issued last.
+/// The row of the new revocation, whose `first` is the number of the first CRL to list it; and whether it is late. `certificate` and `revocation`
+/// are of the request's serial number, `latest` the newest CRL.
 /// Refusals: those of [`clock`]; then `NoRequest`, `DeclinedBefore`, `RevokedBefore`, `Expired`.
 pub fn decide_revoke(
     head: &Head,
@@ -167,6 +166,7 @@ pub fn decide_revoke(
     ensures { DecidesRevoke head.entry.now request certificate revocation latest result }
 {
     let request = pending_request(head, request, certificate, revocation)?;
+    // Not by `deadline()`, which requires that receipt is before the clock's end.
     let late = head.now.secs() > request.received.secs() + request.ground.limit_secs();
     let row = RevocationRow {
         serial: request.serial,
@@ -212,7 +212,7 @@ fn is_full(head: &Head) -> bool
     head.held >= head.policy.cap()
 }
 
-/// The number of the next CRL.
+/// The number of the next CRL; the first one has number 1.
 fn next_number(latest: Option<CrlRow>) -> u64
     requires { IfSome latest (λ crl. crl.number < 10 ^ 18) }
     ensures { result ≡ number_after latest }
@@ -233,6 +233,7 @@ fn check_validity(head: &Head, wanted: &CertRow, order: &OrderRow) -> Result<(),
         return Err(Refusal::BadValidity);
     }
     let longest = head.policy.schedule().longest(wanted.not_before);
+    // From notBefore through notAfter, both included (RFC 5280 4.1.2.5).
     let seconds = wanted.not_after.secs() - wanted.not_before.secs() + 1;
     if seconds > SECONDS_OF_DAY * order.days.min(longest) {
         return Err(Refusal::TooLong);
@@ -243,7 +244,7 @@ fn check_validity(head: &Head, wanted: &CertRow, order: &OrderRow) -> Result<(),
     Ok(())
 }
 
-/// Checks that the certificate is not revoked, and not past notAfter. The first check passes without a revocation, the second without a certificate.
+/// Checks that there is no revocation, and that the certificate, if there is one (in sound records there is), isn't past notAfter.
 fn check_live(
     now: Moment,
     certificate: Option<CertRow>,

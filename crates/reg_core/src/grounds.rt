@@ -3,22 +3,26 @@ ghost use Rattle.reg_core.specs.Grounds.{ground_or_refusal, limit_of, reason_of}
 
 use crate::refusal::Refusal;
 
-/// A ground of revocation (docs/RULES.md, "Grounds").
+/// A ground of revocation: why a certificate is to be revoked (docs/RULES.md, "Grounds").
 #[derive(Clone, Copy, PartialEq, Eq)]
 pub enum Ground {
     /// The subscriber asks for it.
     Asked,
+    /// The subscriber did not authorize the order of the certificate.
     Unauthorized,
     /// The private key is no longer the subscriber's alone.
     KeyCompromise,
     /// The control of the certificate's names can't be relied upon.
     ControlLost,
+    /// The affiliation of the certificate's subject has changed (affiliationChanged).
     Affiliation,
     Superseded,
     /// The operation for which the certificate was issued has ended.
     Cessation,
     Misuse,
+    /// A name in the certificate may no longer be used.
     NameNotPermitted,
+    /// The certificate was not issued as the rules for the CA require.
     Nonconforming,
     /// The certificate has inaccurate information.
     Inaccurate,

@@ -8,10 +8,10 @@ use std::marker::Model;
 
 const MAX_BYTES: usize = 64;
 
-/// A short text: 1 to 64 bytes of any value. Its model in contracts is the list of its bytes.
+/// A short text, such as a name or a line of a reply, in an array: 1 to 64 bytes of any value. Its model in contracts is the list of its bytes.
 #[derive(Clone, Copy, Eq)]
 pub struct Label {
-    /// The text, then zeros.
+    /// The text, of `len` bytes, then zeros.
     bytes: [u8; MAX_BYTES],
     len: usize,
 }
@@ -70,7 +70,6 @@ impl Label {
         }
     }
 
-    /// The bytes of the text.
     pub fn as_bytes(&self) -> &[u8]
         ensures bytes { result.now ≡ self.now }
         ensures label { IsLabel result.now }

@@ -1,11 +1,11 @@
-//! Laws of octets, INTEGERs, serial numbers and texts. The functions do nothing: their contracts are the laws. Proofs in other crates cite them by
-//! `proofs/PublicLaws.antt`.
+//! Laws of octets, INTEGERs, serial numbers, moments and texts: contracts of functions that do nothing. Proofs cite them by `proofs/PublicLaws.antt`.
 
 ghost use Rattle.reg_core.specs.Laws.{OctetsAreDigits, OctetsAreBelow, ZerosCountNothing, OneSpelling, OctetsAreLowest, OctetsInOrder};
 ghost use Rattle.reg_core.specs.Laws.{IntegersAreSpelled, OneInteger, OneNumber, IntegersAreShort, SerialsInOrder, OneSerial};
 ghost use Rattle.reg_core.specs.Laws.{OneMoment, NumbersAreRead, SerialsAreRead, WrittenNumbersAreRead, WrittenSerialsAreRead};
 
-/// The number that big-endian octets encode, and the octets that encode a number.
+/// Big-endian octets are the digits of a number in base 256: n octets encode each number below 256^n once, and leading zeros don't change the
+/// number. The lowest n octets of a number encode its remainder by 256^n.
 pub fn octets_are_digits()
     ensures places { OctetsAreDigits }
     ensures below { OctetsAreBelow }
@@ -19,8 +19,7 @@ pub fn octets_in_order()
     ensures { OctetsInOrder }
 {}
 
-/// A number below 2^160 has one INTEGER, and no other number has it (X.690 8.3). It has at most 21 octets, and that of a serial number
-/// at most 20 (RFC 5280 4.1.2.2).
+/// Each number below 2^160 has one INTEGER (X.690 8.3), which no other has: at most 21 contents octets, 20 for a serial number (RFC 5280 4.1.2.2).
 pub fn one_integer()
     ensures spelled { IntegersAreSpelled }
     ensures one { OneInteger }
@@ -39,7 +38,7 @@ pub fn one_moment()
     ensures { OneMoment }
 {}
 
-/// A number, or a serial number, is read from exactly the texts that write it. One of these is its own text.
+/// A number, or a serial number, is read from exactly the texts that spell it; `Decimal` (below 10^18) and `Serial` write one of them.
 pub fn texts_are_read()
     ensures numbers { NumbersAreRead }
     ensures serials { SerialsAreRead }

@@ -3,8 +3,7 @@ ghost use Rattle.std.specs.Prelude.{◌≡◌, ◌≢◌, ℕ, ◌+◌, ◌≤�
 use crate::calendar::Civil;
 use std::marker::Model;
 
-/// A moment in whole seconds since 1970-01-01T00:00:00Z, from 0 to 253,402,300,799
-/// (9999-12-31T23:59:59Z, RFC 5280 4.1.2.5). Its model in contracts is the number of seconds.
+/// A moment in whole seconds since 1970-01-01T00:00:00Z, to 9999-12-31T23:59:59Z (RFC 5280 4.1.2.5). Its model in contracts is this number.
 #[derive(Clone, Copy, PartialEq, Eq, PartialOrd, Ord)]
 pub struct Moment {
     seconds: u64,
@@ -28,15 +27,15 @@ const END: u64 = 253_402_300_800;
 impl Moment {
     ghost use Rattle.reg_core.specs.Calendar.{IsMoment, IsCivil, IsCivilAt, civil_of, moment_of, moment_text};
 
-    /// 1970-01-01T00:00:00Z, where the register's clock begins.
+    /// 1970-01-01T00:00:00Z, the last accepted moment of a new register.
     pub const EPOCH: Moment = Moment { seconds: 0 };
 
-    /// 9999-12-22T00:00:00Z: the register accepts no moment from then on (`Refusal::ClockEnd`).
+    /// 9999-12-22T00:00:00Z. The register accepts no moment from then on (`ClockEnd`), so that each nextUpdate, under ten days later, is a moment.
     pub const CLOCK_END: Moment = Moment {
         seconds: 253_401_436_800,
     };
 
-    /// The moment that many seconds after 1970-01-01T00:00:00Z; `None` from the year 10000 on.
+    /// The moment this many seconds after 1970-01-01T00:00:00Z; `None` from the year 10000 on.
     pub fn of_secs(seconds: u64) -> Option<Moment>
         ensures { MatchOption result (253402300800 ≤ seconds) (λ m. (m ≡ seconds) × IsMoment seconds) }
     {
@@ -47,7 +46,7 @@ impl Moment {
         }
     }
 
-    /// The moment that many seconds later.
+    /// The moment this many seconds later.
     pub fn plus(self, seconds: u64) -> Moment
         requires { IsMoment (self + seconds) }
         ensures { result ≡ self + seconds }
@@ -74,8 +73,7 @@ impl Moment {
         Civil::at(self.secs())
     }
 
-    /// Reads the text of a moment: `YYYY-MM-DDTHH:MM:SSZ` (RFC 3339 5.6), with a date that exists, from the year 1970 on, hours
-    /// 00 to 23, minutes and seconds 00 to 59. `None` for any other bytes, so for an offset other than `Z`, a fraction or lower case.
+    /// Reads `YYYY-MM-DDTHH:MM:SSZ` (RFC 3339 5.6), a date and time that exist, from 1970 on, and no leap second; `None` for any other bytes.
     pub fn read(bytes: &[u8]) -> Option<Moment>
         ensures found { IfSome result (λ m. IsMoment m × (bytes.now ≡ moment_text m)) }
         ensures none { IfNone result ((m : ℕ) → IsMoment m → bytes.now ≢ moment_text m) }

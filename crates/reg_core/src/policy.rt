@@ -17,7 +17,7 @@ const SHORTEST_OCSP_LIFE: u64 = 28_800;
 /// The most rows of a table that a policy may allow.
 const LARGEST_CAP: u64 = 1_000_000;
 
-/// The policy of a register. Its model in contracts is the record `Terms`.
+/// The policy of a register. Lives are seconds from thisUpdate to nextUpdate; `cap` is the most rows of a table. Its model is the record `Terms`.
 #[derive(Clone, Copy, PartialEq, Eq)]
 pub struct Policy {
     schedule: Schedule,
@@ -54,9 +54,8 @@ impl Model for Policy {
 }
 
 impl Policy {
-    /// The policy with one longest validity in days, the lives of CRLs and OCSP responses in seconds, and the most rows
-    /// of a table. `None` if `longest_days` is not 1 to 398, `crl_life` is not 1 to 863,999, `ocsp_life` is not 28,800 to
-    /// 863,999, or `cap` is not 1 to 1,000,000.
+    /// The policy with a longest validity of 1 to 398 days at any notBefore, 1 to 863,999 seconds from thisUpdate to nextUpdate of CRLs and
+    /// 28,800 to 863,999 of OCSP responses, and a limit of 1 to 1,000,000 rows for each table; `None` if a value is out of its range.
     pub fn new(longest_days: u64, crl_life: u64, ocsp_life: u64, cap: u64) -> Option<Policy>
         ensures some { IsSome result ↔ IsPolicy (record {
           schedule = one_step longest_days;
@@ -76,7 +75,7 @@ impl Policy {
         Policy::with(schedule, crl_life, ocsp_life, cap)
     }
 
-    /// The policy with a schedule of longest validities; the other values, and `None` for them, as in [`Policy::new`].
+    /// As [`Policy::new`], but with a schedule of longest validities.
     pub fn with(schedule: Schedule, crl_life: u64, ocsp_life: u64, cap: u64) -> Option<Policy>
         ensures some { IsSome result ↔ IsPolicy (record {
           schedule = schedule;
@@ -107,7 +106,7 @@ impl Policy {
         })
     }
 
-    /// The default policy: 398 days of validity, lives of eight days for CRLs and four for OCSP responses, 1,000,000 rows of a table.
+    /// The default policy: 398 days of validity; nextUpdate eight days after thisUpdate for CRLs, four for OCSP responses; 1,000,000 rows of a table.
     pub fn usual() -> Policy
         ensures { result ≡ record
             { schedule = one_step 398; crl_life = 691200; ocsp_life = 345600; cap = 1000000 } }

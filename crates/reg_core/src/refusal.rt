@@ -13,7 +13,7 @@ use crate::number::Decimal;
 pub enum Refusal {
     /// E01: the moment is before the last accepted one.
     ClockBack { last: Moment },
-    /// E02: the moment is 9999-12-22T00:00:00Z or later.
+    /// E02: the moment is 9999-12-22T00:00:00Z or later, so a nextUpdate might be no moment.
     ClockEnd,
     /// E03: the table that would grow has reached the policy's limit of rows.
     Full,
@@ -57,7 +57,7 @@ pub enum Refusal {
     Syntax,
 }
 
-/// Why a command, a query or a job of the program has no reply: a refusal, or a failure of memory, store, signer, input or output.
+/// Why a command, a query or a job of the program did not succeed: a refusal, or a failure of memory, store, signer, input or output.
 #[derive(Clone, Copy, PartialEq, Eq)]
 pub enum Fault {
     Refused(Refusal),

@@ -95,8 +95,7 @@ pub struct Entry {
     pub reason: u8,
 }
 
-/// The input that all decisions share, besides the looked-up rows and the command's own fields. A decision that adds no row, or only a
-/// revocation, uses neither `policy` nor `held`.
+/// What each decision takes besides the looked-up rows and the command's own fields. To decline or revoke, `policy` and `held` are not used.
 #[derive(Clone, Copy, PartialEq, Eq)]
 pub struct Head {
     /// The moment of the command.

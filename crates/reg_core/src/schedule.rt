@@ -5,14 +5,15 @@ ghost use Rattle.std.specs.List.{AllByRecursion};
 use crate::moment::Moment;
 use std::marker::Model;
 
+/// The most steps of a schedule. It has an array of this length, and no `Vec`, so that a policy is `Copy`.
 const MAX_STEPS: usize = 16;
 
 /// The longest validity in days that a step may allow: the first limit in the CA/Browser Forum Baseline Requirements 6.3.2.
 const MAX_DAYS: u64 = 398;
 
-/// A schedule of longest validities, as the CA/Browser Forum Baseline Requirements 6.3.2 lower them by date. It has 1 to 16
-/// steps, each a moment and the most days of validity from then on. The first is at moment 0, the moments ascend strictly,
-/// and the days are 1 to 398. Its model in contracts is the list of the steps.
+/// A schedule of longest validities, as the CA/Browser Forum Baseline Requirements 6.3.2 lower them by date: 1 to 16 steps. Each is a moment and the
+/// longest validity, 1 to 398 days, of certificates with a notBefore from that moment to the next step's. The first step is at moment 0, and the
+/// moments ascend strictly. Its model in contracts is the list of the steps.
 #[derive(Clone, Copy)]
 pub struct Schedule {
     /// The steps, then padding: 0 days at moment 0.
@@ -50,8 +51,7 @@ impl Eq for Schedule {
 }
 
 impl Schedule {
-    /// The schedule with these steps. `None` if there are no steps or more than 16, the first is not at moment 0, a moment is
-    /// not after the one before it, or days are not 1 to 398.
+    /// The schedule with these steps; `None` if they are not as [`Schedule`] says.
     pub fn new(steps: &[(Moment, u64)]) -> Option<Schedule>
         ensures some { IsSome result ↔ IsSchedule steps.now }
         ensures value { IfSome result (λ schedule. schedule ≡ steps.now) }
@@ -81,7 +81,6 @@ impl Schedule {
         1 <= days && days <= MAX_DAYS
     }
 
-    /// The steps, in order.
     pub fn steps(&self) -> &[(Moment, u64)]
         ensures steps { result.now ≡ self.now }
         ensures schedule { IsSchedule result.now }

@@ -46,7 +46,7 @@ impl Model for Serial {
     ghost inverse = { λ number. record { high = number / 2 ^ 128; low = number % 2 ^ 128 } };
 }
 
-// The comparisons are written out so that contracts compare the numbers and not the halves.
+// The comparisons are written out so that contracts compare the numbers, and not `high` and `low`.
 impl PartialEq for Serial {
     ghost eq = { ◌==◌ };
 
@@ -86,8 +86,7 @@ impl PartialOrd for Serial {
 }
 
 impl Serial {
-    /// Reads 1 to 40 hexadecimal digits of either case; leading zeros are allowed. `None` for any other text, for 0,
-    /// and for a number above 2^159 - 1.
+    /// Reads 1 to 40 hexadecimal digits of either case, also with leading zeros. `None` for any other text, for 0, and from 2^159 on.
     pub fn read(text: &[u8]) -> Option<Serial>
         ensures read { MatchOption result ((n : ℕ) → ¬ IsSerialText text.now n) (IsSerialText text.now) }
         ensures exact { result ≡ serial_of text.now }
@@ -99,8 +98,7 @@ impl Serial {
         Serial::of_halves(read_digits(high, 16)?, read_digits(low, 16)?)
     }
 
-    /// Reads the contents octets of a DER INTEGER (X.690 8.3). `None` if there are no octets, if fewer octets would do
-    /// (X.690 8.3.2), for 0, for a negative number, and for a number above 2^159 - 1.
+    /// Reads the contents octets of a DER INTEGER (X.690 8.3). `None` if there are none, if fewer would do, for 0 or less, and from 2^159 on.
     pub fn from_der(octets: &[u8]) -> Option<Serial>
         ensures read { MatchOption result ((n : ℕ) → IsSerial n → ¬ IsInteger octets.now n)
             (λ n. IsSerial n × IsInteger octets.now n) }
@@ -113,8 +111,7 @@ impl Serial {
         }
     }
 
-    /// The serial number in exactly 20 big-endian bytes, as [`Serial::bytes20`] gives them. `None` for another length, for
-    /// 0, and for a number above 2^159 - 1.
+    /// The serial number in exactly 20 big-endian bytes, as [`Serial::bytes20`] gives them. `None` for another length, for 0, and from 2^159 on.
     pub fn from_bytes20(bytes: &[u8]) -> Option<Serial>
         ensures { MatchOption result ((n : ℕ) → IsSerial n → bytes.now ≢ serial_bytes n)
             (λ n. IsSerial n × (bytes.now ≡ serial_bytes n)) }
@@ -175,8 +172,7 @@ impl Serial {
     }
 }
 
-/// Whether the contents octets of an INTEGER are the fewest: the first nine bits are neither all zero nor all one
-/// (X.690 8.3.2).
+/// Whether these are the fewest contents octets of an INTEGER: at least one, and the first nine bits neither all zero nor all one (X.690 8.3.2).
 fn is_shortest(octets: &[u8]) -> bool
     ensures { IsTrue result ↔ IsShortest octets.now }
 {

@@ -10,13 +10,12 @@ use crate::moment::Moment;
 use crate::policy::Policy;
 use crate::rows::{CertRow, CrlRow, RevocationRow};
 
-/// A week: the next CRL is due at most this long after thisUpdate of the latest one.
+/// A week: the next CRL is due at most this long after thisUpdate of the latest one (CA/Browser Forum Baseline Requirements 4.9.7).
 const SECONDS_OF_WEEK: u64 = 604_800;
-/// A day: the next CRL is due at most this long after a revocation that no CRL has listed.
+/// A day: the next CRL is due at most this long after a revocation that no CRL has listed (Baseline Requirements 4.9.7).
 const SECONDS_OF_DAY: u64 = 86_400;
 
-/// The status of a serial number at a moment, by its certificate and its revocation. `Unknown` without a certificate; else
-/// `Revoked` with a revocation; else `Expired` after notAfter; else `Good`, even before notBefore.
+/// The status at `now`: `Unknown` without a certificate, else `Revoked` with a revocation, else `Expired` after notAfter, else `Good`.
 pub fn status_of(
     now: Moment,
     certificate: Option<CertRow>,
@@ -35,8 +34,8 @@ pub fn status_of(
     }
 }
 
-/// When the next CRL is due: a week after thisUpdate of the latest one, at its nextUpdate (RFC 5280 5.1.2.5), or a day after
-/// the earliest revocation that no CRL has listed, whichever is first. `None` if there is no CRL: then it is due at once.
+/// When the next CRL is due: a week after thisUpdate of the latest one, at its nextUpdate (RFC 5280 5.1.2.5), or a day after `earliest_unlisted`, the
+/// earliest revocation that no CRL has listed, whichever is first. `None` if there is no CRL: then one is due at once.
 pub fn due_of(
     policy: &Policy,
     latest: Option<CrlRow>,

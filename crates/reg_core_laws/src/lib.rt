@@ -1,4 +1,4 @@
-//! The laws of the register's definitions. No law here is about code.
+//! Laws of reg_core's definitions, about runs of commands (specs/Run.antt) over records. No law here is about code.
 #![tactic(auto)]
 
 pub mod examples;

@@ -3,8 +3,7 @@ ghost use Rattle.reg_core_lists.specs.Cursors.{cursor_named, cursor_past, list_n
 
 use reg_core::{Moment, Serial, read_number};
 
-/// A list, and the key after which it continues. With `None` or 0 it begins with the first row, because serial numbers, ids and CRL
-/// numbers are above 0.
+/// A list, and the key (a serial number, an id or a CRL number, above 0) after which it continues; with `None` or 0, from its first row on.
 #[derive(Clone, Copy)]
 pub enum Cursor {
     /// The revocations, in the order of their serial numbers.
@@ -27,8 +26,7 @@ pub enum Cursor {
 }
 
 impl Cursor {
-    /// The list with this name, from its first row on. `None` if no list has this name, if it is `ending` and there is no moment `before`, or
-    /// if it is another list and there is one.
+    /// The list with this name, from its first row on. `None` for an unknown name, for `ending` without `before`, and for another list with it.
     pub fn named(name: &[u8], before: Option<Moment>) -> Option<Cursor>
         ensures { result ≡ cursor_named name.now before }
     {
@@ -59,7 +57,6 @@ impl Cursor {
         }
     }
 
-    /// The name of the list.
     pub(crate) fn name(self) -> &'static str
         ensures { result.now ≡ list_name self }
     {
@@ -77,6 +74,7 @@ impl Cursor {
     }
 }
 
+/// The list `ending`, the only one that takes a moment; `None` for another name.
 fn ending(name: &[u8], before: Moment) -> Option<Cursor>
     ensures { result ≡ cursor_named name.now (Some before) }
 {
@@ -90,7 +88,7 @@ fn ending(name: &[u8], before: Moment) -> Option<Cursor>
     }
 }
 
-/// A list that takes no moment.
+/// The list with this name that takes no moment; `None` if there is none.
 fn without_moment(name: &[u8]) -> Option<Cursor>
     ensures { result ≡ cursor_named name.now None }
 {

@@ -1,4 +1,4 @@
-//! The rows of a page of the changes feed, their text, and the positions after them.
+//! The rows of a page of the changes feed, their text, and the positions after them: how far a copy of the register has got.
 
 ghost use Rattle.std.specs.Prelude.{◌≡◌, ◌+◌, codes, cond, length, option_map, IfOk, IfSome};
 ghost use Rattle.std.specs.List.{before_first, position};
@@ -15,10 +15,10 @@ use std::alloc::{AllocError, Global};
 /// The most rows of a page.
 pub const MOST_ROWS: u64 = 1_000;
 
-/// The digest of positions covers at most so many octets, the last ones of the last CRL.
+/// How many of the last octets of the last CRL, in which its signature ends, the digest of positions covers, at most.
 const END_OCTETS: usize = 64;
 
-/// Rows of the changes feed, but for CRLs.
+/// Rows of the changes feed, without CRLs.
 #[derive(Drop)]
 pub struct FeedRows {
     pub subscribers: Vec<SubscriberRow>,
@@ -96,7 +96,7 @@ fn after<T>(count: u64, rows: &[T]) -> Option<u64>
     count.checked_add(rows.len() as u64)
 }
 
-/// The revocations before the first one that the next CRL, `crls` + 1, can't list, since `first` is a later one: in the feed it comes after that CRL.
+/// The revocations before the first one whose `first` is above `crls` + 1. The copy has `crls` CRLs, and the next one comes before such a revocation.
 #[tactic(auto, using(crate::proofs::FeedCuts::cut_at, crate::proofs::FeedCuts::cut_nowhere))]
 pub fn before_later(mut rows: Vec<RevocationRow>, crls: u64) -> Vec<RevocationRow>
     ensures { result.items ≡ before_first (is_later crls) rows.items }
@@ -115,7 +115,7 @@ fn later_in(rows: &[RevocationRow], crls: u64) -> Option<usize>
         .position(|row| row.first.saturating_sub(1) > crls)
 }
 
-/// A page of the changes feed, after its head.
+/// A page of the changes feed, without its head (the lines before the rows).
 #[derive(Drop)]
 pub struct FeedPage {
     rows: FeedRows,
@@ -129,7 +129,7 @@ pub struct FeedPage {
 }
 
 impl FeedPage {
-    /// The page with these rows after positions, or with the next CRL if there are no rows. `None` if a number is above 2^64 - 1.
+    /// The page after the positions `counts` and `declines`: `rows`, or the CRL `next` if there are none. `None` if a number is above 2^64 - 1.
     pub fn of(
         rows: FeedRows,
         next: Option<FeedCrl>,
@@ -140,6 +140,7 @@ impl FeedPage {
             page_parts_of page ≡ page_parts (feed_rows_of rows) (option_map feed_crl_of next) counts.now declines.now) }
     {
         let room = rows.room();
+        // `next` comes after the rows, or is on this page and revocations may come after it. More rows may come after a full page.
         let ends = next.is_none() && room > 0;
         let crl = if room == MOST_ROWS { next } else { None };
         let reached = rows.counts_after(counts, count_of(&crl))?;
@@ -222,8 +223,7 @@ fn put_ending(out: &mut Vec<u8>, ends: bool) -> Result<(), AllocError>
 
 // ---- the digest of positions
 
-/// The digest of the positions with these counts: the SHA-256 of the issuer's Name and key, the counts, the last rows of each table and the end of
-/// the last CRL. `AllocError` if out of memory.
+/// The digest of positions: the SHA-256 of the issuer's Name and key, the counts, the last rows of each table, and the end of the last CRL, `der`.
 #[tactic(auto, unfolding(crate::specs::Feed::digest_text))]
 pub fn digest_of(
     alloc: Global,

@@ -19,7 +19,6 @@ pub trait FeedLine {
 
     ghost line: { Self → List ℕ };
 
-    /// Appends the line.
     fn put_line(&self, out: &mut Vec<u8>) -> Result<(), AllocError>
         ensures { AppendsOnOk out.old out.new result (line self.now) };
 }
@@ -67,7 +66,7 @@ impl FeedLine for CertRow {
     }
 }
 
-/// The line does not say whether the request is declined.
+/// The line does not say whether the request is declined: that is a line of its own.
 impl FeedLine for RequestRow {
     ghost line = { request_line };
 
@@ -97,7 +96,6 @@ impl FeedLine for RevocationRow {
     }
 }
 
-/// The lines of rows.
 pub(crate) fn put_lines<T: FeedLine>(out: &mut Vec<u8>, rows: &[T]) -> Result<(), AllocError>
     ensures { AppendsOnOk out.old out.new result (flat_map T.line rows.now) }
 {
@@ -107,7 +105,6 @@ pub(crate) fn put_lines<T: FeedLine>(out: &mut Vec<u8>, rows: &[T]) -> Result<()
     Ok(())
 }
 
-/// The lines of declined requests, by their ids.
 pub(crate) fn put_declined(out: &mut Vec<u8>, ids: &[u64]) -> Result<(), AllocError>
     ensures { AppendsOnOk out.old out.new result (flat_map declined_line ids.now) }
 {
@@ -117,7 +114,7 @@ pub(crate) fn put_declined(out: &mut Vec<u8>, ids: &[u64]) -> Result<(), AllocEr
     Ok(())
 }
 
-/// A CRL: its line, which says how many octets it has, and these.
+/// A CRL: its line, which has the number of its octets; the octets, `der`; and an LF.
 #[tactic(auto, unfolding(crate::specs::FeedLines::crl_feed_text))]
 pub(crate) fn put_crl(out: &mut Vec<u8>, row: &CrlRow, der: &[u8]) -> Result<(), AllocError>
     ensures { AppendsOnOk out.old out.new result (crl_feed_text row.now der.now) }
@@ -135,7 +132,7 @@ pub(crate) fn put_crl_line(out: &mut Vec<u8>, row: &CrlRow, octets: u64) -> Resu
     put_fields(out, "crl", &[number, this_update, Cell::Number(octets)])
 }
 
-/// A line of a word and fields.
+/// A line: the word, then each field after a space.
 #[tactic(auto, unfolding(crate::specs::FeedLines::feed_line))]
 fn put_fields(out: &mut Vec<u8>, word: &str, fields: &[Cell]) -> Result<(), AllocError>
     ensures { AppendsOnOk out.old out.new result (feed_line word.now fields.now) }
@@ -158,8 +155,8 @@ fn put_each(out: &mut Vec<u8>, fields: &[Cell]) -> Result<(), AllocError>
 
 // ---- the lines before the rows
 
-/// The lines before the rows: the format, the issuer (the columns `name` and `pubkey` of the table `office`, in hexadecimal digits), the policy, its
-/// schedule, and the last accepted moment.
+/// The lines before the rows: the version of the feed, 1; the issuer; the policy; its schedule; the last accepted moment, `last`. `stored_name` and
+/// `key` are the octets in the columns `name` and `pubkey` of the table `office`.
 #[tactic(auto, unfolding(crate::specs::FeedLines::page_head))]
 pub fn put_head(
     alloc: Global,
@@ -178,7 +175,7 @@ pub fn put_head(
     put_fields(out, "last", &[Cell::At(last)])
 }
 
-/// The line with an issuer's name and key in hexadecimal digits.
+/// The line with an issuer's name and key, which it encodes in hexadecimal digits. For a digest of positions, `stored_name` is only the Name.
 #[tactic(auto, unfolding(crate::specs::FeedLines::issuer_line))]
 pub(crate) fn put_issuer(
     alloc: Global,
@@ -232,6 +229,7 @@ fn put_steps(out: &mut Vec<u8>, steps: &[(Moment, u64)]) -> Result<(), AllocErro
     Ok(())
 }
 
+/// A step: a space, the moment from which it holds, `=`, and the longest validity in days.
 fn put_step(out: &mut Vec<u8>, from: Moment, days: u64) -> Result<(), AllocError>
     ensures { AppendsOnOk out.old out.new result (step_text (from, days)) }
 {

@@ -56,7 +56,6 @@ pub enum PageFault {
     Version,
     /// It is not the text of a page of this version.
     Malformed,
-    /// Out of memory.
     Memory,
 }
 
@@ -70,7 +69,7 @@ impl From<AllocError> for PageFault {
     }
 }
 
-/// Reads a page. Its numbers must be below 10^18, and its policy and names those that the register allows. No other page like this has the same text.
+/// Reads a page. Its numbers must be below 10^18, and its policy and names those that the register allows. A text is that of at most one such page.
 pub fn read_feed_page(alloc: Global, page: &[u8]) -> Result<ReceivedPage, PageFault>
     ensures text { IfOk result (λ read. page.now ≡ received_text (received_of read)) }
     ensures alone { IfOk result (λ read. IsAlone (received_of read).parts) }
@@ -103,7 +102,7 @@ fn read_parts(alloc: Global, page: &[u8]) -> Result<Option<ReceivedPage>, AllocE
     }
 }
 
-/// The page with these parts, unless it has both a CRL and other rows.
+/// The page with these parts; `None` if it has both a CRL and other rows. Without rows, `room` is `MOST_ROWS`.
 fn page_with(
     head: FeedHead,
     rows: FeedRows,
@@ -126,7 +125,7 @@ fn page_with(
     })
 }
 
-/// The rows, the CRL if there is one, and the last line, up to the end of the page.
+/// The rows, the CRL if there is one, and the last line (whether nothing follows the page, and the positions after it), up to the end of the page.
 fn read_after_head(
     alloc: Global,
     text: &[u8],
@@ -197,7 +196,7 @@ fn read_head(alloc: Global, page: &[u8]) -> Result<Option<(FeedHead, &[u8])>, Al
     }
 }
 
-/// The head with these fields.
+/// The head with these fields; `None` if one is invalid. A step that can't be read ends the steps: `read_head` then finds another text.
 fn head_with(alloc: Global, fields: &HeadFields) -> Result<Option<FeedHead>, AllocError>
     ensures only { (head : HeadTerms) → IsReadableHead head → head_fields_of fields.now ≡ fields_of_terms head
         → IfOk result (λ found. MatchOption found ⊥ (λ it. head_terms_of it ≡ head)) }
@@ -273,7 +272,7 @@ fn rows_in(alloc: Global, text: &[u8]) -> Result<FeedRows, AllocError>
     })
 }
 
-/// The CRL, if there is one.
+/// The CRL; the inner `None` if there is none.
 fn read_crl(alloc: Global, text: &[u8]) -> Result<Option<(Option<FeedCrl>, &[u8])>, AllocError>
     ensures text { IfOk result (λ found. IfSome found (λ it.
         text.now ≡ crl_part (option_map feed_crl_of it.0) ++ it.1.now)) }
@@ -286,7 +285,7 @@ fn read_crl(alloc: Global, text: &[u8]) -> Result<Option<(Option<FeedCrl>, &[u8]
     }
 }
 
-/// The CRL with this line.
+/// The CRL at the beginning of the text. Its line was read as `row`, and as the number of octets after the line, `octets`.
 #[tactic(auto, unfolding(crate::specs::FeedLines::crl_feed_text))]
 fn read_crl_octets(
     alloc: Global,
@@ -310,7 +309,7 @@ fn read_crl_octets(
     }
 }
 
-/// So many octets after a line, up to the LF after them, and the text after that.
+/// The `octets` octets after the line, and the text after the LF that follows them; `None` if the text does not begin so.
 fn octets_after<'a>(line: &[u8], octets: u64, text: &'a [u8]) -> Option<(&'a [u8], &'a [u8])>
     ensures { MatchOption result ((der rest : List ℕ) → length der ≡ octets → text.now ≢ line.now ++ der ++ 10 ∷ rest)
         (λ it. (length it.0.now ≡ octets) × (text.now ≡ line.now ++ it.0.now ++ 10 ∷ it.1.now)) }

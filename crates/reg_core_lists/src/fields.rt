@@ -1,4 +1,4 @@
-//! The fields of a row: their names and values.
+//! The fields of a row of a list (docs/RULES.md, "Lists"): their names and values. Each parameter `line` is such a row.
 
 ghost use Rattle.std.specs.Prelude.{◌≡◌, ◌≤◌, ◌-◌, IfOk, length, map};
 ghost use Rattle.reg_core_lists.specs.Fields.{certificate_fields, crl_fields, decided_cell, first_listing_cell, ground_name, request_with_state_fields, last_listing_cell, number_or_empty, order_fields, reason_cell, request_fields, revoked_at_cell, revoked_fields, row_fields, serial_or_empty, state_name, status_name, subscriber_fields, field_of_text};
@@ -20,14 +20,12 @@ pub(crate) enum Cell {
     Text(Label),
 }
 
-/// A field of a row.
 #[derive(Clone, Copy)]
 pub(crate) struct Field {
     pub(crate) name: &'static str,
     pub(crate) cell: Cell,
 }
 
-/// The fields of a row.
 pub(crate) fn fields_of(alloc: Global, row: &Row) -> Result<Vec<Field>, AllocError>
     ensures { IfOk result (λ fields. map field_of_text fields.items ≡ row_fields row.now) }
 {
@@ -154,7 +152,6 @@ fn of_crl(alloc: Global, crl: &CrlRow) -> Result<Vec<Field>, AllocError>
     )
 }
 
-/// The field with this name and value.
 fn field_with(name: &'static str, cell: Cell) -> Field
     ensures { field_of_text result ≡ (name.now, cell) }
 {
@@ -180,6 +177,7 @@ fn status_cell(status: Status) -> Cell
     }
 }
 
+/// The state of a request: declined, open, or else the status of its certificate, revoked or expired.
 fn state_cell(declined: bool, status: Status) -> Cell
     ensures { result ≡ Cell.Text (state_name declined status) }
 {
@@ -190,7 +188,7 @@ fn state_cell(declined: bool, status: Status) -> Cell
     }
 }
 
-/// The moment of the revocation; empty for a declined request, because no record has that moment.
+/// When a request was decided: the moment of the revocation, if there is one; empty if declined, because no record says when.
 fn decided_cell_of(declined: bool, status: Status) -> Cell
     ensures { result ≡ decided_cell declined status }
 {
@@ -201,7 +199,7 @@ fn decided_cell_of(declined: bool, status: Status) -> Cell
     }
 }
 
-/// How many seconds `at` is after `due`; 0 if it is not.
+/// How many seconds `at` is after the deadline `due`; 0 if it is not.
 fn seconds_past(due: Moment, at: Moment) -> u64
     ensures { result ≡ at - due }
 {
@@ -269,7 +267,6 @@ pub(crate) fn ground_cell(ground: Ground) -> Cell
     Cell::Text(ground_word(ground))
 }
 
-/// The name of a ground.
 pub fn ground_word(ground: Ground) -> Label
     ensures { result ≡ ground_name ground }
 {

@@ -22,8 +22,7 @@ pub struct Filter {
 }
 
 impl Filter {
-    /// Whether the rows of this list have the fields that the filter needs. A CRL has no subscriber and no serial number, a subscriber
-    /// has only a name, and an order has no time.
+    /// Whether the list's rows have the fields that the filter needs. A CRL has only a time, a subscriber only a name, and an order no time.
     pub fn fits(&self, list: Cursor) -> bool
         ensures { result ≡ fits self.now list }
     {
@@ -89,7 +88,6 @@ fn serial_of_row(row: &Row) -> Option<Serial>
     }
 }
 
-/// The notBefore of a certificate, the moment of a revocation, the receipt of a request, the thisUpdate of a CRL.
 fn time_of_row(row: &Row) -> Option<Moment>
     ensures { result ≡ time_of_row row.now }
 {

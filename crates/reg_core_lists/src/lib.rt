@@ -1,4 +1,4 @@
-//! The lists of a register: their rows, page by page, and their texts as CSV and JSON.
+//! The lists of a register: their rows, pages, and texts as CSV and JSON; and the pages of its changes feed, by which a program copies the register.
 #![tactic(auto)]
 
 mod cursor;

@@ -10,7 +10,7 @@ use crate::cursor::Cursor;
 use crate::filter::Filter;
 use reg_core::{Label, Moment, read_number};
 
-/// The greatest `limit`.
+/// The greatest `limit` that is accepted; one above `MOST_ROWS` counts as `MOST_ROWS`.
 const GREATEST_LIMIT: u64 = 1_000;
 
 /// The most rows that a page reads, whatever its `limit`, so that no other client waits long.
@@ -22,7 +22,6 @@ const MOST_PARAMS: usize = 7;
 /// The most hexadecimal digits of a serial number.
 const MOST_DIGITS: usize = 40;
 
-/// The parameters of a query.
 #[derive(Clone, Copy)]
 struct Params {
     after: Option<Label>,
@@ -39,9 +38,8 @@ pub struct PageQuery {
     pub filter: Filter,
 }
 
-/// Reads the query for a page, from the list's name and its parameters. The page reads at most 250 rows. `None` if there is no
-/// such list, if `before` is missing for `ending` or given for another list, if a parameter has no `=`, is repeated or is none of the seven, if a
-/// value can't be read, if the limit is not 1 to 1,000, or if the rows of the list don't have the fields that the filter needs.
+/// Reads the query for a page. `None` if there is no such list, if `before` is missing for `ending` or given for another list, if a parameter has no
+/// `=`, is repeated, unknown or can't be read, if the limit is not 1 to 1,000, or if the list's rows lack a field that the filter needs.
 pub fn read_page(name: &[u8], query: &[u8]) -> Option<PageQuery>
     ensures { result ≡ page_query name.now query.now }
 {

@@ -12,10 +12,10 @@ use crate::feed_lines::put_issuer;
 use reg_core::{Decimal, read_number};
 use std::alloc::{AllocError, Global};
 
-/// How many of the last rows of each table the digest of positions covers, at most.
+/// The digest of positions covers at most this many rows of each table except `crl`: the last ones. A digest of all rows would take too long.
 pub const WINDOW: u64 = 32;
 
-/// How many rows of each table a copy of a register has, in the order of entry.
+/// How many rows of each table a copy of a register has: the first ones, in the order of entry.
 #[derive(Clone, Copy, PartialEq, Eq)]
 pub struct RowCounts {
     pub subscribers: u64,
@@ -26,7 +26,7 @@ pub struct RowCounts {
     pub crls: u64,
 }
 
-/// The declined requests that a copy of a register has: those up to an id.
+/// How many requests a copy of a register has as declined, and the highest of their ids.
 #[derive(Clone, Copy, PartialEq, Eq)]
 pub struct Declines {
     pub count: u64,
@@ -35,7 +35,8 @@ pub struct Declines {
 }
 
 impl Declines {
-    /// These, if there are so many; else none.
+    /// `count` is how many requests with ids up to `last` the register has as declined. If the copy has as many, this gives its declines. Else it
+    /// gives none, so that the feed has all ids again, because such a request was declined since.
     pub fn if_counted(&self, count: u64) -> Declines
         ensures { result ≡ cond (count == self.now.count) self.now no_declines }
     {
@@ -47,16 +48,16 @@ impl Declines {
     }
 }
 
-/// Positions in the changes feed.
+/// How far a copy of a register has got.
 #[derive(Clone, Copy, PartialEq, Eq)]
 pub struct Positions {
     pub counts: RowCounts,
     pub declines: Declines,
-    /// The SHA-256 of the text of the last rows up to the counts.
+    /// The SHA-256 that `digest_of` makes for the counts.
     pub digest: [u8; 32],
 }
 
-/// Those of a copy that has nothing yet.
+/// The counts of a copy that has nothing yet.
 pub fn zero_counts() -> RowCounts
     ensures { result ≡ zero_counts }
 {
@@ -70,7 +71,7 @@ pub fn zero_counts() -> RowCounts
     }
 }
 
-/// The same for declines.
+/// The declines of a copy that has nothing yet.
 pub fn no_declines() -> Declines
     ensures { result ≡ no_declines }
 {
@@ -78,7 +79,7 @@ pub fn no_declines() -> Declines
 }
 
 impl Positions {
-    /// Reads positions: eight numbers and the digest in 64 hexadecimal digits of either case, with dots between them. `None` for any other text.
+    /// Reads six counts of rows, the two numbers of declines, and the digest in 64 hexadecimal digits, with dots between; `None` for another text.
     #[tactic(auto, unfolding(crate::specs::Positions::positions_of_text))]
     pub fn read(text: &[u8]) -> Option<Positions>
         ensures { result ≡ positions_of_text text.now }
@@ -93,7 +94,6 @@ impl Positions {
         })
     }
 
-    /// Whether this is their digest.
     pub fn has_digest(&self, digest: &[u8; 32]) -> bool
         ensures { IsTrue result ↔ (self.now.digest ≡ digest.now) }
     {
@@ -201,7 +201,7 @@ fn put_part(out: &mut Vec<u8>, number: u64) -> Result<(), AllocError>
     Ok(())
 }
 
-/// Appends the first lines of the text whose digest positions have: the issuer's Name and key in hexadecimal digits, and the counts.
+/// Appends the first two lines of the text that `digest_of` hashes: the issuer's Name, `name`, and key in hexadecimal digits; and the counts.
 #[tactic(auto, unfolding(crate::specs::Positions::window_head))]
 pub(crate) fn put_window_head(
     alloc: Global,

@@ -1,4 +1,4 @@
-//! The rows of lists.
+//! The rows of lists: records, and what a list shows with each.
 
 use crate::cursor::Cursor;
 use reg_core::{
@@ -6,18 +6,17 @@ use reg_core::{
     SubscriberRow,
 };
 
-/// The fields of a certificate at a moment.
 #[derive(Clone, Copy)]
 pub struct ListedCertificate {
     pub certificate: CertRow,
     /// The subscriber whose order the certificate fills.
     pub subscriber: SubscriberRow,
+    /// The certificate's status at the moment of the list.
     pub status: Status,
     /// The CRLs that list the certificate, if it is revoked.
     pub listing: Option<Listing>,
 }
 
-/// The fields of a revocation.
 #[derive(Clone, Copy)]
 pub struct ListedRevocation {
     pub certificate: ListedCertificate,
@@ -28,7 +27,6 @@ pub struct ListedRevocation {
     pub due: Moment,
 }
 
-/// The fields of a request for revocation.
 #[derive(Clone, Copy)]
 pub struct ListedRequest {
     pub request: RequestRow,
@@ -39,18 +37,16 @@ pub struct ListedRequest {
     pub subscriber: SubscriberRow,
 }
 
-/// A request and its state at a moment.
+/// A request and its state at the moment of the list.
 #[derive(Clone, Copy)]
 pub struct RequestWithState {
     pub request: ListedRequest,
     /// The status of its certificate.
     pub status: Status,
-    /// For how many seconds the request was open after its deadline, or has been until now; 0 if it was not. `None` if it was declined, because
-    /// no record has the moment of that.
+    /// For how many seconds past its deadline it was open, up to the moment of the list. `None` if declined: no record has the moment of that.
     pub lateness: Option<u64>,
 }
 
-/// The fields of an order.
 #[derive(Clone, Copy)]
 pub struct ListedOrder {
     pub order: OrderRow,
@@ -59,7 +55,6 @@ pub struct ListedOrder {
     pub serial: Option<Serial>,
 }
 
-/// A row of a list.
 #[derive(Clone, Copy)]
 pub enum Row {
     /// A row of `certificates` or `ending`.

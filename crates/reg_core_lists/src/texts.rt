@@ -1,5 +1,4 @@
-//! Lists as CSV (RFC 4180, but records end with LF) and as JSON (RFC 8259). No field has a byte that needs quoting or escaping in
-//! either: names are of letters, digits, `.`, `-` and `_`.
+//! Lists as CSV (RFC 4180, but records end with LF) and JSON (RFC 8259). No byte needs quoting or escaping: names are of letters, digits and `.-_`.
 
 ghost use Rattle.std.specs.Prelude.{◌≡◌, ◌∷◌, ◌++◌, [], IfOk, flat_map, map};
 ghost use Rattle.reg_core_lists.specs.Cursors.{key_cell};
@@ -170,8 +169,7 @@ fn put_string(out: &mut Vec<u8>, cell: &Cell) -> Result<(), AllocError>
     Ok(())
 }
 
-/// A page as a JSON object: the name of its list, the key after which the next page begins or `null`, and its rows. `AllocError` if out
-/// of memory.
+/// A page as a JSON object: the name of its list, the key after which the next page begins or `null`, and its rows.
 #[tactic(auto, unfolding(crate::specs::Texts::page_body))]
 pub fn page_text(
     alloc: Global,

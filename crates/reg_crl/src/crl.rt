@@ -26,8 +26,8 @@ const REASON_CODE: [u8; 3] = [0x55, 0x1D, 0x15];
 /// 2.5.29.35, the authority key identifier (RFC 5280 5.2.1).
 const AUTHORITY_KEY_IDENTIFIER: [u8; 3] = [0x55, 0x1D, 0x23];
 
-/// The TBSCertList of a CRL (RFC 5280 5.1.2), the part that is signed; at most 2^27 bytes. The entries ascend strictly by
-/// serial number, and there are at most 1,000,000. `algorithm` is an AlgorithmIdentifier, of at most 1,024 bytes. `Memory` if out of memory.
+/// The TBSCertList (RFC 5280 5.1.2) of the CRL with this number: the part that is signed, of at most 2^27 bytes. At most 1,000,000 entries ascend
+/// strictly by serial number. `algorithm` is the AlgorithmIdentifier of the signature, at most 1,024 bytes of DER. `Memory` if out of memory.
 #[tactic(auto, unfolding(crate::specs::Crl::tbs_cert_list))]
 pub fn crl_tbs(
     alloc: Global,
@@ -63,8 +63,7 @@ pub fn crl_tbs(
     Ok(tbs)
 }
 
-/// The CertificateList (RFC 5280 5.1.1) of a TBSCertList of at most 2^27 bytes, an AlgorithmIdentifier of at most 1,024 and a
-/// signature of at most 65,536. `Memory` if out of memory.
+/// The CertificateList (RFC 5280 5.1.1): the TBSCertList, its AlgorithmIdentifier once more, and the signature. `Memory` if out of memory.
 #[tactic(auto, unfolding(crate::specs::Crl::certificate_list))]
 pub fn crl_whole(
     alloc: Global,
@@ -89,7 +88,6 @@ pub fn crl_whole(
     Ok(whole)
 }
 
-/// Appends revokedCertificates; nothing if there are no entries.
 #[tactic(auto, unfolding(crate::specs::Crl::revoked_certificates))]
 fn put_revoked_certificates(
     out: &mut Vec<u8>,
@@ -108,7 +106,7 @@ fn put_revoked_certificates(
     put(out, SEQUENCE, &contents)
 }
 
-/// The contents of revokedCertificates.
+/// The contents of revokedCertificates, without its tag and length.
 fn revoked(alloc: Global, entries: &[Entry]) -> Result<Vec<u8>, Memory>
     ensures bytes { ItemsOnOk result (flat_map revoked_certificate entries.now) }
     ensures short { IfOk result (λ bytes. length bytes.items ≤ 59 * length entries.now) }
@@ -121,7 +119,7 @@ fn revoked(alloc: Global, entries: &[Entry]) -> Result<Vec<u8>, Memory>
     Ok(out)
 }
 
-/// Appends one entry. `buffer` is cleared, and then gets the contents of the entry.
+/// Appends one entry; its `at` is the revocationDate. `buffer` gets the contents of the entry; all entries share it, which saves allocations.
 #[tactic(auto, unfolding(crate::specs::Crl::revoked_certificate))]
 fn put_revoked_certificate(
     out: &mut Vec<u8>,
@@ -138,7 +136,6 @@ fn put_revoked_certificate(
     put(out, SEQUENCE, buffer)
 }
 
-/// Appends crlEntryExtensions; nothing if the reason is `unspecified`.
 #[tactic(auto, unfolding(crate::specs::Crl::crl_entry_extensions, crate::specs::Crl::reason_code, crate::specs::Crl::extension, reg_der::specs::Der::tlv, reg_der::specs::Der::length_octets))]
 fn put_crl_entry_extensions(out: &mut Vec<u8>, reason: u8) -> Result<(), Memory>
     ensures ok { AppendsOnOk out.old out.new result (crl_entry_extensions reason) }
@@ -168,7 +165,6 @@ fn put_crl_entry_extensions(out: &mut Vec<u8>, reason: u8) -> Result<(), Memory>
     put_raw(out, &extensions)
 }
 
-/// Appends the crlExtensions: the authority key identifier and the CRL number.
 #[tactic(auto, unfolding(crate::specs::Crl::crl_extensions))]
 fn put_crl_extensions(
     out: &mut Vec<u8>,
@@ -187,6 +183,7 @@ fn put_crl_extensions(
     put(out, TAGGED_0, &sequence)
 }
 
+/// The identifier is the one that was set for the CRL with this number, or the SHA-1 of the issuer's key if none was.
 fn put_authority_key_identifier(
     out: &mut Vec<u8>,
     alloc: Global,
@@ -227,7 +224,7 @@ fn put_crl_number(out: &mut Vec<u8>, alloc: Global, number: u64) -> Result<(), M
     put_extension(out, alloc, CRL_NUMBER, &value)
 }
 
-/// Appends an extension that is not critical.
+/// Appends an extension that is not critical. `identifier` is the contents of its extnID, `value` those of its extnValue.
 #[tactic(auto, unfolding(crate::specs::Crl::extension))]
 fn put_extension(
     out: &mut Vec<u8>,

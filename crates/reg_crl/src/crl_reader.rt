@@ -22,8 +22,7 @@ pub struct ParsedCrl<'a> {
     pub revoked: &'a [u8],
 }
 
-/// Reads the DER of a CRL, without verifying its signature or reading its entries. `None` for other bytes, for a CRL without a CRL number, and for
-/// a number that is negative, or 2^63 or more.
+/// Reads the DER of a CRL, but not its entries, and verifies no signature. `None` for other bytes, or without a CRL number of 0 to 2^63 - 1.
 #[tactic(auto, unfolding(crate::specs::Reading::certificate_list_at))]
 pub fn read_crl(bytes: &[u8]) -> Option<ParsedCrl<'_>>
     ensures { AgreesWith (λ crl. (crl.number, crl.revoked.now)) result (certificate_list_at bytes.now) }

@@ -6,12 +6,13 @@ use crate::signer::{SignFault, Signer};
 use sha1::Sha1;
 use std::alloc::Global;
 
-/// SHA-1, 1.3.14.3.2.26, with parameters NULL.
+/// The AlgorithmIdentifier of SHA-1, 1.3.14.3.2.26, with parameters NULL.
 const ALGORITHM: [u8; 11] = [
     0x30, 0x09, 0x06, 0x05, 0x2B, 0x0E, 0x03, 0x02, 0x1A, 0x05, 0x00,
 ];
 
-/// A signer without a key: in place of a signature it gives the SHA-1 of the message, which anyone can compute. It fails only if out of memory.
+/// A signer without a key: in place of a signature it gives a placeholder digest, the SHA-1 of the message, which anyone can compute. It fails only
+/// if out of memory. It asks no device, so it has no back-off to reset, and counts no failures of a device.
 #[derive(Clone, Copy, PartialEq, Eq)]
 pub struct DigestSeal;
 

@@ -7,7 +7,7 @@ use std::alloc::{AllocError, Global};
 /// Why there is no signature.
 #[derive(Clone, Copy, PartialEq, Eq)]
 pub enum SignFault {
-    /// The device that has the key failed, and the signer counted the failure.
+    /// The device that has the key (such as a process at a socket) failed, and the signer counted the failure.
     Device,
     Memory,
 }
@@ -42,7 +42,7 @@ pub trait Signer {
 
     ghost identity: { Self → Identity };
 
-    // With this algorithm and key, the message (second) has the signature (third).
+    // `signs identity message signature`: with this identity (algorithm and public key), the message has this signature.
     ghost signs: { Identity → List ℕ → List ℕ → Type 0 };
 
     ghost failure_count: { Self → ℕ };
@@ -52,7 +52,7 @@ pub trait Signer {
         ensures value { result.now ≡ (identity self.now).algorithm }
         ensures within { IsAlgorithm result.now };
 
-    /// The public key, if the key is in a device from which a caller can also request signatures itself; `None` if there is no such device.
+    /// The public key, if a device has the key: then a caller can also request signatures from the device directly. `None` if there is no device.
     fn public_key(&self) -> Option<&[u8]>
         ensures { IfSome (option_copied result) (λ key. key ≡ (identity self.now).public_key) };
 
@@ -61,7 +61,7 @@ pub trait Signer {
     fn sign(&mut self, alloc: Global, message: &[u8]) -> Result<Vec<u8>, SignFault>
         ensures { SignsOrFails identity signs failure_count self.old self.new message.now result };
 
-    /// Ends the back-off, the time after a timeout in which the device is not asked: it is asked for the next signature.
+    /// Ends the back-off, the time after a timeout in which the device is not asked, so that it is asked for the next signature.
     fn reset_backoff(&mut self)
         ensures same_identity { identity self.new ≡ identity self.old }
         ensures same_failures { failure_count self.new ≡ failure_count self.old };
@@ -71,8 +71,8 @@ pub trait Signer {
         ensures { result ≡ failure_count self.now };
 }
 
-/// A signer, with the relation of a CRL's fields to its DER that the register's laws use. CRLs with numbers below `since` have the placeholder
-/// digest, because the register used it before it got a key. CRLs from `since` on are signed by `signer`.
+/// A signer, as the register's laws see it ([`SignsCrls`]). CRLs with numbers below `since` have the placeholder digest, because the register used
+/// it before it got a key. CRLs from `since` on are signed by `signer`.
 #[derive(Drop)]
 pub struct CrlSigner<S> {
     pub signer: S,

@@ -120,9 +120,9 @@ impl Algorithm {
     }
 }
 
-/// Whether `identifier` is the AlgorithmIdentifier, in DER, of a subjectPublicKeyInfo with a key of the algorithm (RFC 5280 4.1.2.7).
+/// Whether `identifier` is the AlgorithmIdentifier in DER (no key identifier) of a subjectPublicKeyInfo with the algorithm's key (RFC 5280 4.1.2.7).
 #[tactic(auto, unfolding(reg_der::specs::Der::tlv, reg_der::specs::Der::length_octets))]
-pub fn is_key_identifier(algorithm: Algorithm, identifier: &[u8]) -> bool
+pub fn is_key_algorithm_identifier(algorithm: Algorithm, identifier: &[u8]) -> bool
     ensures { IsTrue result ↔ (identifier.now ≡ key_identifier_of algorithm) }
 {
     match algorithm {

@@ -1,13 +1,12 @@
-//! The announcement of persistent connections.
+//! The announcement of persistent connections: by it a signer says that one connection can carry many messages, one after the other.
 
 ghost use Rattle.std.specs.Prelude.{◌≡◌, ◌≤◌, IsTrue, length, nat_eq, take};
 ghost use Rattle.std.specs.List.{starts_with};
 ghost use Rattle.reg_crl_signer.specs.Announcement.{announcement, signature_in};
 
-/// A signer that takes persistent connections sends these bytes before a signature on a connection for one message.
+/// On a connection for only one message, a signer that also takes persistent connections sends these bytes, and then the signature.
 const ANNOUNCEMENT: &[u8; 16] = b"desk-signer/1 \r\n";
 
-/// Whether an answer begins with the announcement.
 pub(crate) fn is_announced(answer: &[u8]) -> bool
     ensures announced { result ≡ starts_with nat_eq answer.now announcement }
     ensures long { IsTrue result → 16 ≤ length answer.now }
@@ -15,7 +14,7 @@ pub(crate) fn is_announced(answer: &[u8]) -> bool
     answer.starts_with(ANNOUNCEMENT)
 }
 
-/// The signature in an answer: what follows the announcement, or else the whole answer.
+/// The signature in a signer's answer: what follows the announcement, or the whole answer if it begins with none.
 pub(crate) fn signature_in(answer: &[u8]) -> &[u8]
     ensures signature { result.now ≡ signature_in answer.now }
     ensures short { length result.now ≤ length answer.now }
@@ -27,7 +26,7 @@ pub(crate) fn signature_in(answer: &[u8]) -> &[u8]
     }
 }
 
-/// Moves the signature in the first `count` bytes of `room` to the beginning of `room`. Returns how many bytes it has.
+/// The first `count` bytes of `room` are an answer. Moves its signature to the beginning of `room`, and returns how many bytes the signature has.
 pub(crate) fn keep_signature(room: &mut [u8], count: usize) -> usize
     requires { count ≤ length room.old }
     ensures signature { take result room.new ≡ signature_in (take count room.old) }

@@ -1,4 +1,4 @@
-//! The back-off: a signer that timed out is not asked again for a while.
+//! The back-off: a device that timed out is not asked again for ten seconds.
 
 ghost use Rattle.std.specs.Prelude.{◌≡◌, ◌↔◌, ◌≤◌, ◌<◌, ◌-◌, IsTrue, IfSome, MatchOption, None, OnErr, OnOk, length};
 ghost use Rattle.std.specs.Duration.{as_nanos};
@@ -10,22 +10,21 @@ use std::time::{Clock, Duration};
 
 const BACKOFF_NANOS: u128 = 10_000_000_000;
 
-/// The back-off from a signer: after a timeout the signer is not asked again for ten seconds. Times are readings of one clock that never goes back.
+/// Whether a back-off began, and when. Each moment here is a reading of one monotonic clock.
 #[derive(Clone, Copy, Debug, PartialEq, Eq)]
 pub struct Backoff {
-    /// When an exchange timed out, so that the back-off began; `None` without a back-off.
+    /// When the exchange (a message and its answer) that timed out ended, and the back-off began; `None` without a back-off.
     since: Option<Duration>,
 }
 
 impl Backoff {
-    /// No back-off: the signer may be asked.
     pub fn none() -> Backoff
         ensures { result.since ≡ None }
     {
         Backoff { since: None }
     }
 
-    /// The back-off after a failed exchange. If the exchange took at least `timeout`, the back-off begins at `ended`; else there is none.
+    /// The back-off after an exchange that failed. If it took at least `timeout`, the back-off begins at `ended`; else there is none.
     pub fn after_failure(began: Duration, ended: Duration, timeout: Duration) -> Backoff
         ensures { MatchOption result.since (as_nanos ended - as_nanos began < as_nanos timeout)
             (λ since. (since ≡ ended) × (as_nanos timeout ≤ as_nanos ended - as_nanos began)) }
@@ -38,7 +37,7 @@ impl Backoff {
         }
     }
 
-    /// Whether the signer must not be asked at `now`, because less than ten seconds have passed since the timeout.
+    /// Whether the device must not be asked at `now`, because less than ten seconds have passed since the timeout.
     pub fn is_active(&self, now: Duration) -> bool
         ensures { IsTrue result ↔ IsBackedOff self.now.since now }
     {
@@ -50,7 +49,7 @@ impl Backoff {
 }
 
 /// A device with a back-off. If an exchange takes ten seconds or more and fails, exchanges in the next ten seconds fail without asking the device.
-/// [`Device::reset_backoff`] ends that. While the clock can't be read, each exchange asks the device.
+/// [`Device::reset_backoff`] ends that. An exchange at whose beginning the clock can't be read asks the device.
 #[derive(Drop)]
 pub struct BackoffDevice<D: Device, C: Clock> {
     device: D,
@@ -59,7 +58,6 @@ pub struct BackoffDevice<D: Device, C: Clock> {
 }
 
 impl<D: Device, C: Clock> BackoffDevice<D, C> {
-    /// The device without an active back-off. `clock` measures the time of each exchange.
     pub fn new(device: D, clock: C) -> BackoffDevice<D, C>
         ensures device { result.device ≡ device }
         ensures no_backoff { result.backoff.since ≡ None }
@@ -71,6 +69,7 @@ impl<D: Device, C: Clock> BackoffDevice<D, C> {
         }
     }
 
+    /// [`Device::exchange`], where `began` is what the clock reads as it begins.
     fn exchange_at(
         &mut self,
         began: Duration,

@@ -21,7 +21,6 @@ pub(crate) fn without_length(counted: &[u8]) -> Option<&[u8]>
     }
 }
 
-/// A message with its length before it.
 pub(crate) fn with_length(alloc: Global, message: &[u8]) -> Result<Vec<u8>, AllocError>
     requires { length message.now ≤ 16777215 }
     ensures { IfOk result (λ bytes. bytes.items ≡ counted_bytes message.now) }

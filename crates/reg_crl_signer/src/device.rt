@@ -1,8 +1,8 @@
-//! The device that has the signer's key.
+//! The device that has the signer's key, and answers messages with signatures.
 
 ghost use Rattle.reg_crl_signer.specs.Devices.{Exchanges};
 
-/// A device gave no answer: it can't be reached, the connection to it failed or timed out, its answer is too long, or its back-off is active.
+/// A device gave no answer: it can't be reached, the connection failed or timed out, the answer is too long, or it is not asked during a back-off.
 #[derive(Clone, Copy, PartialEq, Eq)]
 pub struct DeviceFault;
 
@@ -22,10 +22,10 @@ pub trait Device {
     // A device with this key gives this answer to this message.
     ghost answers: { List ℕ → List ℕ → List ℕ → Type 0 };
 
-    // The device at this path gave another caller this answer to this message.
+    // The device at this path gave another caller, such as the event loop, this answer to this message.
     ghost answered_another_caller: { List ℕ → List ℕ → List ℕ → Type 0 };
 
-    // An answer that another caller got counts as an answer, for any key.
+    // Such an answer counts as one of a device with any key (`answers`), because `answered_another_caller` doesn't say which key the device has.
     ghost others_answers_are_answers: { (key device_path message answer : List ℕ)
         → ∥ answered_another_caller device_path message answer ∥₁ → answers key message answer };
 
@@ -36,14 +36,14 @@ pub trait Device {
     fn public_key(&self) -> &[u8]
         ensures { result.now ≡ public_key self.now };
 
-    /// Sends the whole message, and reads the answer up to its end into the beginning of `room`. Returns the answer's length in bytes, perhaps 0.
-    /// [`DeviceFault`] if there is no answer, or if it is not shorter than `room`.
+    /// Sends the whole message, and reads the answer up to its end into the beginning of the buffer `room`. Returns the answer's length in bytes,
+    /// perhaps 0. [`DeviceFault`] if there is no answer, or if the answer is not shorter than `room`.
     fn exchange(&mut self, message: &[u8], room: &mut [u8]) -> Result<usize, DeviceFault>
         requires { length room.old ≤ 4097 }
         ensures { Exchanges public_key device_path device_answered answers fails
             self.old self.new message.now room.new result };
 
-    /// Resets the back-off: the next exchange asks the device, even after a timeout.
+    /// Ends the back-off, the time after a timeout in which no exchange asks the device: the next exchange asks it.
     fn reset_backoff(&mut self)
         ensures same_path { device_path self.new ≡ device_path self.old }
         ensures same_key { public_key self.new ≡ public_key self.old };

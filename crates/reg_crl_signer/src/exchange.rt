@@ -10,7 +10,7 @@ use std::io;
 use std::io::{Read, Write};
 use std::marker::PhantomData;
 
-/// A connection to the socket of a device, for one message and its answer.
+/// A connection to the socket of a device, for one message and its answer. Only `UnixConnection` implements it: proofs need opaque relations.
 pub trait DeviceConnection: Read + Write {
     ghost use Rattle.std.specs.Prelude.{ℕ, List, IfOk, OnErr, OnOk};
 
@@ -23,7 +23,7 @@ pub trait DeviceConnection: Read + Write {
     // The sending side was shut down: the connection before, and after.
     ghost finished: { Self → Self → Type 0 };
 
-    // The listener at the path gave another caller this answer to this message: over a connection of another type, such as `SignerConnection`.
+    // The listener at the path gave this answer to this message over a connection of another type, such as the event loop's `SignerConnection`.
     ghost answered_another_caller: { List ℕ → List ℕ → List ℕ → Type 0 };
 
     /// Connects to the listener at `path`. The errors are those of the implementation.
@@ -72,7 +72,7 @@ impl<L: DeviceConnection + Drop> Device for SocketDevice<L> {
 
     ghost device_answered = { ExchangesAtPath L.Read.remaining L.Write.contents L.finished L.connected };
 
-    // The listener at some path gave this answer, over a connection of this type or of another.
+    // The listener at some path gave this answer, over a connection of type `L` or of another type.
     ghost answers = { λ key message answer.
         ((path : List ℕ)
         × ExchangesAtPath L.Read.remaining L.Write.contents L.finished L.connected path message answer)

@@ -1,4 +1,4 @@
-//! Checks the form of public keys and of signatures.
+//! Checks the form of public keys and of signatures. An RSA key is a SEQUENCE of modulus and exponent, an ECDSA signature one of r and s.
 
 ghost use Rattle.std.specs.Prelude.{◌≡◌, ◌↔◌, ◌<◌, ◌^◌, IsTrue, length};
 ghost use Rattle.std.specs.Bool.{OnTrue};
@@ -7,10 +7,9 @@ ghost use Rattle.reg_crl_signer.specs.Forms.{HasForm, IsEcdsaValue, HasKeyForm, 
 use crate::algorithm::Algorithm;
 use crate::numbers::octets_of_pair;
 
-/// The octets of a coordinate of a point of P-256 (SEC 1 2.3.5), and the most octets of r and of s in a signature.
+/// How many octets a coordinate of a point of P-256 has (SEC 1 2.3.5), and r and s have at most, without a zero octet for the sign.
 const P256_OCTETS: usize = 32;
 
-/// The octets of a coordinate of a point of P-384, and the most octets of r and of s in a signature.
 const P384_OCTETS: usize = 48;
 
 /// How many octets a public key of Ed25519 has (RFC 8032 5.1.5).
@@ -57,6 +56,8 @@ pub fn has_form(identifier: &[u8], key: &[u8], signature: &[u8]) -> bool
     }
 }
 
+/// Whether the key has the form of a point whose coordinates have so many octets each (SEC 1 2.3.3): uncompressed, 4 and both coordinates; or
+/// compressed, 2 or 3 and one. Not whether it is on the curve.
 fn is_point(key: &[u8], octets: usize) -> bool
     requires { octets < 100 }
     ensures { IsTrue result ↔ IsPoint octets key.now }
@@ -77,6 +78,7 @@ fn is_ecdsa_value(signature: &[u8], octets: usize) -> bool
     }
 }
 
+/// Whether the key has the form of an RSA key whose modulus has so many octets; a signature has as many as the modulus (RFC 8017 8.2.1).
 fn has_modulus_of(key: &[u8], octets: usize) -> bool
     ensures { IsTrue result ↔ IsRsaKey key.now octets }
 {

@@ -8,9 +8,8 @@ ghost use Rattle.reg_crl_signer.specs.declared.signer_connection.SignerConnectio
 use crate::signer_connection::{Framing, Progress};
 use std::io::{Read, Write};
 
-/// Each answer that is taken from a persistent connection is the signer's answer to the message with the same number, in the order in which they were
-/// sent. `SignerConnection::receive`, `send_next` and `take_answer` preserve this (`HasExchanged`). No clause states which bytes a socket carries,
-/// nor that the signer answers in order.
+/// The n-th answer that is taken from a persistent connection is the one that came for the n-th message sent on it. `SignerConnection::receive`,
+/// `send_next` and `take_answer` preserve this (`HasExchanged`). No clause states which bytes a socket carries, nor that the signer answers in order.
 pub fn each_answer_is_to_its_message<S: Read + Write>()
     ensures begins { (stream : S) (it : SignerConnection S)
         → IsNewConnection stream Framing.ByLength Progress.Idle it

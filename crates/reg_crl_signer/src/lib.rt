@@ -1,4 +1,4 @@
-//! Signers whose key is in a device, and a device that is reached by a Unix socket.
+//! Signers whose key is in a device (a process, smart card or security module that signs), and a device that is reached by a Unix socket.
 #![tactic(auto)]
 
 mod algorithm;
@@ -18,7 +18,7 @@ mod signer;
 mod signer_connection;
 mod unix_connection;
 
-pub use algorithm::{Algorithm, is_key_identifier};
+pub use algorithm::{Algorithm, is_key_algorithm_identifier};
 pub use backoff::{Backoff, BackoffDevice};
 pub use device::{Device, DeviceFault};
 pub use exchange::{DeviceConnection, SocketDevice};

@@ -10,11 +10,10 @@ const INTEGER: u8 = 0x02;
 
 const SEQUENCE: u8 = 0x30;
 
-/// The first octet of an INTEGER that is not negative is below this (X.690 8.3.3).
+/// The first octet of an INTEGER's contents is below this if the number is not negative (X.690 8.3.3).
 const SIGN_BIT: u8 = 0x80;
 
-/// How many octets each of two numbers has, without a zero octet for the sign. `None` unless the bytes are a SEQUENCE of two INTEGERs above 0, and
-/// nothing else.
+/// If the bytes are a SEQUENCE of two INTEGERs above 0: how many octets each has, without a zero octet for the sign. `None` for any other bytes.
 pub(crate) fn octets_of_pair(bytes: &[u8]) -> Option<(usize, usize)>
     ensures { MatchOption result ((first second : ℕ) → ¬ IsPair bytes.now first second)
         (λ counts. IsPairOfIntegers bytes.now counts.0 counts.1) }
@@ -31,7 +30,7 @@ pub(crate) fn octets_of_pair(bytes: &[u8]) -> Option<(usize, usize)>
     Some((first, second))
 }
 
-/// How many octets the number in the first INTEGER has, and the bytes after that INTEGER. `None` if the bytes don't begin with an INTEGER above 0.
+/// If the bytes begin with an INTEGER above 0: how many octets it has, without a zero octet for the sign, and the bytes after it. Else `None`.
 fn take_positive(bytes: &[u8]) -> Option<(usize, &[u8])>
     ensures { MatchOption result
         ((raw rest : List ℕ) (number : ℕ) → IsPositive raw number → bytes.now ≡ raw ++ rest → ⊥)

@@ -1,4 +1,4 @@
-//! The signer of a register.
+//! The signer of a register: a key, the placeholder digest, or none.
 
 ghost use Rattle.std.specs.Prelude.{◌≡◌, None};
 ghost use Rattle.std.specs.Option.{ForSome};
@@ -11,19 +11,18 @@ use crate::signer::{DeviceSigner, count_failure};
 use reg_crl::{DigestSeal, SignFault, Signer};
 use std::alloc::Global;
 
-/// The signer of a register: a key, the placeholder digest, or none.
 #[derive(Drop)]
 pub enum RegisterSigner<D: Device> {
-    /// The issuer's key.
+    /// A key in a device: the issuer's, or that of an OCSP responder with its own certificate.
     Key(DeviceSigner<D>),
     /// No key: a placeholder digest instead of a signature.
     Digest(DigestSeal),
-    /// No signer, with the digest's algorithm: each `sign` fails. The number is the count of these failures.
+    /// No signer: each `sign` fails, which the number counts. The digest gives the algorithm, since [`Signer::algorithm`] always returns one.
     NoSigner(DigestSeal, u64),
 }
 
 impl<D: Device + Drop> RegisterSigner<D> {
-    /// The same signer, except that `NoSigner`, with no failure counted, replaces the placeholder digest.
+    /// The same signer, but with `NoSigner` (no failure counted) in place of the placeholder digest, which could sign without a signer process.
     pub fn without_digest(self) -> RegisterSigner<D>
         ensures key { key_of D.Device result ≡ key_of D.Device self }
         ensures same_identity { register_signer_identity D.Device result
@@ -104,6 +103,7 @@ impl<D: Device + Drop> Signer for RegisterSigner<D> {
     }
 
     fn failures(&self) -> u64 {
+        // The digest fails only if out of memory, which is not counted.
         match self {
             RegisterSigner::Key(signer) => signer.failures(),
             RegisterSigner::Digest(_) => 0,

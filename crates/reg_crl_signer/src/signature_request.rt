@@ -85,7 +85,8 @@ impl SignatureRequest {
         self.connection.has_ended()
     }
 
-    /// Whether a kept connection failed without a stored byte of the answer, as when the signer was restarted. A new one may get a signature.
+    /// Whether a persistent connection failed before the first byte of the answer was received (or had no memory for it), as when the signer was
+    /// restarted. A request on a new connection may get the signature.
     pub fn failed_unanswered(&self) -> bool {
         self.connection.failed_unanswered()
     }
@@ -95,6 +96,7 @@ impl SignatureRequest {
         ensures { IfSome result (λ signature. length signature.items ≤ 4096) }
     {
         let answer = self.connection.take_answer(alloc)?;
+        // Only an answer on a connection for one message can have the announcement; a persistent one is idle here.
         if self.connection.is_idle() || !is_announced(&answer) {
             return Some(answer);
         }
@@ -126,7 +128,7 @@ impl SignatureRequest {
     }
 }
 
-/// Sends a message on the connection of `kept`. `None` if there is none, if its signer is at another path, or if sending fails or would block.
+/// Sends a message on the connection of `kept`. `None` if there is none, if its signer is at another path, or if the message can't be sent at once.
 fn send_on_kept(
     kept: Option<SignatureRequest>,
     path: &str,
@@ -148,7 +150,7 @@ fn send_on_kept(
     }
 }
 
-/// Bytes that are written are appended to `message`.
+/// Bytes that are written are appended to `message`. It grows before the write, so that none are sent if out of memory.
 impl Write for SignatureRequest {
     ghost use Rattle.std.specs.Prelude.{Some};
 

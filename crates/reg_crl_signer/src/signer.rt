@@ -11,7 +11,7 @@ use crate::preset_signature::{PresetSignature, answer_to};
 use reg_crl::{SignFault, Signer};
 use std::alloc::Global;
 
-/// The most bytes of an answer that is accepted.
+/// The most bytes of an answer that is accepted: those of a signature by an RSA key of 32,768 bits.
 pub(crate) const LONGEST_ANSWER: usize = 4_096;
 
 /// The device's public key doesn't have the form of a key of the algorithm.
@@ -27,6 +27,7 @@ pub struct DeviceSigner<D: Device> {
     algorithm: Algorithm,
     failures: u64,
     preset_signature: Option<PresetSignature>,
+    // An answer in the preset is one that another caller got from the device at this path.
     ghost came: { IsPreset (D.answered_another_caller (D.device_path device)) preset_signature },
 }
 
@@ -50,7 +51,7 @@ impl<D: Device + Drop> DeviceSigner<D> {
     }
 
     /// Presets the next signature: the answer that another caller got for a message from the device at the same path. The next `sign` then doesn't
-    /// ask the device. It fails if the preset is for another message or has no answer in the form of a signature. `None` removes the preset.
+    /// ask the device, and fails if the preset is for another message or has no answer in the form of a signature. `None` removes the preset.
     pub fn set_preset(&mut self, preset_signature: Option<PresetSignature>)
         requires { IsPreset (D.answered_another_caller (D.device_path self.old.device)) preset_signature }
         ensures preset_signature { self.new.preset_signature ≡ preset_signature }

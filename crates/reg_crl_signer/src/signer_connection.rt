@@ -1,4 +1,4 @@
-//! One connection to a signer: a message waits for its answer, and only then the next one is sent.
+//! One connection to a signer. On a persistent one, the next message is sent only after the answer to the last one was taken.
 
 ghost use Rattle.std.specs.Prelude.{◌≡◌, ◌≤◌, ◌↔◌, IfSome, IsTrue, length};
 
@@ -8,10 +8,9 @@ use reg_io::write_whole;
 use std::alloc::Global;
 use std::io::{ErrorKind, Read, Write};
 
-/// The most bytes of a message on a persistent connection. The first byte of its length is 0, by which the signer recognizes such a connection.
+/// The most bytes of a message on a persistent connection: so the first byte of its length is 0, by which the signer recognizes such a connection.
 const LONGEST_MESSAGE: usize = 16_777_215;
 
-/// The most bytes of one read.
 const READ_BYTES: usize = 512;
 
 /// The most reads for one answer. Even if each read gives only one byte, the answer is whole by then, or longer than `LONGEST_ANSWER`.
@@ -94,7 +93,7 @@ impl<S: Drop> SignerConnection<S> {
         }
     }
 
-    /// Whether the connection is persistent and failed without a stored byte of the answer, as when its signer has ended.
+    /// Whether the connection is persistent and failed before a byte of the answer was stored in `received`, as when its signer has ended.
     pub fn failed_unanswered(&self) -> bool
         ensures { IsTrue result ↔ FailedUnanswered self.now }
     {
@@ -138,9 +137,11 @@ impl<S: Drop> SignerConnection<S> {
         ensures not_idle { ¬ (result ≡ Progress.Idle) }
         ensures ended { result ≡ Progress.Arrived → self.now.framing ≡ Framing.ByEnd → IsTrue is_at_end }
     {
+        // No answer is awaited: the connection has ended, or what came is no answer.
         if self.progress != Progress::Waiting {
             return Progress::Failed;
         }
+        // `ByEnd`: whole only at the end. `ByLength`: only before it.
         let is_whole = is_at_end == (self.framing == Framing::ByEnd) && self.answer().is_some();
         if is_whole {
             Progress::Arrived

@@ -21,7 +21,7 @@ const PAUSE_MILLIS: u64 = 10;
 /// The most bytes of one write. In a longer one, the kernel may apply the timeout to each part anew.
 const MAX_WRITE: usize = 32_768;
 
-/// A connection to a Unix socket, for one exchange of at most ten seconds by the monotonic clock.
+/// A connection to a Unix socket, for one exchange of at most ten seconds by the monotonic clock, from `began` on, when connecting began.
 #[derive(Drop)]
 pub struct UnixConnection {
     rt: HostRuntime,
@@ -29,7 +29,7 @@ pub struct UnixConnection {
     began: Instant,
 }
 
-/// A read or a write that a signal interrupts is tried again.
+/// A read or a write that a signal interrupts is tried again. Each loop in this file has the bound `u64::MAX`, but the ten seconds end it.
 impl Read for UnixConnection {
     fn read(&mut self, buf: &mut [u8]) -> io::Result<usize> {
         for _ in 0..u64::MAX {
@@ -63,7 +63,7 @@ impl Write for UnixConnection {
     }
 }
 
-/// The contracts here state nothing about the listener at a path or its answers.
+/// Each relation here is always true (`Unit`), so the contracts state nothing about the listener at a path or its answers.
 impl DeviceConnection for UnixConnection {
     ghost connected = { λ path link. Unit {0} };
 
@@ -73,8 +73,8 @@ impl DeviceConnection for UnixConnection {
 
     ghost answered_another_caller = { λ path message answer. Unit {0} };
 
-    /// If the socket's backlog is full, tries again every 10 ms until the ten seconds are over: then `TimedOut`. Other errors are those of connect(2)
-    /// and of the clock.
+    /// If the socket's backlog is full, tries again every 10 ms until the ten seconds are over: then `TimedOut`. Other errors are those of the system
+    /// calls. `NonblockingStream` never waits for the backlog; the result blocks.
     fn connect(rt: &HostRuntime, path: &str) -> io::Result<UnixConnection>
         ensures ok { Unit {0} }
         ensures err { Unit {0} }

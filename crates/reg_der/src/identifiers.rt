@@ -6,23 +6,23 @@ use crate::tlv_reader::take;
 use crate::values::number;
 use reg_core::Label;
 
-/// The tag octet [0] of a key identifier (RFC 5280 4.2.1.1).
+/// The tag octet of a stored key identifier, as [0] in an AuthorityKeyIdentifier (RFC 5280 4.2.1.1).
 pub(crate) const KEY_IDENTIFIER: u8 = 0x80;
 
-/// How many octets the first CRL's number has, before those of the key identifier.
+/// A stored key identifier begins with this many octets for the number of the first CRL that has it.
 const NUMBER_LENGTH: usize = 8;
 
-/// The most octets of the number and a key identifier together: 8 and 64.
+/// The most octets of a stored key identifier: 8 for the number, and 64.
 const LONGEST_CONTENTS: usize = 72;
 
-/// A key identifier of 1 to 64 octets that was set for an issuer (RFC 5280 4.2.1.2), and the number of the first CRL that has it.
+/// A key identifier of 1 to 64 octets that was set for an issuer (RFC 5280 4.2.1.2), and the number of the first CRL that has it (`first`).
 #[derive(Clone, Copy, PartialEq, Eq)]
 pub struct KeyIdentifier {
     pub first: u64,
     pub octets: Label,
 }
 
-/// The key identifier at the front, and the bytes after it; `None` if no key identifier is there.
+/// The stored key identifier at the front, and the bytes after it; `None` if no stored key identifier is there.
 #[tactic(auto, unfolding(crate::specs::Authority::identifier_at))]
 fn first_element(bytes: &[u8]) -> Option<(KeyIdentifier, &[u8])>
     ensures exact { AgreesWith (λ x. (x.0, x.1.now)) result (authority.identifier_at bytes.now) }
@@ -43,7 +43,7 @@ fn first_element(bytes: &[u8]) -> Option<(KeyIdentifier, &[u8])>
     Some((identifier, rest))
 }
 
-/// Whether the bytes are any number of key identifiers and nothing else.
+/// Whether the bytes are any number of stored key identifiers, perhaps none, and nothing else.
 pub(crate) fn are_identifiers(bytes: &[u8]) -> bool
     ensures { IsTrue result ↔ IsSome (authority.identifiers_at bytes.now) }
 {
@@ -57,7 +57,7 @@ pub(crate) fn are_identifiers(bytes: &[u8]) -> bool
     true
 }
 
-/// The key identifiers, without the latest one if its first CRL is the one with this number.
+/// The stored key identifiers, latest first, that stay when one is set from CRL `first` on: all but the latest if it was set from that CRL on too.
 #[tactic(auto, unfolding(crate::specs::Authority::earlier_identifiers))]
 pub(crate) fn earlier_identifiers(bytes: &[u8], first: u64) -> &[u8]
     ensures { result.now ≡ authority.earlier_identifiers first bytes.now }
@@ -68,7 +68,7 @@ pub(crate) fn earlier_identifiers(bytes: &[u8], first: u64) -> &[u8]
     }
 }
 
-/// The key identifier that was set for the CRL with this number: the latest one whose first CRL has this number or a lower one.
+/// The key identifier that was set for the CRL with this number: the latest one whose first CRL has this number or a lower one. `None` if none has.
 pub(crate) fn identifier_for(bytes: &[u8], number: u64) -> Option<Label>
     requires { IsSome (authority.identifiers_at bytes.now) }
     ensures { result ≡ authority.identifier_for (unwrap_or (authority.identifiers_at bytes.now) []) number }

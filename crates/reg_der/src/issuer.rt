@@ -20,8 +20,7 @@ const LONGEST_KEY: usize = 2_048;
 /// Why there is no [`Issuer`].
 #[derive(Clone, Copy, PartialEq, Eq)]
 pub enum IssuerFault {
-    /// The Name isn't one DER SEQUENCE with contents, or has more than 1,024 bytes; or what follows the Name in a stored name isn't key
-    /// identifiers.
+    /// The Name isn't one DER SEQUENCE with contents and of at most 1,024 bytes; or in a stored name other bytes than key identifiers follow it.
     BadName,
     /// The key has no byte, or more than 2,048.
     BadKey,
@@ -36,8 +35,7 @@ impl From<AllocError> for IssuerFault {
     }
 }
 
-/// The issuer of CRLs and OCSP responses: its Name, its key, and the key identifiers that were set for it. Its model in
-/// contracts has the bytes of `name` and of `key`.
+/// The issuer of CRLs and OCSP responses: its Name, its key, and the key identifiers that were set for it. Contracts see the bytes of both fields.
 #[derive(Drop)]
 pub struct Issuer {
     /// The DER value of the Name, and after it the key identifiers that were set, the latest first.
@@ -126,8 +124,7 @@ impl Issuer {
         &self.name
     }
 
-    /// The key identifier that was set for the CRL with this number (RFC 5280 5.2.1). `None` if none was: then it is the SHA-1
-    /// of the key (RFC 5280 4.2.1.2).
+    /// The key identifier that was set for the CRL with this number (RFC 5280 5.2.1); `None` if none was: then the CRL has the SHA-1 of the key.
     pub fn key_identifier(&self, number: u64) -> Option<Label>
         ensures identifier { result ≡ key_identifier_at self.now number }
         ensures short { IfSome result (λ octets. length octets ≤ 64) }
@@ -150,8 +147,7 @@ impl Issuer {
         Sha1::digest(self.name())
     }
 
-    /// The SHA-1 of the key: the issuerKeyHash of a CertID (RFC 6960 4.1.1), and the key identifier if none was set
-    /// (RFC 5280 4.2.1.2).
+    /// The SHA-1 of the key: the issuerKeyHash of a CertID (RFC 6960 4.1.1), and the key identifier if none was set (RFC 5280 4.2.1.2).
     pub fn key_sha1(&self) -> [u8; 20]
         ensures { result ≡ sha1 self.now.key }
     {
@@ -159,7 +155,7 @@ impl Issuer {
     }
 }
 
-/// The Name at the front of `stored_name`, and the bytes after it.
+/// The Name at the front of `stored_name`, and the bytes after it; both empty if no value is at the front.
 #[tactic(auto, unfolding(crate::specs::Authority::name_in, crate::specs::Authority::after_name))]
 fn parts(stored_name: &[u8]) -> (&[u8], &[u8])
     ensures name { result.0.now ≡ name_in stored_name.now }
@@ -179,7 +175,7 @@ fn is_stored_name(stored_name: &[u8]) -> bool
     is_name(name) && are_identifiers(identifiers)
 }
 
-/// The stored name `stored_name` with one more key identifier.
+/// The stored name with one more key identifier, which CRLs from number `first` on have.
 fn stored_name_with(
     alloc: Global,
     stored_name: &[u8],

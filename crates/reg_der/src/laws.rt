@@ -19,8 +19,7 @@ pub fn values_have_sizes()
     ensures { ValuesHaveSizes }
 {}
 
-/// `value_at`, the function that `take` computes (`exact`), gives only values at the front of the bytes, and gives each value
-/// that is there.
+/// The definition `value_at`, by which the clause `exact` of `take` states the result, gives exactly the value at the front of the bytes, if any.
 pub fn values_are_read()
     ensures reads { ReadsValues }
     ensures again { EachValueIsRead }
@@ -32,7 +31,7 @@ pub fn identifiers_follow()
     ensures { IdentifiersFollow }
 {}
 
-/// If an issuer's stored name is only a Name, it is the issuer's Name, and no key identifier was set.
+/// If an issuer's stored name (`Issuer::stored_name`) is only a Name, it is the issuer's Name, and no key identifier was set.
 pub fn names_are_plain()
     ensures { NamesArePlain }
 {}

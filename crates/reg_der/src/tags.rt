@@ -1,4 +1,4 @@
-//! Tag octets (X.690 8.1.2).
+//! Tag octets (X.690 8.1.2). A `TAGGED_n` is the context-specific [n], constructed; a `PRIMITIVE_n` is [n], primitive.
 
 pub const BOOLEAN: u8 = 0x01;
 
@@ -18,17 +18,12 @@ pub const GENERALIZED_TIME: u8 = 0x18;
 
 pub const SEQUENCE: u8 = 0x30;
 
-/// [0], constructed.
 pub const TAGGED_0: u8 = 0xA0;
 
-/// [1], constructed.
 pub const TAGGED_1: u8 = 0xA1;
 
-/// [2], constructed.
 pub const TAGGED_2: u8 = 0xA2;
 
-/// [0], primitive.
 pub const PRIMITIVE_0: u8 = 0x80;
 
-/// [2], primitive.
 pub const PRIMITIVE_2: u8 = 0x82;

@@ -31,7 +31,7 @@ fn number(digits: &[u8]) -> usize
     number
 }
 
-/// The length in the first `count` octets, and the bytes after them. The octet before them gave `count`.
+/// The length in the first `count` octets, and the bytes after them. The octet before them says `count`: at most 4, as a length here is below 2^32.
 #[tactic(auto, unfolding(crate::specs::ValueReading::long_length_at))]
 fn long_length(count: usize, bytes: &[u8]) -> Option<(usize, &[u8])>
     ensures exact { AgreesWith (λ x. (x.0, x.1.now)) result (long_length_at count bytes.now) }
@@ -96,17 +96,15 @@ fn first_element(bytes: &[u8]) -> Option<(u8, &[u8], &[u8])>
 }
 
 /// The value at the front, and the bytes after it. A value is a tag of one octet, the length in the fewest octets, at most five, and the
-/// contents, which are not looked into. `None` if no prefix of the bytes is a value. At most one prefix is one (`laws::no_two_prefixes`).
+/// contents, which are not looked into. `None` if no prefix of the bytes is a value; at most one prefix is (`laws::no_two_prefixes`).
 pub fn take(bytes: &[u8]) -> Option<(Tlv<'_>, &[u8])>
-    // The result is a whole value, and the bytes after it.
     ensures found { IfSome result
         (λ x. IsTlv x.0.raw.now x.0.tag x.0.contents.now × (bytes.now ≡ x.0.raw.now ++ x.1.now)) }
 
-    // `None` only if no prefix is a value.
     ensures none { IfNone result
         ((raw rest contents : List ℕ) (tag : ℕ) → IsTlv raw tag contents → bytes.now ≡ raw ++ rest → ⊥) }
 
-    // The result by the function `value_at`, for readers in other crates.
+    // The same by the definition `value_at`, which contracts in other crates cite.
     ensures exact { AgreesWith (λ x. (record { tag = x.0.tag; contents = x.0.contents.now }, x.1.now)) result
         (value_at bytes.now) }
     ensures shorter { IfSome result (λ x. length x.0.raw.now + length x.1.now ≡ length bytes.now) }

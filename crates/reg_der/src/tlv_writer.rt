@@ -1,5 +1,5 @@
-//! Appends DER values to a vector. [`put`] and each `put_` function append exactly one value ([`put_raw`]: the bytes), or leave the vector as
-//! it was. A call allocates at most once, for the whole value, and only if the vector hasn't the capacity for the value.
+//! Appends DER values (tag, length and contents) to a vector. [`put`] and each `put_` function append exactly one value ([`put_raw`]: the bytes), or
+//! leave the vector as it was. A call allocates at most once, for the whole value, and only if the vector hasn't the capacity for it.
 
 ghost use Rattle.std.specs.Prelude.{◌≡◌, ℕ, List, ◌∷◌, ◌++◌, ◌+◌, ◌≤◌, ◌<◌, ◌%◌, ◌^◌, length, OnOk, OnErr, vec_capacity};
 ghost use Rattle.reg_core.specs.Integer.{IsInteger, integer, without_zeros, with_clear_bit};
@@ -19,7 +19,7 @@ const LONG_FORM: u8 = 128;
 /// The last year that is written as a UTCTime (RFC 5280 4.1.2.5).
 const LAST_UTC_YEAR: u16 = 2049;
 
-/// Appends the value with this tag, one octet whose low five bits aren't all ones, and contents of fewer than 2^32 bytes.
+/// Appends the value with this tag (one octet, whose low five bits aren't all ones) and these contents, fewer than 2^32 bytes.
 /// `Memory` only if `out` hasn't the capacity for the value; then `out` is unchanged.
 #[tactic(auto, unfolding(crate::specs::Der::tlv))]
 pub fn put(out: &mut Vec<u8>, tag: u8, contents: &[u8]) -> Result<(), Memory>
@@ -40,7 +40,7 @@ pub fn put(out: &mut Vec<u8>, tag: u8, contents: &[u8]) -> Result<(), Memory>
     Ok(())
 }
 
-/// Appends bytes as they are; `Memory` leaves `out` unchanged.
+/// Appends bytes as they are, without a tag. `Memory` if out of memory; then `out` is unchanged.
 pub fn put_raw(out: &mut Vec<u8>, bytes: &[u8]) -> Result<(), Memory>
     ensures ok { AppendsOnOk out.old out.new result bytes.now }
     ensures length_is { OnOk result (length out.new.items ≡ length out.old.items + length bytes.now) }
@@ -55,7 +55,7 @@ pub fn copy_of(alloc: Global, bytes: &[u8]) -> Result<Vec<u8>, Memory>
     Vec::from_slice(alloc, bytes).map_err(|_| Memory)
 }
 
-/// Appends the INTEGER of the number; `Memory` as for [`put`].
+/// Appends the number as an INTEGER; `Memory` as for [`put`].
 pub fn put_number(out: &mut Vec<u8>, number: u64) -> Result<(), Memory>
     ensures ok { AppendsOnOk out.old out.new result (integer_value number) }
     ensures value { IsTlv (integer_value number) 2 (integer number) }
@@ -68,7 +68,7 @@ pub fn put_number(out: &mut Vec<u8>, number: u64) -> Result<(), Memory>
     put_integer(out, &number.to_be_bytes())
 }
 
-/// Appends the INTEGER of the serial number (RFC 5280 4.1.2.2); `Memory` as for [`put`].
+/// Appends the serial number as an INTEGER (RFC 5280 4.1.2.2); `Memory` as for [`put`].
 pub fn put_serial(out: &mut Vec<u8>, serial: Serial) -> Result<(), Memory>
     ensures ok { AppendsOnOk out.old out.new result (integer_value serial) }
     ensures value { IsTlv (integer_value serial) 2 (integer serial) }
@@ -95,8 +95,7 @@ pub fn put_bits(out: &mut Vec<u8>, bytes: &[u8]) -> Result<(), Memory>
     put_with_leading_zero(out, BIT_STRING, bytes)
 }
 
-/// Appends the Time of the moment (RFC 5280 4.1.2.5, 5.1.2.4), in UTC: a UTCTime through the year 2049, a GeneralizedTime from
-/// 2050 on; `Memory` as for [`put`].
+/// Appends the Time of the moment (RFC 5280 4.1.2.5), in UTC: a UTCTime through 2049, a GeneralizedTime from 2050 on; `Memory` as for [`put`].
 #[tactic(auto, unfolding(crate::specs::WrittenValues::time_value, reg_core::specs::Calendar::utc_text, reg_core::specs::Calendar::general_text))]
 pub fn put_utc_or_general(out: &mut Vec<u8>, moment: Moment) -> Result<(), Memory>
     ensures ok { AppendsOnOk out.old out.new result (time_value moment) }
@@ -127,6 +126,7 @@ pub fn put_general(out: &mut Vec<u8>, moment: Moment) -> Result<(), Memory>
     put(out, GENERALIZED_TIME, &general_text(moment.civil()))
 }
 
+/// Appends the INTEGER of a number. `octets` are its big-endian octets, perhaps with zeros in front, and `digits` those after the zeros.
 fn put_integer(out: &mut Vec<u8>, octets: &[u8]) -> Result<(), Memory>
     requires { length octets.now ≤ 20 }
     ensures ok { AppendsOnOk out.old out.new result (tlv 2 (with_clear_bit (without_zeros octets.now))) }
@@ -147,7 +147,7 @@ fn put_integer(out: &mut Vec<u8>, octets: &[u8]) -> Result<(), Memory>
     }
 }
 
-/// Appends the value with this tag whose contents are a zero octet and the bytes.
+/// Appends the value with this tag whose contents are a zero octet and the bytes. (In a BIT STRING that octet counts the unused bits.)
 #[tactic(auto, unfolding(crate::specs::Der::tlv))]
 fn put_with_leading_zero(out: &mut Vec<u8>, tag: u8, bytes: &[u8]) -> Result<(), Memory>
     requires { length bytes.now + 1 < 2 ^ 32 }
@@ -201,7 +201,7 @@ fn reserve(out: &mut Vec<u8>, more: usize) -> Result<(), Memory>
     out.reserve(more).map_err(|_| Memory)
 }
 
-/// Appends bytes for which `out` has the capacity, without an allocation.
+/// Appends bytes for which `out` has the capacity: so it allocates nothing, and can't fail.
 fn append(out: &mut Vec<u8>, bytes: &[u8])
     requires { length out.old.items + length bytes.now ≤ vec_capacity out.old }
     ensures items { out.new.items ≡ out.old.items ++ bytes.now }

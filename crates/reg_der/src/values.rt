@@ -36,8 +36,7 @@ pub fn whole(tag: u8, bytes: &[u8]) -> Option<&[u8]>
     }
 }
 
-/// The contents of the value at the front, and the bytes after it; `(None, bytes)` if there is no first byte, or it is not this tag. `None` if
-/// the first byte is this tag, but no value is there.
+/// Reads an optional field: its contents, or `None` if the first byte is not this tag; and the bytes after it. Outer `None`: the field isn't whole.
 #[tactic(auto, unfolding(crate::specs::TaggedValues::optional_at))]
 pub fn optional(tag: u8, bytes: &[u8]) -> Option<(Option<&[u8]>, &[u8])>
     ensures exact { AgreesWith (λ x. (option_copied x.0, x.1.now)) result (optional_at tag bytes.now) }
@@ -51,7 +50,7 @@ pub fn optional(tag: u8, bytes: &[u8]) -> Option<(Option<&[u8]>, &[u8])>
     }
 }
 
-/// The contents of a value with this tag, if the bytes are this value and nothing else; `Some(None)` if there are no bytes; else `None`.
+/// As [`optional`], for the last field: `Some(None)` if there are no bytes; `None` if the bytes are not one value with this tag and nothing else.
 #[tactic(auto, unfolding(crate::specs::TaggedValues::last_at))]
 pub fn last(tag: u8, bytes: &[u8]) -> Option<Option<&[u8]>>
     ensures exact { AgreesWith (λ x. option_copied x) result (last_at tag bytes.now) }

@@ -9,7 +9,7 @@ use std::os::fd::AsRawFd;
 use std::process::ExitCode;
 use std::{env, io};
 
-/// Does the job of the command line. Returns the exit status of [`run_desk`]; without a job (help, version, usage error), of [`print_usage`].
+/// Does the job of the command line ([`run_desk`]), or prints help, the version or a usage error ([`print_usage`]). Returns the exit status.
 fn main(rt: HostRuntime) -> ExitCode {
     let _streams = fill_closed_streams(&rt);
     let status = match words_of(&rt) {
@@ -22,8 +22,8 @@ fn main(rt: HostRuntime) -> ExitCode {
     ExitCode::from(status)
 }
 
-/// Opens `/dev/null` in place of each closed standard stream, and returns these files, which `main` keeps open. A new file or socket gets the lowest
-/// free number: else a socket could get a closed stream's, and its peer what the program prints. Such an input can't be read, nor an output written.
+/// Opens `/dev/null` in place of each closed standard stream, and returns these files, which `main` keeps open. Otherwise a socket could get the file
+/// descriptor 1, and its client what the program prints. Input is opened for writing only, outputs for reading only, so that their use fails.
 fn fill_closed_streams(rt: &HostRuntime) -> io::Result<Vec<File>> {
     let mut filled = Vec::new(rt.alloc());
     for stream in [0, 1, 2] {
@@ -46,7 +46,7 @@ fn words_of(rt: &HostRuntime) -> Result<Vec<String>, Usage> {
     }
 }
 
-/// Prints help, the version, or why the command line can't be read. Returns [`Usage::status`], or 1 if the text can't be written.
+/// Prints help, the version, or why the command line can't be read. Returns [`Usage::status`], or 1 (fault F5) if the text can't be written.
 fn print_usage(rt: &HostRuntime, usage: &Usage) -> u8 {
     let printed = match usage {
         Usage::Help(text) | Usage::Version(text) => print!(rt; "{text}"),

@@ -5,7 +5,7 @@ ghost use Rattle.std.specs.Prelude.{◌≡◌};
 use reg_core::Moment;
 use std::marker::Model;
 
-/// A word of the command line as it was typed: a path, or bytes in hexadecimal. Contracts see the list of its bytes.
+/// A word of the command line as it was typed, such as a path, or bytes in hexadecimal. Contracts see the list of the bytes of its text.
 #[derive(Drop)]
 pub struct Argument<'a> {
     text: &'a str,
@@ -20,14 +20,12 @@ impl<'a> Model for Argument<'a> {
 }
 
 impl<'a> Argument<'a> {
-    /// The word with this text.
     pub fn of(text: &'a str) -> Argument<'a>
         ensures { result ≡ text.entry.now }
     {
         Argument { text }
     }
 
-    /// The text of the word.
     pub fn as_str(&self) -> &'a str
         ensures { result.now ≡ self.now }
     {
@@ -35,8 +33,7 @@ impl<'a> Argument<'a> {
     }
 }
 
-/// The steps of a schedule, in the given order. Each is a moment, and the days of the longest validity from then on.
-/// Contracts see the list of them.
+/// The steps of a schedule as given, perhaps invalid: a moment, and the most days of validity for a notBefore from it on. Contracts see their list.
 #[derive(Drop)]
 pub struct Steps {
     steps: Vec<(Moment, u64)>,
@@ -51,14 +48,12 @@ impl Model for Steps {
 }
 
 impl Steps {
-    /// Makes the steps from a vector.
     pub fn of(steps: Vec<(Moment, u64)>) -> Steps
         ensures { result ≡ steps.items }
     {
         Steps { steps }
     }
 
-    /// The steps, in the order given.
     pub fn as_slice(&self) -> &[(Moment, u64)]
         ensures { result.now ≡ self.now }
     {

@@ -13,7 +13,7 @@ use reg_core::{Fault, Label, Memory, Policy, Schedule};
 use reg_der::{Issuer, IssuerFault};
 use std::alloc::Global;
 
-/// The number of the first CRL that has the key identifier.
+/// The number of the first CRL that has the key identifier: that of a new register's first CRL, so all have it.
 const FIRST_CRL: u64 = 1;
 
 /// The issuer whose Name and key the two words have in hexadecimal. `BadIssuer` if a word is not hexadecimal, or if the
@@ -32,8 +32,7 @@ pub fn issuer_of(alloc: Global, name: &Argument<'_>, key: &Argument<'_>) -> Resu
     }
 }
 
-/// The key identifier that the word has in hexadecimal (RFC 5280 4.2.1.2). `BadIssuer` if the word is not 1 to 64 bytes in hexadecimal;
-/// otherwise the only failure is out of memory.
+/// The key identifier (RFC 5280 4.2.1.2), 1 to 64 bytes, that the word has in hexadecimal; else `BadIssuer`, or the fault `Memory`.
 pub fn key_identifier_of(alloc: Global, key_id: &Argument<'_>) -> Result<Label, Failure>
     ensures ok { IfOk result (WritesIdentifier key_id.now) }
     ensures err { IfErr result (IsNoIdentifier key_id.now) }

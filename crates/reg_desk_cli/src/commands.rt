@@ -21,19 +21,17 @@ use reg_core::Moment;
 use reg_core_lists::{Cursor, Filter, Format};
 use std::alloc::{AllocError, Global};
 
-/// The longest validity in days of the default policy.
+/// The defaults, as `Policy::usual`: most days of validity, seconds from thisUpdate to nextUpdate of CRLs and of OCSP responses, most rows a table.
 const DEFAULT_DAYS: u64 = 398;
 
-/// The seconds from thisUpdate to nextUpdate of a CRL in the default policy: eight days.
 const DEFAULT_CRL_LIFE: u64 = 691_200;
 
-/// The seconds from thisUpdate to nextUpdate of an OCSP response in the default policy: four days.
 const DEFAULT_OCSP_LIFE: u64 = 345_600;
 
-/// The most rows of a table in the default policy.
 const DEFAULT_CAP: u64 = 1_000_000;
 
-/// The job of a command; `None` if a value is malformed or out of range, or if options exclude or lack each other.
+/// The job of the command with this name, whose arguments and options clap found in `given`. `None` if a value is malformed or out of range, or if an
+/// option excludes another or lacks one that it needs.
 #[tactic(auto, unfolding(crate::specs::Jobs::job_in))]
 pub(crate) fn read_command<'a>(
     alloc: Global,
@@ -77,7 +75,6 @@ fn read_serving<'a>(
     }
 }
 
-/// As `read_command`, for `schedule`, `key-id`, `list`, `copy` and `audit`.
 #[tactic(auto, unfolding(crate::specs::Jobs::other_job_in))]
 fn read_other_job<'a>(
     alloc: Global,
@@ -125,7 +122,7 @@ fn read_script<'a>(given: &ArgMatches<'a>) -> Option<Job<'a>>
     script_job(word_of(given, "file"), signer, script_options_of(given))
 }
 
-/// The job of `script`; only a script over FILE can run line by line.
+/// The job of `script`: with `--clock` or `--strict` it is `Lines`, or `None` without FILE; else `Script`.
 fn script_job<'a>(
     file: Option<Argument<'a>>,
     signer: Option<SignerAddress<'a>>,
@@ -165,7 +162,7 @@ fn import_moment(given: &ArgMatches<'_>) -> Option<Option<Moment>>
     one_moment(moment_option(given, "now")?, is_set(given, "clock"))
 }
 
-/// `Some(now)` if exactly one of a moment and the clock is given.
+/// `Some(now)`, where no moment stands for the clock, if exactly one of the two is given; else `None`.
 fn one_moment(now: Option<Moment>, is_clocked: bool) -> Option<Option<Moment>>
     ensures { result ≡ one_moment now is_clocked }
 {
@@ -249,6 +246,7 @@ fn read_at<'a>(given: &ArgMatches<'a>) -> Option<Job<'a>>
     )
 }
 
+/// The job of `at`, from the files of `--import` and `--revoke` and the values of `--orders`; `None` if these options do not go together.
 fn at_job<'a>(
     control_path: Argument<'a>,
     imported: Option<Argument<'a>>,
@@ -310,6 +308,7 @@ fn read_list<'a>(given: &ArgMatches<'a>) -> Option<Job<'a>>
     let file = word_of(given, "file")?;
     let word = text_of(given, "list")?;
     let before = moment_option(given, "before")?;
+    // The list with this name, from its first row on. The list `ending` needs `--before`, and no other list takes it.
     let from = Cursor::named(word.as_bytes(), before)?;
     let moment = moment_option(given, "now")?;
     let filter = filter_for(given, &from)?;
@@ -322,7 +321,7 @@ fn read_list<'a>(given: &ArgMatches<'a>) -> Option<Job<'a>>
     }))
 }
 
-/// The filter of a list; `None` if the value of an option can't be read, or if the rows of the list lack a field that an option selects by.
+/// The filter of the list with this cursor; `None` if an option's value can't be read, or if the list's rows lack a field that an option selects by.
 #[tactic(auto, unfolding(crate::specs::Jobs::filter_for))]
 fn filter_for(given: &ArgMatches<'_>, list: &Cursor) -> Option<Filter>
     ensures { result ≡ filter_for list.now (rows_of (found_of given.now)) }

@@ -1,4 +1,4 @@
-//! Makes the `Command` of the crate `clap` from `table.rt`.
+//! Makes the `Command` of the crate `clap` from `table.rt`. The clauses `local` say that clap accepts an option only where it is declared.
 
 ghost use Rattle.std.specs.Prelude.{◌≡◌, IfOk, OnOk, [], false, map};
 ghost use Rattle.clap.specs.Words.{App, app_of, rule_of, with_subcommand};
@@ -6,7 +6,7 @@ ghost use Rattle.clap.specs.declared.builder.command.Command.TheViews.{out-Comma
 ghost use Rattle.reg_desk_cli.specs.Desk.{may, needs, bare_app, app_without_commands, desk_app, other_command_apps, first_command_apps, with_commands, with_rules};
 ghost use Rattle.reg_desk_cli.specs.Table.{AreLocal, app_of_entry, rule_of_part, with_made};
 
-use crate::table::{CommandEntry, FIRST_COMMANDS, GLOBAL_OPTIONS, OTHER_COMMANDS, Part};
+use crate::table::{CommandEntry, FIRST_COMMANDS, OPTIONS_BEFORE_COMMAND, OTHER_COMMANDS, Part};
 use clap::{Arg, ArgAction, Command};
 use std::alloc::{AllocError, Global};
 
@@ -70,7 +70,7 @@ fn without_commands<'a>(alloc: Global) -> Result<Command<'a>, AllocError>
     ensures app { IfOk result (λ made. app_of made ≡ app_without_commands) }
     ensures local { IfOk result (λ made. (fields_of made).has_globals ≡ false) }
 {
-    with_parts(alloc, bare(alloc), GLOBAL_OPTIONS)
+    with_parts(alloc, bare(alloc), OPTIONS_BEFORE_COMMAND)
 }
 
 /// The command line without its commands and without `--why`.
@@ -148,6 +148,7 @@ fn needed<'a>(alloc: Global, id: &'a str, name: &'a str, help: &'a str) -> Arg<'
     word(alloc, id, name, help).long(id).required(true)
 }
 
+/// A positional argument that may be left out and takes one value; `long` makes it an option.
 fn word<'a>(alloc: Global, id: &'a str, name: &'a str, help: &'a str) -> Arg<'a>
     ensures rule { rule_of result ≡ may id.entry.now }
     ensures local { result.global ≡ false }

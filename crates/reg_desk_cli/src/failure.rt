@@ -6,14 +6,13 @@ ghost use Rattle.reg_desk_cli.specs.ExitStatus.{failure_line, exit_status};
 use reg_core::{Fault, Label};
 use reg_store_tables::{DatabaseFault, StoreFault};
 
-/// Why a job failed.
 #[derive(Clone, Copy, PartialEq, Eq)]
 pub enum Failure {
     /// A refusal of the register, or a fault of memory, store, signer, input or output.
     Fault(Fault),
     /// The file of a new register has a table, an index or a view already.
     NotEmpty,
-    /// The file has no database yet, or its schema, its row of `office` or its schedule is not that of a register.
+    /// The file has no database yet, or its schema, its row in the table `office` (issuer and policy) or its schedule is not that of a register.
     NotARegister,
     /// A newer version of the program wrote the register.
     NewVersion,
@@ -23,7 +22,7 @@ pub enum Failure {
     BadIssuer,
     /// An option of `init` is out of its range (`--days`, `--crl-life`, `--ocsp-life` or `--cap`), or the steps given to `schedule` are invalid.
     BadPolicy,
-    /// The clock is more than 30 days past the last accepted moment.
+    /// The clock is more than 30 days past the last accepted moment, and the operator has not accepted it.
     BadClock,
     /// The latest CRL is signed, and new ones would have another algorithm or a placeholder digest; or the issuer's key does not fit the signer's
     /// algorithm; or a signer is given for a register in memory.
@@ -38,9 +37,9 @@ pub enum Failure {
     RefusedNoLineEnd,
     /// An audit found a broken row, or a schema that is not that of a register.
     Broken,
-    /// The file of a published CRL has no CRL with a number (RFC 5280 5.2.3), or the CRL has an invalid entry.
+    /// The file given by `--published` has no CRL with a number (RFC 5280 5.2.3), or the CRL has an invalid entry.
     NotACrl,
-    /// The register's latest CRL has a lower number than a published one, or a serial number that the published one lists is not revoked.
+    /// The register's latest CRL has a lower number than the CRL given by `--published`, or a serial number that the latter lists is not revoked.
     LacksPublished,
 }
 
@@ -123,6 +122,7 @@ pub fn status_of(ending: &Result<(), Failure>) -> u8
     }
 }
 
+/// The text as a label. It needs no `Option` as [`Label::of`] does, because the text has 1 to 64 bytes.
 fn words(text: &[u8]) -> Label
     requires not_empty { 1 ≤ length text.now }
     requires short { length text.now ≤ 64 }

@@ -29,7 +29,7 @@ pub enum ResponderChoice<'a> {
     },
 }
 
-/// The options of a script that runs line by line.
+/// The options of a script that has `--clock` or `--strict`.
 #[derive(Clone, Copy, PartialEq, Eq)]
 pub struct ScriptOptions {
     /// The lines have no moments: they run at the moments of the machine's clock.
@@ -56,15 +56,14 @@ pub struct NewRegister<'a> {
     pub crl_life: u64,
     /// The seconds from thisUpdate to nextUpdate of an OCSP response.
     pub ocsp_life: u64,
-    /// The greatest number of rows of a table.
+    /// The greatest number of rows of each table.
     pub cap: u64,
 }
 
-/// A script that runs line by line over a register.
+/// A script with `--clock` or `--strict` over a register.
 #[derive(Drop)]
 pub struct LineScript<'a> {
     pub file: Argument<'a>,
-    /// Without a signer, a placeholder digest replaces each signature.
     pub signer: Option<SignerAddress<'a>>,
     pub options: ScriptOptions,
 }
@@ -81,12 +80,10 @@ pub struct ImportJob<'a> {
     pub is_strict: bool,
 }
 
-/// An address of the loopback interface (RFC 1122 3.2.1.3, RFC 4291 2.5.3).
+/// An address of the loopback interface: 127.0.0.1 (RFC 1122 3.2.1.3) or `::1` (RFC 4291 2.5.3).
 #[derive(Clone, Copy, PartialEq, Eq)]
 pub enum Loopback {
-    /// 127.0.0.1.
     V4,
-    /// `::1`.
     V6,
 }
 
@@ -113,12 +110,11 @@ pub struct ServeJob<'a> {
     pub published: Option<Argument<'a>>,
 }
 
-/// A register that is kept open, with a control socket.
+/// A register that is kept open, with a control socket at the path `control`.
 #[derive(Drop)]
 pub struct OpenJob<'a> {
     pub file: Argument<'a>,
     pub endpoint: Endpoint,
-    /// The path of the control socket.
     pub control: Argument<'a>,
     /// As in [`ServeJob`].
     pub signer: Option<SignerAddress<'a>>,
@@ -131,7 +127,7 @@ pub struct OpenJob<'a> {
 #[derive(Drop)]
 pub struct ListJob<'a> {
     pub file: Argument<'a>,
-    /// The list, named by the cursor before its first row.
+    /// Which list: the cursor before its first row.
     pub from: Cursor,
     /// The moment for which the list is written; `None` for that of the machine's clock.
     pub moment: Option<Moment>,
@@ -159,12 +155,13 @@ pub enum RowTask {
 #[derive(Drop)]
 pub enum Job<'a> {
     Init(NewRegister<'a>),
-    /// Runs the script of standard input, over FILE or over a register in memory. Without a signer, a placeholder digest replaces each signature.
+    /// Runs the script of standard input, over FILE or over a register in memory: each line has its moment, and refusals don't end the script.
+    /// Without a signer, a placeholder digest replaces each signature.
     Script {
         file: Option<Argument<'a>>,
         signer: Option<SignerAddress<'a>>,
     },
-    /// Runs the script of standard input over FILE line by line, as `--clock` and `--strict` need.
+    /// As `Script` over FILE, but with `--clock` or `--strict`.
     Lines(LineScript<'a>),
     /// Registers the rows of standard input, all at one moment.
     Import(ImportJob<'a>),
@@ -221,7 +218,7 @@ pub enum Job<'a> {
 #[derive(Drop)]
 pub struct Invocation<'a> {
     pub job: Job<'a>,
-    /// Whether the cause of a failure, or why a strict script's or import's registration was refused, is reported if it is known (`--why`).
+    /// `--why`: reports the cause of a failure, if it is known. If a registration with E08, E09 or E12 ends a strict script or import, says why.
     pub is_explained: bool,
     /// Whether `serve` or `open` logs each exchange on standard error.
     pub has_log: bool,
@@ -238,7 +235,6 @@ pub enum Usage {
     Version(String),
     /// What is wrong with the command line, for standard error.
     Bad(String),
-    /// Out of memory.
     Memory,
 }
 

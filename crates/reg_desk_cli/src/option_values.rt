@@ -1,4 +1,4 @@
-//! Reads the values of the arguments and options of a command.
+//! Reads the values of a command's arguments and options. `matches` is what clap found, and `id` names an argument, or an option by its long name.
 
 ghost use Rattle.std.specs.Prelude.{◌≡◌, ◌≤◌, ◌==◌, IfOk, IfSome, List, ℕ, map, option_and_then, option_map, position};
 ghost use Rattle.reg_core.specs.Calendar.{moment_of};
@@ -117,7 +117,7 @@ fn read_loopback(text: &str) -> Option<Loopback>
     }
 }
 
-/// The filter from the four options of `list`; `None` if the value of one can't be read.
+/// The filter from four options of `list`; `None` if the value of one can't be read.
 #[tactic(auto, unfolding(crate::specs::Jobs::filter_in))]
 pub(crate) fn filter_option(matches: &ArgMatches<'_>) -> Option<Filter>
     ensures { result ≡ filter_in (rows_of (found_of matches.now)) }
@@ -150,15 +150,15 @@ pub(crate) fn prefix_option(matches: &ArgMatches<'_>, id: &str) -> Option<Option
     }
 }
 
-/// The signer; `Some(None)` if neither of its two options is given, `None` if only one is, or if no algorithm has the name.
+/// The signer; `Some(None)` if neither `--signer` nor `--algorithm` is given, `None` if only one is, or if no algorithm has the name.
 pub(crate) fn signer_option<'a>(matches: &ArgMatches<'a>) -> Option<Option<SignerAddress<'a>>>
     ensures { result ≡ signer_in (rows_of (found_of matches.now)) }
 {
     signer_by(matches, "signer", "algorithm")
 }
 
-/// The responder to OCSP requests: a delegate if the three `--responder` options are given, or the issuer if none is. `None` if only some are
-/// given, if no algorithm has the name, or if a delegate is given with `--embed`.
+/// The responder to OCSP requests: a delegate if `--responder`, `--responder-signer` and `--responder-algorithm` are given, the issuer if none is.
+/// `None` if only some are given, if no algorithm has the name, or if a delegate is given with `--embed`.
 #[tactic(auto, unfolding(crate::specs::Jobs::responder_in))]
 pub(crate) fn responder<'a>(matches: &ArgMatches<'a>) -> Option<ResponderChoice<'a>>
     ensures { result ≡ responder_in (rows_of (found_of matches.now)) }
@@ -193,6 +193,7 @@ fn responder_of<'a>(
     }
 }
 
+/// As [`signer_option`], from the options with these ids: `socket` for the signer's socket, `algorithm` for its algorithm.
 fn signer_by<'a>(
     matches: &ArgMatches<'a>,
     socket: &str,
@@ -210,8 +211,8 @@ fn signer_by<'a>(
     }
 }
 
-/// The signer of CRLs for `open`; `Some(None)` with `--unsigned`, or with a delegate and no signer. `None` as for [`signer_option`], if `--unsigned`
-/// is given with a signer or a delegate, or if none of the three is given.
+/// The signer of CRLs for `open`; `Some(None)` with `--unsigned`, or with a delegate and no signer. `None` where [`signer_option`] gives `None`, if
+/// `--unsigned` is given with a signer or a delegate, or if none of the three is given.
 pub(crate) fn signer_or_unsigned<'a>(
     matches: &ArgMatches<'a>,
     responder: &ResponderChoice<'_>,
@@ -238,6 +239,7 @@ fn choose<'a>(
 ) -> Option<Option<SignerAddress<'a>>>
     ensures { result ≡ chosen signer.entry is_unsigned is_delegated }
 {
+    // Either `--unsigned` is given, or a signer: that of CRLs, that of a delegate, or both.
     let has_other = signer.is_some() || is_delegated;
     if has_other == is_unsigned {
         None
@@ -246,7 +248,6 @@ fn choose<'a>(
     }
 }
 
-/// The options of a script.
 pub(crate) fn script_options_of(matches: &ArgMatches<'_>) -> ScriptOptions
     ensures { result ≡ script_options_in (rows_of (found_of matches.now)) }
 {
@@ -257,7 +258,7 @@ pub(crate) fn script_options_of(matches: &ArgMatches<'_>) -> ScriptOptions
     }
 }
 
-/// Whether an option without a value is given.
+/// Whether an option without a value is given: then clap gives it the value `true`.
 pub(crate) fn is_set(matches: &ArgMatches<'_>, id: &str) -> bool
     ensures { result ≡ has_flag id.now (rows_of (found_of matches.now)) }
 {
@@ -267,7 +268,7 @@ pub(crate) fn is_set(matches: &ArgMatches<'_>, id: &str) -> bool
     }
 }
 
-/// The subscriber and the days of `--orders`; `Some(None)` if it is not given, `None` if its values are not two numbers.
+/// The subscriber's id and the days of `--orders`; `Some(None)` if it is not given, `None` if its values are not two numbers.
 pub(crate) fn order_terms_option(matches: &ArgMatches<'_>) -> Option<Option<OrderTerms>>
     ensures { result ≡ order_terms_given (rows_of (found_of matches.now)) }
 {
@@ -289,7 +290,7 @@ fn read_order_terms(texts: &[&str]) -> Option<OrderTerms>
     })
 }
 
-/// The steps of a schedule; `None` if there are none, or if one is not MOMENT=DAYS.
+/// The steps of a schedule; `None` if none is given, or if one is not MOMENT=DAYS.
 pub(crate) fn steps(
     alloc: Global,
     matches: &ArgMatches<'_>,

@@ -1,7 +1,6 @@
 //! The command line as a table: its commands, their arguments and options, and the help for each.
 
-/// A positional argument or an option of a command. The texts of a variant are its id (for an option also
-/// its long name), the name of its value in `--help`, and its help.
+/// A positional argument or an option. The fields, in order: its id (for an option also its long name), the name of its value in `--help`, its help.
 #[derive(Clone, Copy)]
 pub(crate) enum Part {
     RequiredArgument(&'static str, &'static str, &'static str),
@@ -9,16 +8,16 @@ pub(crate) enum Part {
     /// One or more arguments: all that are left.
     Rest(&'static str, &'static str, &'static str),
     RequiredOption(&'static str, &'static str, &'static str),
-    /// As `RequiredOption`, but the second text is an older name, which help leaves out.
+    /// As `RequiredOption`, with an older name after the id, which is accepted too, but not in the help.
     Renamed(&'static str, &'static str, &'static str, &'static str),
     OptionalOption(&'static str, &'static str, &'static str),
     /// An option that may be left out and takes several values: its id, the name of each value, and its help.
     Several(&'static str, &'static [&'static str], &'static str),
-    /// An option that may be left out and takes no value.
+    /// An option that may be left out and takes no value: its id, and its help.
     Flag(&'static str, &'static str),
 }
 
-/// A command: its name, what it does, an example, and its arguments and options.
+/// A command: its name; what it does, and examples, both as its help prints them; and its arguments and options.
 #[derive(Clone, Copy)]
 pub(crate) struct CommandEntry {
     pub(crate) name: &'static str,
@@ -165,11 +164,10 @@ const CAUSE_OR_REASON: &str =
 const CAUSE_ANYWHERE: &str =
     "Print the cause of a failure in a second line, if it is known; also after a command";
 
-/// The options before a command.
-pub(crate) const GLOBAL_OPTIONS: &[Part] = &[Part::Flag("why", CAUSE_ANYWHERE)];
+pub(crate) const OPTIONS_BEFORE_COMMAND: &[Part] = &[Part::Flag("why", CAUSE_ANYWHERE)];
 
-/// `init`, `script`, `import`, `crl`, `serve` and `open`, in the order in which help lists them. Only one small function uses this constant, because
-/// a long constant costs the prover seconds in each step. For the same reason the other commands are in `OTHER_COMMANDS`.
+/// The first commands, in the order in which help lists them. The others are in a constant of their own, and only one small function uses this one,
+/// because a long constant costs the prover seconds in each step of a function that uses it.
 pub(crate) const FIRST_COMMANDS: &[CommandEntry] = &[
     CommandEntry {
         name: "init",

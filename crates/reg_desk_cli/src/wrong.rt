@@ -12,7 +12,7 @@ pub(crate) const LAST_PORT: u64 = 65_535;
 
 pub(crate) const MOST_REQUESTS: u64 = 1_000_000;
 
-/// The greatest number of 18 digits.
+/// The greatest number that [`read_number`] takes: it has 18 digits.
 const MOST: u64 = 999_999_999_999_999_999;
 
 /// The options whose value is a number: the id and the name of each, and its bounds here. `policy_of` checks the narrower bounds of a policy.
@@ -34,7 +34,7 @@ const MOMENTS: [(&str, &str); 4] = [
     ("to", "--to"),
 ];
 
-/// The options of a responder: the id and the name of each.
+/// The options of a responder: the id and the name of each. The algorithm is first, so that the message names it if it is unknown.
 const RESPONDERS: [(&str, &str); 3] = [
     ("responder-algorithm", "--responder-algorithm"),
     ("responder-signer", "--responder-signer"),
@@ -99,7 +99,7 @@ pub(crate) fn wrong_text(alloc: Global, matches: &ArgMatches<'_>) -> Option<Stri
     format!(in alloc; "invalid value '{value}' for '{option}': {wanted}").ok()
 }
 
-/// The rule about the options of the given command that exclude or lack each other.
+/// The rule about the options of the given command that exclude or lack each other. The last case is `script`.
 fn combination_wanted(matches: &ArgMatches<'_>) -> &'static str {
     match matches.subcommand() {
         Some((name, _)) if name == "open" => OPEN_WANTED,
@@ -176,7 +176,6 @@ fn wrong_step<'a>(given: &ArgMatches<'a>) -> Option<Wrong<'a>> {
     None
 }
 
-/// The value of `--orders` that is no number.
 fn wrong_orders<'a>(given: &ArgMatches<'a>) -> Option<Wrong<'a>> {
     for value in given.get_strs("orders")? {
         if read_number(value.as_bytes()).is_none() {

@@ -19,6 +19,7 @@ use std::hash::{BuildHasher, RandomState};
 use std::io::ErrorKind;
 use std::os::unix::fs::OpenOptionsExt;
 
+/// The bytes of a page of a register that `desk` creates.
 const PAGE: u64 = 4096;
 
 /// The fewest pages of the page cache, for 8 MB.
@@ -29,8 +30,8 @@ const MOST_PAGES: usize = 131_072;
 
 const OWNER_ONLY: u32 = 0o600;
 
-/// Opens the database at a path for writing, or creates it. The crate `sqlite` checks each page, index and constraint. `start` is what contracts
-/// suppose of the file and its log (`-wal`). The page cache has room for twice the pages of the file, at least 2,000 and at most 131,072. So a
+/// Opens the database at a path for writing, or creates it. The crate `sqlite` checks each page, index and constraint. `start` only tells contracts
+/// what the file and its log (`-wal`) hold. The page cache has room for twice the pages of the file, at least 2,000 and at most 131,072. So a
 /// look-up seldom reads the file, and a transaction writes each page to the log once. Errors: `Memory`; `Store`, with its cause if that is known, if
 /// the file can't be opened or is no database. `Store` too if the path is `:memory:` or begins with `file:`.
 pub fn open_file<S: Start>(
@@ -51,13 +52,14 @@ pub fn open_file<S: Start>(
     }
     let options = options_for(rt, path)?;
     let files = sqlite_std_file::open(rt, path, start)?;
+    // `false`: a new database has no page checksums.
     match Connection::open_files_with(rt.alloc(), files, options, false) {
         Ok(connection) => Ok(connection),
         Err((error, _)) => Err(FileFault::from(error)),
     }
 }
 
-/// The options to open the database at a path: its page cache, and a random seed for the salts of its log.
+/// The options to open the database at a path: the size of its page cache, and a random seed for the salts of its log.
 pub(crate) fn options_for(rt: &HostRuntime, path: &str) -> Result<Options, FileFault>
     ensures room { IfOk result (λ options. (2000 ≤ options.cache_pages) × (options.cache_pages ≤ 131072)
         × (options.spill_pages ≡ options.cache_pages)) }
@@ -78,6 +80,7 @@ fn cache_pages_for(rt: &HostRuntime, path: &str) -> usize
     ensures fewest { 2000 ≤ result }
     ensures most { result ≤ 131072 }
 {
+    // A file whose size can't be read counts as empty.
     let bytes = fs::metadata(rt, path).map_or(0, |it| it.len());
     usize::try_from((bytes / PAGE).saturating_mul(2))
         .unwrap_or(MOST_PAGES)
@@ -94,8 +97,8 @@ pub enum ClaimFault {
     Taken(Option<Cause>),
 }
 
-/// Creates an empty file at a path with mode 0600. Fails if a file is at the path or at that of its log (`-wal`), which may be all that is left of a
-/// register. A dangling symbolic link counts as a file. If two programs call this at once for one path, only one of them succeeds.
+/// Creates an empty file at a path with mode 0600. Fails if a file is at the path; or at the path of its log (`-wal`), since a log may be all that is
+/// left of a register. A dangling symbolic link counts as a file. If two programs call this at once for one path, only one of them succeeds.
 pub fn claim_file(rt: &HostRuntime, path: &str) -> Result<(), ClaimFault> {
     let Ok(log) = log_path(rt, path) else {
         return Err(ClaimFault::Memory);

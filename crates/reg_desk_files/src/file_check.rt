@@ -15,13 +15,13 @@ use sqlite_pool::probe_blank;
 use sqlite_wal::{Error, PageSize, probe_first_page, probe_page_size};
 use std::alloc::Global;
 
+/// The bytes of a page of a database that opening would create.
 const NEW_PAGE: usize = 4096;
 
 /// The content of a file and its log, as far as reading their beginnings shows.
 #[derive(Clone, Copy, PartialEq, Eq)]
 pub enum FileContent {
-    /// No database yet: the files are empty, or have a part of a first page from an interrupted creation. Opening for writing would create a
-    /// database.
+    /// No database yet: the files are empty, or an interrupted creation left a part of the first page. Opening for writing would create one.
     Nothing,
     /// No database, but something else.
     Other,
@@ -51,6 +51,7 @@ pub fn probe_content<D: Disk>(alloc: Global, files: &mut Files<D>) -> Result<Fil
     Ok(FileContent::Other)
 }
 
+/// Whether opening would create a database, be it one without page checksums or one with them.
 fn is_nothing<D: Disk>(alloc: Global, files: &mut Files<D>) -> Result<bool, Error>
     requires log { IsTrue (D.Disk.is_usable files.old.log) }
     requires db { IsTrue (D.Disk.is_usable files.old.db) }
@@ -65,7 +66,7 @@ fn is_nothing<D: Disk>(alloc: Global, files: &mut Files<D>) -> Result<bool, Erro
     is_blank(alloc, files, true)
 }
 
-/// Whether opening would create a database, if its pages have a checksum of 8 octets each (`has_sums`) or none.
+/// Whether opening would create a database. `has_sums` says whether each page of the new database would have a checksum of 8 octets.
 fn is_blank<D: Disk>(alloc: Global, files: &mut Files<D>, has_sums: bool) -> Result<bool, Error>
     requires log { IsTrue (D.Disk.is_usable files.old.log) }
     requires db { IsTrue (D.Disk.is_usable files.old.db) }
@@ -78,6 +79,7 @@ fn is_blank<D: Disk>(alloc: Global, files: &mut Files<D>, has_sums: bool) -> Res
     probe_blank(alloc, files, size, has_sums)
 }
 
+/// Whether a page size is named, by the log or else by the file, and the first page begins as that of a database.
 fn begins<D: Disk>(alloc: Global, files: &mut Files<D>) -> Result<bool, Error>
     requires log { IsTrue (D.Disk.is_usable files.old.log) }
     requires db { IsTrue (D.Disk.is_usable files.old.db) }
@@ -93,7 +95,7 @@ fn begins<D: Disk>(alloc: Global, files: &mut Files<D>) -> Result<bool, Error>
     }
 }
 
-/// Whether the first page begins with the S of SQLite, as that of each database does (SQLite's file format, 1.3.1).
+/// Whether the first byte (`head.0`) of the first page, which may be in the log, is the S of SQLite, as in each database (SQLite file format 1.3.1).
 fn begins_with<D: Disk>(alloc: Global, files: &mut Files<D>, size: PageSize) -> Result<bool, Error>
     requires log { IsTrue (D.Disk.is_usable files.old.log) }
     requires db { IsTrue (D.Disk.is_usable files.old.db) }

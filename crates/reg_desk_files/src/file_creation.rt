@@ -85,7 +85,7 @@ fn fill_and_name<D: Disk>(
     ensures { IfErr result IsFileFault }
 {
     let bytes = put_pages(pager, file)?;
-    create_result(file.sync_all())?;
+    or_create_fault(file.sync_all())?;
     name(rt, part_path, to)?;
     Ok(bytes)
 }
@@ -95,7 +95,7 @@ fn fill_and_name<D: Disk>(
 fn name(rt: &HostRuntime, part_path: &str, to: &str) -> Result<(), FileFault>
     ensures { IfErr result IsFileFault }
 {
-    create_result(fs::hard_link(rt, part_path, to))?;
+    or_create_fault(fs::hard_link(rt, part_path, to))?;
     match remove_former_name(rt, part_path) {
         Ok(()) => Ok(()),
         Err(error) => {
@@ -114,7 +114,8 @@ fn remove_former_name(rt: &HostRuntime, part_path: &str) -> io::Result<()> {
     folder.sync_all()
 }
 
-fn create_result(outcome: io::Result<()>) -> Result<(), FileFault>
+/// Turns the error of a system call into the fault of a file that can't be created.
+fn or_create_fault(outcome: io::Result<()>) -> Result<(), FileFault>
     ensures { IfErr result IsFileFault }
 {
     match outcome {

@@ -10,11 +10,11 @@ use std::alloc::AllocError;
 use std::io;
 use std::io::ErrorKind;
 
-/// Why a file can't be opened, created, read or written: the fault, and its cause if it is known.
 #[derive(Clone, Copy, PartialEq, Eq)]
 pub struct FileFault {
     /// `Memory` or `Store`.
     pub fault: Fault,
+    /// `None` if it is not known.
     pub cause: Option<Cause>,
 }
 
@@ -82,7 +82,7 @@ impl From<AllocError> for FileFault {
     }
 }
 
-/// Why a file can't be created, by the kind of error of the system call that failed.
+/// Why a new file can't be created or written, by the kind of error. Unlike `From<io::Error>`, it has a cause for `AlreadyExists`.
 pub(crate) fn create_fault_of(kind: ErrorKind) -> FileFault
     ensures { IsFileFault result }
 {

@@ -11,9 +11,9 @@ use std::alloc::Global;
 
 /// Stops the machine: closes the files as they are, lets each lose what was not synced, and opens them again.
 ///
-/// A disk that fails each operation from then on, as [`Fuse`](sqlite_disk::Fuse) does, models a stop in the middle of a call; the call returns
-/// a fault. The law `a_register_opened_after_a_stop_stands_before_or_after` of `reg_office` says which records the register then shows.
-/// Errors: those of [`Connection::open_files`].
+/// For a stop in the middle of a call, the disk fails each operation from some one on, as [`Fuse`](sqlite_disk::Fuse) does: the call returns a fault,
+/// and then `restart` is called. The law `a_register_opened_after_a_stop_stands_before_or_after` of `reg_office` says which records the register
+/// then shows. Errors: those of [`Connection::open_files`].
 pub fn restart<D: Crash + Drop>(
     alloc: Global,
     connection: Connection<FileStore<D>>,

@@ -20,9 +20,9 @@ pub struct Overlay<F: Source> {
     below: Option<F>,
     /// The bytes in memory, if there is no file.
     kept: Vec<u8>,
-    /// The key of the digests by which a page that is read again is checked.
+    /// The key of the digests by which a page is checked when it is read again.
     key: u64,
-    /// How many calls failed, and how many of these read bytes with another digest (`caught`).
+    /// How many calls failed, and how many of these read bytes with another digest than the caller expected (`caught`).
     faults: u64,
     caught: u64,
 }
@@ -111,7 +111,7 @@ impl<F: Source> Disk for Overlay<F> {
 
     ghost fair_if_clean = { λ _ _ clean. clean };
 
-    // Contracts model no crash of this disk (`may_leave`), so no write is torn.
+    // Whether a crash may mix old and new bytes in a write: contracts model no crash of this disk (`may_leave`).
     fn mixes(&self) -> bool {
         false
     }
@@ -193,6 +193,7 @@ fn count<T>(outcome: &io::Result<T>, faults: &mut u64)
     }
 }
 
+/// The error of a write to the file that is only read. It counts as a fault, but `Tally::refused` counts only calls that find the disk full.
 fn refused(faults: &mut u64) -> io::Result<()>
     ensures refused { IsErr result }
     ensures counted { CountsFault result faults.old faults.new }

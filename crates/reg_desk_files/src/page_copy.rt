@@ -79,8 +79,8 @@ fn copy_files<D: Disk + Drop>(
     Ok(write_copy(rt, &mut pager, to)?)
 }
 
-/// A pager with the pages that opening finds in a file and its log. Errors: `Nothing` if there is no database yet; `Memory`; `Store` if the files
-/// hold something else, or if a call failed.
+/// A pager, which reads pages by number, with the pages that opening finds in a file and its log. Errors: `Nothing` if there is no database yet;
+/// `Memory`; `Store` if the files hold something else, or if a call failed.
 pub fn recovered<D: Disk + Drop>(
     alloc: Global,
     mut files: Files<D>,
@@ -134,7 +134,7 @@ fn recovered_by<D: Disk + Drop>(
     }
 }
 
-/// Writes all pages of a database in order, and returns how many bytes those are. Errors: `Memory`; `Store` if a page can't be read or written.
+/// Writes all pages in order, from number 1 on, and returns how many bytes those are. Errors: `Memory`; `Store` if a page can't be read or written.
 pub fn put_pages<D: Disk, W: Write>(pager: &mut Pager<D>, writer: &mut W) -> Result<u64, FileFault>
     ensures whole { IfOk result (λ bytes. IsTrue (state pager.new).is_clean
         → Appends (W.contents writer.old) (W.contents writer.new)

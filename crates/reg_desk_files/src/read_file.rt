@@ -44,6 +44,7 @@ pub(crate) enum OpenedBy {
     ThisProgram,
 }
 
+/// A database's file, with its lock if [`lock_files`] locked it, and its log, if there is one.
 #[derive(Drop)]
 pub(crate) struct LockedFiles {
     pub(crate) log: Option<ReadFile>,
@@ -110,15 +111,15 @@ fn is_hot(journal: &ReadFile) -> io::Result<bool> {
     Ok(first[0] != 0)
 }
 
-/// Opens a regular file read-only; `Unsupported` for anything else, also a symbolic link or a file with a second name (hard link), beside which
-/// SQLite may have another `-wal`.
+/// Opens a regular file read-only; `Unsupported` for anything else, also a symbolic link or a file with a second name (hard link): SQLite may have
+/// another `-wal` beside that name.
 fn open_regular(rt: &HostRuntime, path: &str) -> io::Result<ReadFile> {
     // A pipe is not opened: that would wait for a writer.
     if !fs::symlink_metadata(rt, path)?.is_file() {
         return Err(ErrorKind::Unsupported.into());
     }
     let file = read_options().open(rt, path)?;
-    // The path may name another file since it was looked at.
+    // The path may name another file (`named`) than the one that was opened (`found`).
     let (found, named) = (file.metadata()?, fs::symlink_metadata(rt, path)?);
     let is_named = found.dev() == named.dev() && found.ino() == named.ino();
     if !is_named || !found.is_file() || found.nlink() != 1 {

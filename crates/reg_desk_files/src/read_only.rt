@@ -51,7 +51,6 @@ pub struct Sources<F: Source> {
     pub db: F,
     /// The key of the digests by which a page that is read again is checked.
     pub key: u64,
-    /// The options, such as the size of the page cache.
     pub options: Options,
 }
 
@@ -143,6 +142,7 @@ pub fn open_existing<D: Disk + Drop>(
     ensures faults { IfErr result IsReadFailureOfFiles }
 {
     check_has_database(alloc, &mut files)?;
+    // `false`: a new database has no page checksums. This one exists, and keeps what it has.
     match Connection::open_files_with(alloc, files, options, false) {
         Ok(connection) => Ok(connection),
         Err((error, _)) => Err(ReadFailure::Fault(FileFault::from(error))),

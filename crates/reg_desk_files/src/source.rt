@@ -1,4 +1,4 @@
-//! Files that can be read, but not written.
+//! The trait of a file that is only read, such as a database's file in an audit.
 
 use std::io;
 
@@ -7,17 +7,16 @@ pub trait Source {
     ghost use Rattle.std.specs.Prelude.{◌≡◌, ◌<◌, ℕ, Bool, List, length, IfOk, IsTrue, OnOk};
     ghost use Rattle.sqlite_disk.specs.Disk.{Holds};
 
-    /// The bytes of the file.
     ghost bytes: { Self → List ℕ };
 
-    /// Whether each call returns these bytes. For a file of the machine no contract can state this.
+    /// Whether each call returns these bytes. For a file of the system no contract can state this, so the clauses below say nothing of it.
     ghost is_honest: { Self → Bool };
 
     /// How many bytes the file has. Errors: the system call failed.
     fn size(&self) -> io::Result<usize>
         ensures { IfOk result (λ size. IsTrue (is_honest self.now) → size ≡ length (bytes self.now)) };
 
-    /// Fills a buffer with the bytes from an offset on. Errors: `UnexpectedEof` if the file ends before the buffer is full; or the system call
+    /// Fills a buffer with the bytes from the offset `at` on. Errors: `UnexpectedEof` if the file ends before the buffer is full; or the system call
     /// failed.
     fn fill(&self, at: usize, buf: &mut [u8]) -> io::Result<()>
         ensures { OnOk result

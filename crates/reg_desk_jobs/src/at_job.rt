@@ -21,16 +21,15 @@ use std::os::unix::net::UnixStream;
 pub(crate) enum Next {
     /// A line, with its LF.
     Line(Vec<u8>),
-    /// A last line without its line end.
+    /// A last line without its LF; its bytes are dropped.
     Cut,
-    /// No line: the input is at its end.
     End,
 }
 
 /// The next lines of an input, which are sent in one write.
 #[derive(Drop)]
 struct Piece {
-    /// The lines, each with its LF.
+    /// The lines, each with its LF, and how many they are.
     text: Vec<u8>,
     count: usize,
     end: PieceEnd,
@@ -41,19 +40,19 @@ struct Piece {
 enum PieceEnd {
     /// The piece has as many lines as it may have.
     Full,
-    /// A last line without its line end comes next.
+    /// A last line without its LF comes next.
     Cut,
     /// The input is at its end.
     End,
 }
 
-/// The most rows whose lines are sent before their replies are read, so that the desk can run as many in one transaction. This causes no deadlock: a
-/// row's line has at most 111 bytes, so a socket's buffer (208 KB) takes 256 lines while the desk reads nothing. The desk stops reading while a reply
-/// is unsent, but the buffer takes 278 replies, of at most 84 bytes each, while this job reads nothing.
+/// The most rows whose lines are sent before their replies are read, so that the desk can run as many in one transaction. This causes no deadlock,
+/// although the desk reads no line while a reply is unsent. A socket's buffer (208 KB) has room for 256 lines of at most 111 bytes, even if the desk
+/// reads none; and for 278 replies, even if this job reads none: a reply has at most 84 bytes, for which the kernel counts 768.
 const MOST_IN_FLIGHT: usize = 256;
 
-/// Sends each line of standard input to the control socket at a path, once the reply to the line before has come, and writes its reply. Errors:
-/// `Read` if it can't connect there; `Memory` if out of memory for the buffers; else those of [`exchange_lines`].
+/// Sends each line of standard input (`reader`) to the control socket at a path, once the reply to the line before has come, and writes its reply.
+/// Errors: `Read` if it can't connect there; `Memory` if out of memory for the buffers; else those of [`exchange_lines`].
 pub fn at<M: Machine, R: Read, W: Write>(
     alloc: Global,
     machine: &M,
@@ -67,8 +66,8 @@ pub fn at<M: Machine, R: Read, W: Write>(
     exchange_at(alloc, machine, control_path, 1, reader, writer)
 }
 
-/// Sends each row of a CSV file, except its header, as a `register` line. Sends 256 lines, or all that are left, before it reads their replies.
-/// `Read`, and nothing is sent, if the file can't be read or has over 16 MiB. Other errors: those of [`at`].
+/// Sends each row of a CSV file (`reader`), except its header, as a `register` line. Sends 256 lines, or all that are left, before it reads their
+/// replies. `Read`, and nothing is sent, if the file can't be read or has over 16 MiB. Other errors: those of [`at`].
 pub fn at_rows<M: Machine, R: Source, W: Write>(
     alloc: Global,
     machine: &M,
@@ -140,10 +139,10 @@ fn exchange_lines_over<R: Read, W: Write>(
 }
 
 /// Sends the lines of the input to a control socket through `outgoing`: at most `most_in_flight` in one write, and the next ones once the replies to
-/// these have come from `incoming`. Writes each reply to `writer` once it has come. A last line without its line end is not sent. Errors: after all
-/// lines were sent, `Refused` if a reply was a refusal or a fault, `NoLineEnd` if a last line without its line end is left, and `RefusedNoLineEnd`
-/// for both. `Read` if the input fails, the connection fails or ends before the end of a reply, or out of memory for a line or a reply; `Memory` if
-/// out of memory for the lines of one write; `Write` if they can't be sent, or a reply can't be written.
+/// these have come from `incoming`. Writes each reply to `writer` once it has come. A last line without its LF is not sent. Errors after all lines
+/// were sent: `Refused` if a reply was a refusal or a fault, `NoLineEnd` if a last line without its LF is left, and `RefusedNoLineEnd` for both.
+/// Else: `Read` if the input fails, the connection fails or ends before the end of a reply, or out of memory for a line or a reply; `Memory` if out
+/// of memory for the lines of one write; `Write` if they can't be sent, or a reply can't be written.
 pub fn exchange_lines<R: BufRead, W: Write, C: BufRead, S: Write>(
     alloc: Global,
     most_in_flight: usize,
@@ -179,7 +178,7 @@ pub(crate) fn both(first: bool, second: bool) -> bool
     first && second
 }
 
-/// `Ok`, or `Refused` if a reply was a refusal or a fault.
+/// The result once all lines were sent: `Ok`, or `Refused` if a reply was a refusal or a fault (then `is_accepted` is `false`).
 pub(crate) fn ended(is_accepted: bool) -> Result<(), Failure>
     ensures { MatchResult result (λ done. IsTrue is_accepted)
         (λ why. (why ≡ Failure.Refused) × IsFalse is_accepted) }
@@ -191,7 +190,7 @@ pub(crate) fn ended(is_accepted: bool) -> Result<(), Failure>
     }
 }
 
-/// The failure at a last line without its line end, by whether all replies before it were accepted.
+/// The failure at a last line without its LF, by whether no reply before it was a refusal or a fault (`is_accepted`).
 pub(crate) fn cut_off(is_accepted: bool) -> Failure
     ensures { ((result ≡ Failure.NoLineEnd) × IsTrue is_accepted)
         ⊎ ((result ≡ Failure.RefusedNoLineEnd) × IsFalse is_accepted) }
@@ -254,7 +253,7 @@ fn pass_replies<W: Write, C: BufRead>(
     Ok(all_accepted)
 }
 
-/// Sends a line to a control socket, and writes its reply.
+/// Sends a line to a control socket, writes its reply, and returns it.
 pub(crate) fn exchange<W: Write, C: BufRead, S: Write>(
     alloc: Global,
     line: &[u8],
@@ -273,7 +272,7 @@ pub(crate) fn exchange<W: Write, C: BufRead, S: Write>(
     Ok(reply)
 }
 
-/// Sends a line to a control socket, and reads its reply.
+/// Sends a line to a control socket, and returns its reply.
 pub(crate) fn request_reply<C: BufRead, S: Write>(
     alloc: Global,
     line: &[u8],
@@ -302,6 +301,7 @@ pub(crate) fn next_line<R: BufRead>(alloc: Global, input: &mut R) -> Result<Next
     }
 }
 
+/// `line` has the bytes up to an LF, or to the end of the input.
 fn next_of(line: Vec<u8>) -> Next
     requires { StopsAt line.items 10 }
     ensures { IsReadAs line.items result }

@@ -67,7 +67,7 @@ fn remove_stale<M: Machine>(machine: &M, lock: &File, path: &str) -> io::Result<
     machine.unlink(lock, path)
 }
 
-/// Closes the connections that clients opened before the mode was set. Errors: those of accept(2), after which a client would stay connected.
+/// Closes the connections that clients opened before the mode was set. Errors: those of accept(2), as such a client may then still be connected.
 fn drop_waiting(listener: &UnixListener) -> io::Result<()> {
     // Until the queue is empty. It holds `net.core.somaxconn` + 1 connections, and that may be raised, so `u64::MAX` stands for no bound. By now only
     // the owner and root can connect, so this ends.

@@ -100,6 +100,7 @@ pub fn script<M: Machine, R: Source, W: Sink>(
     ensures { ScriptAt M.Machine M.Office.Office R.remaining W.contents R.failed W.failed
         machine.old machine.new reader.old reader.new writer.old writer.new path.now signer.now result }
 {
+    // The signer of CRLs also signs the answers to `ocsp` lines.
     let responder = ResponderChoice::Issuer { certificate: None };
     // Without a signer, `open_signed` uses the placeholder digest; `open_unsigned` is for jobs that sign nothing.
     let mut office = open_signed(machine, path, signer, &responder)?;
@@ -247,8 +248,8 @@ pub(crate) fn print_result<W: Write>(
     }
 }
 
-/// Sets another schedule for the register at a path. Invalid steps are refused before the path is opened (`BadPolicy`). Other errors: those of
-/// [`Machine::check_database`] and [`Machine::open_in`]; `Write`.
+/// Sets the longest validities of the register at a path, by notBefore. Invalid steps are refused before the path is opened (`BadPolicy`). Other
+/// errors: those of [`Machine::check_database`] and [`Machine::open_in`]; `Write`.
 pub fn schedule<M: Machine, W: Write>(
     alloc: Global,
     machine: &mut M,

@@ -19,7 +19,7 @@ use reg_office_api::Office;
 use std::alloc::Global;
 use std::cell::Cell;
 
-/// The host of a script: the machine's clock, and a warning on standard error when the first CRL gets a placeholder digest, not a signature.
+/// reg_lines' `Host` of a script: the machine's clock, and a warning on standard error if the first CRL gets a placeholder digest, not a signature.
 #[derive(Clone, Copy)]
 struct ScriptHost<'a, M: Machine> {
     machine: &'a M,
@@ -88,7 +88,7 @@ pub fn script_by_lines<M: Machine, R: Source, W: Sink>(
     run_ended(ran)
 }
 
-/// Whether the lines run at the machine's clock, it is too far ahead, and the operator does not accept that. `false` if the clock can't be read.
+/// Whether lines run at a clock that is too far ahead and not accepted. `false` if the clock can't be read, which the first line will report.
 fn refuses_clock<M: Machine>(machine: &M, office: &mut M::Office, options: ScriptOptions) -> bool
     ensures { LooksIn M.Office.Office
         (λ records. IsTrue result → IsClockRefused options M.clock_reached records)

@@ -20,7 +20,7 @@ use std::io::Write;
 /// How many rows one call of [`Office::page`] reads. The list is the same with any number.
 const MOST_ROWS: u64 = 1_000;
 
-/// Writes a list of the register at a path, at the given moment, or else at that of the clock. Nothing is written unless the whole list was read.
+/// Opens a register without a signer, and writes a list of it at the given moment, or else at that of the clock, once the whole list was read.
 /// Errors: `Read` if the clock can't be read; those of [`Machine::check_database`], [`Machine::open_in`] and [`Office::page`]; `Write`.
 pub fn list<M: Machine, W: Write>(
     alloc: Global,
@@ -79,6 +79,7 @@ fn list_text<M: Machine>(
     Err(Fault::Store)
 }
 
+/// The text before the first row: in CSV the header of the list that `from` names.
 fn opening(alloc: Global, form: Format, from: Cursor) -> Result<Vec<u8>, Fault>
     ensures ok { IfOk result (λ text. text.items ≡ opening_text form from) }
     ensures err { IfErr result (λ fault. fault ≡ Fault.Memory) }

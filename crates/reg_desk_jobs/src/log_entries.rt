@@ -9,10 +9,10 @@ use reg_core::{Label, Serial, read_number};
 use reg_desk_service::{CONTROL_SOCKET, MOST_QUOTED};
 use reg_lines::{Fields, is_accepted};
 
-/// The parts of a line of the log. The request and the answer stand in quotation marks there.
+/// The parts of a line of the log, without its quotation marks. These enclose a control line or HTTP request (`asked`), and its answer (`answered`).
 #[derive(Clone, Copy)]
 pub(crate) struct ExchangeText<'a> {
-    /// The moment and the client, before the request.
+    /// The moment and the client (two words), before the first quotation mark.
     pub(crate) client: &'a [u8],
     pub(crate) asked: &'a [u8],
     pub(crate) answered: &'a [u8],
@@ -23,15 +23,15 @@ pub(crate) struct ExchangeText<'a> {
 /// A command that `replay` sends again.
 #[derive(Clone, Copy)]
 pub(crate) enum Entry {
-    /// The logged line itself.
+    /// The control line that the exchange quotes (`asked`), as it is.
     Line,
-    /// A request for revocation that was entered, with the number that it had then.
+    /// A request for revocation that was entered: its number then, and its ground (a word for the reason, such as `key-compromise`).
     Request {
         id: u64,
         serial: Serial,
         ground: Label,
     },
-    /// A line that revoked or declined a request, which had this number then.
+    /// A control line that revoked or declined a request for revocation, which had the number `id` then.
     Decision {
         id: u64,
         serial: Serial,
@@ -43,7 +43,7 @@ pub(crate) enum Entry {
 pub(crate) enum LogMeaning {
     /// The exchange has no accepted command that changes the register.
     Nothing,
-    /// A command of which the log has only a part, or whose request it does not name.
+    /// A command of which the log has only a part, or whose request for revocation it does not name.
     Unknown,
     Command(Entry),
 }
@@ -65,7 +65,7 @@ pub(crate) fn exchange_in(line: &[u8]) -> Option<ExchangeText<'_>>
     })
 }
 
-/// The text before the first quotation mark, and the text after it.
+/// The text before the first quotation mark, and the text after it; `None` without one.
 #[tactic(auto, unfolding(crate::specs::LogEntries::split_at_quote))]
 fn split_at_quote(text: &[u8]) -> Option<(&[u8], &[u8])>
     ensures { option_map (λ p. (p.0.now, p.1.now)) result ≡ split_at_quote text.now }
@@ -87,7 +87,7 @@ pub(crate) fn has_quote(text: &[u8]) -> bool
     text.contains(&b'"')
 }
 
-/// The meaning of an exchange. `Unknown` if another quotation mark follows: then the line begins with an earlier line that was not written whole.
+/// The meaning of an exchange. `Unknown` if a fifth quotation mark follows: then the line begins with an earlier line that was not written whole.
 #[tactic(auto, unfolding(crate::specs::LogEntries::log_meaning_of))]
 pub(crate) fn log_meaning_of(logged_exchange: &ExchangeText<'_>) -> LogMeaning
     ensures { result ≡ log_meaning_of (exchange_of logged_exchange.now) }
@@ -101,7 +101,7 @@ pub(crate) fn log_meaning_of(logged_exchange: &ExchangeText<'_>) -> LogMeaning
     }
 }
 
-/// The meaning of an exchange that names a request, in the fields after the answer's length and the microseconds; `None` if they name none.
+/// The meaning of an exchange that names a request for revocation after three fields (an empty one, a length, microseconds); else `None`.
 #[tactic(auto, unfolding(crate::specs::LogEntries::named_in))]
 fn named_in(after_answer: &[u8]) -> Option<LogMeaning>
     ensures { result ≡ named_in (fields_of after_answer.now) }
@@ -119,6 +119,7 @@ fn named_in(after_answer: &[u8]) -> Option<LogMeaning>
     }
 }
 
+/// The entry in the fields after `request`: for a decision they are ID SERIAL, for an entered request ID SERIAL GROUND; `None` for others.
 #[tactic(auto, unfolding(crate::specs::LogEntries::request_named))]
 fn request_named(mut fields: Fields<'_>) -> Option<Entry>
     ensures { result ≡ request_named fields.entry }
@@ -177,7 +178,7 @@ fn was_accepted(logged_exchange: &ExchangeText<'_>) -> bool
     is_control(second_word(logged_exchange.client)) && accepted(logged_exchange.answered)
 }
 
-/// Whether a client is the control socket, which older desks log as `counter`.
+/// Whether a client is the control socket, which older versions of the program log as `counter`.
 fn is_control(client: &[u8]) -> bool
     ensures { result ≡ is_control client.now }
 {
@@ -190,13 +191,14 @@ fn accepted(answered: &[u8]) -> bool
     !answered.is_empty() && is_accepted(answered)
 }
 
-/// Whether a line with this word, once accepted, enters or decides a request, which its exchange then should name.
+/// Whether a line with this first word, once accepted, enters or decides a request for revocation, which its exchange should then name.
 fn is_of_request(word: &[u8]) -> bool
     ensures { result ≡ is_of_request word.now }
 {
     word == b"request".as_slice() || word == b"revoke".as_slice() || word == b"decline".as_slice()
 }
 
+/// Whether a line with this first word, once accepted, changes the register, but no request for revocation.
 fn enters(word: &[u8]) -> bool
     ensures { result ≡ enters word.now }
 {
@@ -214,7 +216,7 @@ fn is_whole(text: &[u8]) -> bool
     text.len() < MOST_QUOTED && !text.contains(&b'\\')
 }
 
-/// The first word of a text; empty if there is none.
+/// The first word of a text; empty if there is none, as with `second_word`.
 pub(crate) fn first_word(text: &[u8]) -> &[u8]
     ensures { result.now ≡ first_word text.now }
 {
@@ -225,7 +227,6 @@ pub(crate) fn first_word(text: &[u8]) -> &[u8]
     }
 }
 
-/// The second word of a text; empty if there is none.
 pub(crate) fn second_word(text: &[u8]) -> &[u8]
     ensures { result.now ≡ second_word text.now }
 {

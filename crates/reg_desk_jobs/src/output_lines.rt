@@ -1,4 +1,4 @@
-//! Writes the output of a job, and the report of its end.
+//! Writes the output of a job to standard output, and why the job failed to standard error.
 
 ghost use Rattle.std.specs.Prelude.{◌≡◌, ◌∷◌, [], ℕ, List, IfOk};
 ghost use Rattle.reg_desk_jobs.specs.Ends.{PrintsText, PrintsLine};
@@ -21,7 +21,7 @@ pub(crate) fn print_text<W: Write>(writer: &mut W, text: &[u8]) -> Result<(), Fa
     }
 }
 
-/// Writes a line. `Memory` if there was no memory for the line; else errors are those of [`print_text`].
+/// Writes a line, which has its LF. `Memory` if `line` is an error; else errors are those of [`print_text`].
 pub(crate) fn print_line<W: Write>(
     writer: &mut W,
     line: Result<Vec<u8>, AllocError>,
@@ -35,8 +35,8 @@ pub(crate) fn print_line<W: Write>(
     }
 }
 
-/// Reports on standard error why a job failed: one line, or two for `RefusedNoLineEnd`. With `--why` (`is_asked`), one more line has the cause (exit
-/// status 1), or why the registration that ended the job was refused (status 3), if that is known. A failed write is ignored.
+/// Reports on standard error why a job failed (`ending`): one line, or two for `RefusedNoLineEnd`. With `--why` (`is_asked`), one more line has
+/// the cause (exit status 1), or, indented, why the registration that ended the job was refused (3), if that is known. A failed write is ignored.
 pub fn report_exit<W: Write>(
     alloc: Global,
     errors: &mut W,

@@ -69,7 +69,7 @@ fn missing_lines<O: Office>(alloc: Global, office: &mut O, bytes: &[u8]) -> Resu
     Ok(lines)
 }
 
-/// Adds a line if the number is above that of the latest CRL.
+/// Adds a line if the published CRL's number is above that of the register's latest CRL.
 fn put_missing_crl(lines: &mut Vec<u8>, latest: Option<CrlRow>, number: u64) -> Result<(), Fault>
     ensures { OnOk result (lines.new.items ≡ lines.old.items ++ missing_crl latest number) }
 {
@@ -89,7 +89,8 @@ fn latest_number(latest: Option<CrlRow>) -> u64
     }
 }
 
-/// Adds a line for each entry whose serial number is not revoked. Errors: `NotACrl` if the bytes are not CRL entries.
+/// Adds a line for each entry whose serial number is not revoked at `last`, the last accepted moment. `entries` is the DER in revokedCertificates
+/// (RFC 5280 5.1). `NotACrl` if one can't be read. `next_entry` gives a serial number and the entries after its entry.
 fn put_missing_revocations<O: Office>(
     alloc: Global,
     office: &mut O,
@@ -157,6 +158,7 @@ fn revoked_of(outcome: Outcome) -> Result<bool, Fault>
     match outcome {
         Ok(Reply::Status(Status::Revoked { .. })) => Ok(true),
         Ok(Reply::Status(_)) => Ok(false),
+        // The office's contract excludes any other reply to a query for a status.
         Ok(_) => Err(Fault::Store),
         Err(fault) => Err(fault),
     }

@@ -18,17 +18,18 @@ use std::alloc::{AllocError, Global};
 use std::io::{BufRead, BufReader, Read, Write};
 use std::os::unix::net::UnixStream;
 
-/// The number that a request has in the log, and the number that the open desk gave it in the replay.
+/// The number that a request for revocation has in the log, and the number that the open desk gave it in the replay.
 #[derive(Clone, Copy)]
 struct Renumbered {
     logged: u64,
     given: u64,
 }
 
-/// Sends each accepted command of a log to the control socket at a path, in the log's order, and writes the replies. A request is revoked or
-/// declined by its serial number and by the number that it has now. Errors: `Refused` at the first reply that does not agree ([`agrees`]), or at
-/// a command that the log has only in part, or whose request the log does not name; then that line of the log is written last. `NoLineEnd` at a last
-/// line without its line end; `Read` if the socket, the log or the connection fails; `Write` if a line can't be sent or written; `Memory`.
+/// Sends each accepted command of a log (`reader`) to the control socket at a path, in the log's order, and writes the replies. A decision about a
+/// request for revocation is sent with its serial number and the number that the request has now. Errors: `Refused` at the first reply that does not
+/// agree with the logged one ([`agrees`]), or at a command that the log has only in part, or whose request the log does not name; then that line of
+/// the log is written last. `NoLineEnd` at a last line without its LF; `Read` if the socket, the log or the connection fails; `Write` if a line can't
+/// be sent or written; `Memory`.
 pub fn replay<M: Machine, R: Read, W: Write>(
     alloc: Global,
     machine: &M,
@@ -73,6 +74,7 @@ fn replay_over<R: Read, W: Write>(
     }
 }
 
+/// `numbers` has the requests for revocation that were entered again so far.
 fn replay_log<R: BufRead, W: Write, C: BufRead, S: Write>(
     alloc: Global,
     log: &mut R,
@@ -136,7 +138,7 @@ fn replay_line<W: Write, C: BufRead, S: Write>(
                 )
             }
         },
-        // With a quotation mark it is a part of an exchange; without one it is none, but for example the fault of a connection.
+        // A line with one to three quotation marks is a part of an exchange. A line without any records something else, such as a lost connection.
         None if has_quote(text) => stop(writer, line),
         None => Ok(()),
     }
@@ -173,7 +175,7 @@ fn replay_entry<W: Write, C: BufRead, S: Write>(
     }
 }
 
-/// Writes the line of the log at which a replay stops, and fails.
+/// Writes the line of the log at which a replay stops, and returns `Refused`.
 fn stop<W: Write>(writer: &mut W, line: &[u8]) -> Result<(), Failure>
     ensures { StopsWith (W.contents writer.old) line.now (W.contents writer.new) result }
 {
@@ -221,7 +223,7 @@ fn put_text(
     }
 }
 
-/// The number that a request has now: the last one that it was given, or else that of the log.
+/// The number that a request for revocation has now: the last one that it was given in the replay, or else that of the log (`logged`).
 fn number_now(numbers: &[Renumbered], logged: u64) -> u64
     ensures { result ≡ number_now numbers.now logged }
 {
@@ -234,7 +236,7 @@ fn number_now(numbers: &[Renumbered], logged: u64) -> u64
     number
 }
 
-/// Whether a reply agrees with the log's: in its first two words, or, for a decision, in the first. A request for revocation must have been entered.
+/// Whether a reply agrees with the logged one: in its first two words; for a decision, in the first. For a request, it must be `request ..`.
 fn agrees(logged_exchange: &ExchangeText<'_>, entry: &Entry, reply: &[u8]) -> bool
     ensures { result ≡ agrees (exchange_of logged_exchange.now) entry.now reply.now }
 {
@@ -248,7 +250,7 @@ fn agrees(logged_exchange: &ExchangeText<'_>, entry: &Entry, reply: &[u8]) -> bo
     }
 }
 
-/// Keeps the number that a reply gives to a request.
+/// Keeps the number that the reply `request NUMBER ..` gives to a new request for revocation.
 fn renumber(numbers: &mut Vec<Renumbered>, entry: &Entry, reply: &[u8]) -> Result<(), AllocError>
     ensures { OnOk result (numbers.new.items ≡ numbers.old.items ++ renumbered entry.now reply.now) }
 {

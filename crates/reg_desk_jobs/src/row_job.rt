@@ -1,4 +1,4 @@
-//! The job `at` with a file: at an open desk's control socket, it registers or revokes the certificate of each row (with an order, with a request).
+//! `at --import FILE --orders ..` registers each row's certificate under a new order; `at --revoke FILE` requests its revocation, and revokes it.
 
 ghost use Rattle.std.specs.Prelude.{◌≡◌, ◌<◌, ◌==◌, ◌↔◌, IfErr, IfOk, IfSome, IsTrue, length, option_map, position};
 ghost use Rattle.reg_desk_jobs.specs.Conversations.{IsConversationFault};
@@ -15,7 +15,7 @@ use std::alloc::{AllocError, Global};
 use std::io::{BufRead, BufReader, Read, Write};
 use std::os::unix::net::UnixStream;
 
-/// A row of a file of certificates to revoke: the serial number, and the word of the ground.
+/// A row of a file of certificates to revoke: the serial number, and the ground as a word, such as `key-compromise`.
 #[derive(Clone, Copy)]
 struct RevocationRow {
     serial: Serial,
@@ -32,7 +32,7 @@ struct RegistrationRow {
 
 /// Does a task with the certificate of each row at the control socket at a path, in the rows' order, and writes one reply for each: that to the last
 /// line sent for it. A row is `SERIAL,GROUND` to revoke, and `SERIAL,NOTBEFORE,NOTAFTER` to register. Empty lines and lines equal to the header are
-/// skipped. Errors: those of [`at`](crate::at), by the written replies. E19, for a certificate that is already revoked, counts as accepted.
+/// skipped. Errors: those of [`at`](crate::at), but only the written replies count, and E19, for an already revoked certificate, counts as accepted.
 pub fn each_row<M: Machine, R: Read, W: Write>(
     alloc: Global,
     machine: &M,

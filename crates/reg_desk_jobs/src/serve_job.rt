@@ -1,4 +1,4 @@
-//! The job `serve`: HTTP on the loopback interface, many connections at once. The job `open` uses the same functions.
+//! The job `serve`: HTTP on the loopback interface, many connections at once. The job `open`, which also has a control socket, uses its functions.
 
 ghost use Rattle.std.specs.Prelude.{◌≡◌, ◌⊎◌, ◌++◌, ◌∷◌, [], List, None, Err, OnOk, IfErr, IsTrue, IsFalse, decimal, is_some, option_copied};
 ghost use Rattle.reg_office_api.specs.Calls.{LeadsIn, LooksIn};
@@ -32,10 +32,10 @@ const LOOPBACK: [u8; 4] = [127, 0, 0, 1];
 
 const LOOPBACK_V6: [u8; 16] = [0, 0, 0, 0, 0, 0, 0, 0, 0, 0, 0, 0, 0, 0, 0, 1];
 
-/// Answers as many HTTP connections as the job says, each once, over a register, which is opened before the port is bound. If a published
-/// CRL is given, `reader` has its bytes, and a register that lacks any of it is not served. Errors: those of [`Machine::read_responder`],
-/// [`check_published`], [`Machine::check_database`] and [`Machine::open_in`]; `Read` if the port can't be bound, or serving ends early; `Memory`;
-/// `Write`.
+/// Answers one request on each of as many HTTP connections as the job says. The register is opened before the port is bound. If a published CRL is
+/// given, `reader` has its bytes, and a register that lacks its number or a revocation in it is not served. Errors: those of
+/// [`Machine::read_responder`], [`check_published`], [`Machine::check_database`] and [`Machine::open_in`]; `Read` if the port can't be bound, or
+/// serving ends early; `Memory`; `Write`.
 pub fn serve<M: Machine, R: Source, W: Sink>(
     rt: &HostRuntime,
     machine: &mut M,
@@ -67,7 +67,7 @@ pub fn serve<M: Machine, R: Source, W: Sink>(
     ending
 }
 
-/// Serves until `requests` HTTP requests are answered. If `has_crl`, the register must have all of the CRL in `reader` ([`check_published`]).
+/// Serves the register at the path `file` until `requests` HTTP connections are answered; if `has_published`, once it passes [`check_published`].
 pub(crate) fn serve_checked<'a, 'w, M: Machine, R: Read, W: Write>(
     rt: &HostRuntime,
     machine: &'a M,
@@ -78,17 +78,17 @@ pub(crate) fn serve_checked<'a, 'w, M: Machine, R: Read, W: Write>(
     endpoint: Endpoint,
     control_path: Option<&str>,
     requests: u64,
-    has_crl: bool,
+    has_published: bool,
     reader: &mut R,
     writer: &mut W,
 ) -> (M::Office, Result<(), Failure>)
-    ensures unread { IsFalse has_crl → reader.new ≡ reader.old }
-    ensures ends { ((why : Failing) × (result.1 ≡ Err why) × IsTrue has_crl × LooksIn M.Office.Office
+    ensures unread { IsFalse has_published → reader.new ≡ reader.old }
+    ensures ends { ((why : Failing) × (result.1 ≡ Err why) × IsTrue has_published × LooksIn M.Office.Office
         (λ records.
         Compares records (R.remaining reader.old) (W.contents writer.old) (W.contents writer.new) (Err why))
         office result.0)
         ⊎ ((inputs : List Input) × (outcomes : List (Outcome Unsigned)) × LeadsIn M.Office.Office
-        (λ identity before after. (IsTrue has_crl → HasAll before (R.remaining reader.old))
+        (λ identity before after. (IsTrue has_published → HasAll before (R.remaining reader.old))
         × ServesOn M.Machine M.Office.Office signer.now responder.now (is_some control_path.entry)
         inputs outcomes identity before after)
         office result.0
@@ -96,7 +96,7 @@ pub(crate) fn serve_checked<'a, 'w, M: Machine, R: Read, W: Write>(
         (IsBoundOn M.Machine endpoint (option_copied control_path.entry))
         (EndsEarly M.failed M.waited) endpoint.port requests inputs result.1) }
 {
-    if has_crl {
+    if has_published {
         match check_published(rt.alloc(), &mut office, reader, writer) {
             Ok(()) => {}
             Err(why) => return (office, Err(why)),
@@ -116,7 +116,7 @@ pub(crate) fn serve_checked<'a, 'w, M: Machine, R: Read, W: Write>(
     )
 }
 
-/// Binds the port, creates the control socket if one is given, prints the port, answers the requests, and returns the office.
+/// Binds the port, creates the control socket if a path is given (the job `open`), prints the port, answers the requests, and returns the office.
 fn serve_desk<'a, 'w, M: Machine, W: Write>(
     rt: &HostRuntime,
     machine: &'a M,
@@ -150,6 +150,7 @@ fn serve_desk<'a, 'w, M: Machine, W: Write>(
     let signing = signing_of(&CrlSigner::of(signer, responder));
     let tally = Cell::new(Tally::new(signing, responder_not_after(machine, responder)));
     let connection_totals = Cell::new(ConnectionTotals::nothing());
+    // The limits on requests for revocation over HTTP.
     let admission = Admission::new();
     let mut desk: Desk<'_, '_, M> = Desk {
         office,
@@ -215,7 +216,7 @@ fn event_loop_over<H: Handler>(
     }
 }
 
-/// Prints the port, answers the requests, and sends the answers that are left.
+/// Prints `listening` and the port, answers `requests` HTTP connections, and sends the answers that are not sent yet.
 fn run_event_loop<H: Handler, W: Write>(
     mut event_loop: EventLoop<H>,
     handler: &mut H,

@@ -118,8 +118,8 @@ IsNewTally signing ends tally =
     × (tally.crl_signing ≡ signing) × (tally.responder_ends ≡ ends) × (tally.read ≡ None)
 
 -- one more exchange or line in the bucket of its time, which is added to the sum
-abbrev pub with_seconds : ℕ → Tally → Tally
-with_seconds micros tally = record tally {
+abbrev pub with_time : ℕ → Tally → Tally
+with_time micros tally = record tally {
   buckets = bumped tally.buckets (bucket_of micros);
   micros = min (tally.micros + micros) greatest;
 }
@@ -182,7 +182,7 @@ outcomes_counted now crl ocsp effect tally = record tally {
 -- one more answer of a route with a status, and its time
 abbrev pub with_answer : Route → Option ℕ → ℕ → Tally → Tally
 with_answer route status micros tally =
-    with_seconds micros
+    with_time micros
     (with_route (route_number route) micros
     (record tally { answers = bumped tally.answers (route_number route * 12 + code_number status) }))
 
@@ -196,7 +196,7 @@ with_exchange now exchange micros tally =
 abbrev pub with_line : ℕ → LineEffects → ℕ → Tally → Tally
 with_line now line micros tally =
     outcomes_counted now line.crl line.ocsp line.store
-    (with_seconds micros (with_reply_to_line line.reply tally))
+    (with_time micros (with_reply_to_line line.reply tally))
 
 -- the count of the requests for revocation is kept
 abbrev pub with_counted : Requests → Tally → Tally

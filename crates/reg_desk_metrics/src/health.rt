@@ -13,11 +13,11 @@ use std::alloc::{AllocError, Global};
 /// The failures of an open register. All is well if each moment is `None`, and `is_crl_due_at_once` is false.
 #[derive(Clone, Copy, PartialEq, Eq)]
 pub struct Health {
-    /// The moment of the last command, if the clock is behind it; now, if the clock is too far ahead (`is_ahead`), or at or past `Moment::CLOCK_END`.
+    /// The last command's moment, if the clock is behind it; now, if the clock is too far ahead (`is_ahead`), or from `CLOCK_END` (9999-12-22) on.
     pub(crate) clock: Option<Moment>,
     /// The next CRL is due at once: there is none yet, or the latest one has a placeholder digest and a key now signs the CRLs.
     pub(crate) is_crl_due_at_once: bool,
-    /// Since when the next CRL is due, if that moment is past.
+    /// The moment when the next CRL became due, if it is past.
     pub(crate) crl: Option<Moment>,
     /// Since when signatures of CRLs fail.
     pub(crate) crl_signer: Option<Moment>,
@@ -30,7 +30,8 @@ pub struct Health {
 }
 
 impl Health {
-    /// The health at `now`. `found` has the register's numbers; `accepted` is the moment that the operator accepted with `accept-clock`, if any.
+    /// The health at `now`. `found` has the register's numbers, or why they can't be read; `tally` has the desk's counters; `accepted` is the moment
+    /// that the operator accepted with `accept-clock`, if any.
     pub fn of(now: Moment, found: &NumbersResult, tally: &Tally, accepted: Option<Moment>) -> Health
         ensures { result ≡ health_of now found.now tally.now accepted }
     {
@@ -59,9 +60,6 @@ impl Health {
     }
 
     /// The body of the answer to `GET /health`, in JSON (RFC 8259): each member but `status` is null or its field's moment; `crl` can be `"at-once"`.
-    ///
-    /// # Errors
-    ///
     /// [`AllocError`] if out of memory.
     #[tactic(auto, unfolding(crate::specs::Healths::health_text))]
     pub fn text(&self, alloc: Global) -> Result<Vec<u8>, AllocError>
@@ -88,7 +86,7 @@ fn is_none(moment: Option<Moment>) -> bool
     }
 }
 
-/// As `Health::clock`. The register refuses its numbers by `ClockBack` if the clock is behind, and otherwise only at or past `CLOCK_END`.
+/// As `Health::clock`. The register refuses its numbers by `ClockBack` if the clock is behind, and with another refusal only from `CLOCK_END` on.
 fn clock_failing_since(
     now: Moment,
     found: &NumbersResult,
@@ -104,6 +102,7 @@ fn clock_failing_since(
     }
 }
 
+/// As `Health::is_crl_due_at_once`: then `due`, the moment when the next CRL is due, is `None`.
 fn is_crl_due_at_once(found: &NumbersResult) -> bool
     ensures { result ≡ due_at_once found.now }
 {
@@ -140,6 +139,7 @@ fn rows_failing_since(now: Moment, found: &NumbersResult) -> Option<Moment>
     }
 }
 
+/// Whether less than a fifth of the cap is left in the table with the most rows.
 fn is_filling(summary: &RegisterSummary) -> bool
     ensures { result ≡ fills summary.now }
 {
@@ -158,7 +158,7 @@ fn is_filling(summary: &RegisterSummary) -> bool
     summary.cap.saturating_sub(most) < summary.cap / 5
 }
 
-/// Since when the store fails: `since`, the tally's moment; or else now, if the numbers can't be read for another reason than a refusal.
+/// Since when the store fails: `since`, as counted in the tally; if that is `None`, now, if the numbers can't be read for any reason but a refusal.
 fn store_failing_since(now: Moment, found: &NumbersResult, since: Option<Moment>) -> Option<Moment>
     ensures { result ≡ store_spec now found.now since }
 {
@@ -169,7 +169,7 @@ fn store_failing_since(now: Moment, found: &NumbersResult, since: Option<Moment>
     }
 }
 
-/// Appends a moment in quotation marks, or null.
+/// Appends a moment in quotation marks, or `null`.
 fn put_since(text: &mut Vec<u8>, since: Option<Moment>) -> Result<(), AllocError>
     ensures { OnOk result (text.new.items ≡ text.old.items ++ since_text since) }
 {

@@ -1,4 +1,5 @@
-//! The metrics of an open register, in the text format of Prometheus, version 0.0.4.
+//! The metrics of an open register, in the text format of Prometheus, version 0.0.4. Constants such as `CLOCK` are names of series, some of them with
+//! HELP and TYPE lines before. `LABEL_END` ends a name whose label's value is appended.
 
 ghost use Rattle.std.specs.Prelude.{◌≡◌, ◌++◌, IfOk, OnOk};
 ghost use Rattle.reg_desk_metrics.specs.Metrics.{answer_text, answers_text, seconds_behind as behind_spec, bucket_name as bucket_named, bucket_text, buckets_text, certificates_text, clock_text, code_name as code_named, connections_text, crl_text as crl_text_spec, issued_text, last_text, lines_text, lost_text, metrics_text, numbers_text, register_text, requests_text, rows_text, route_name as route_named, route_text, routes_text, build_text, failures_text, responder_text, seconds_text, signers_text, signed_text, sum_of};
@@ -21,13 +22,10 @@ use reg_core::{Counts, CrlRow, Fault, Moment, Refusal};
 use reg_office_api::Rows;
 use std::alloc::{AllocError, Global};
 
-/// The bytes that are reserved for the text at first. A longer text gets more.
+/// How many bytes are reserved for the text at first. A longer text gets more.
 const ROOM: usize = 12_288;
 
-/// The metrics of an open register at `now`: the program's version, the register's numbers (`found`), the desk's counters, and its connections.
-///
-/// # Errors
-///
+/// The metrics of an open register at `now`: the program's version, the register's numbers (`found`), the desk's counters (`tally`), its connections.
 /// [`AllocError`] if out of memory.
 pub fn metrics(
     alloc: Global,
@@ -68,7 +66,7 @@ fn put_build(text: &mut Vec<u8>, version: &str) -> Result<(), AllocError>
     put_sample(text, LABEL_END, 1)
 }
 
-/// How many seconds the clock is behind the last accepted command; 0 if it is not behind.
+/// How many seconds the clock is behind the last accepted command. Then the register refuses its numbers by `ClockBack`. 0 if it is not behind.
 fn behind(now: Moment, found: &NumbersResult) -> u64
     ensures { result ≡ behind_spec now found.now }
 {
@@ -144,6 +142,7 @@ fn put_crl(
     }
 }
 
+/// Appends the samples of the latest CRL; `life` is the seconds from its thisUpdate to its nextUpdate.
 #[tactic(auto, unfolding(crate::specs::Metrics::issued_text))]
 fn put_issued(text: &mut Vec<u8>, now: Moment, crl: CrlRow, life: u64) -> Result<(), AllocError>
     ensures { OnOk result (text.new.items ≡ text.old.items ++ issued_text now crl life) }
@@ -161,6 +160,7 @@ fn put_requests(text: &mut Vec<u8>, requests: Option<Requests>) -> Result<(), Al
     ensures { OnOk result (text.new.items ≡ text.old.items ++ requests_text requests) }
 {
     let Some(counted) = requests else {
+        // They were not counted yet.
         return Ok(());
     };
     put_sample(text, OPEN, counted.waiting)?;
@@ -169,6 +169,7 @@ fn put_requests(text: &mut Vec<u8>, requests: Option<Requests>) -> Result<(), Al
     Ok(())
 }
 
+/// The path of a route, by the route's index in the tally.
 #[tactic(auto, unfolding(crate::specs::Metrics::route_name))]
 fn route_name(index: usize) -> &'static str
     ensures { result.now ≡ route_named index }
@@ -189,6 +190,7 @@ fn route_name(index: usize) -> &'static str
     }
 }
 
+/// A status, by its index in the tally; `none` if no answer was sent, or one with another status.
 #[tactic(auto, unfolding(crate::specs::Metrics::code_name))]
 fn code_name(index: usize) -> &'static str
     ensures { result.now ≡ code_named index }
@@ -219,7 +221,7 @@ fn put_answers(text: &mut Vec<u8>, answers: &[u64; ANSWERS]) -> Result<(), Alloc
     Ok(())
 }
 
-/// Appends nothing for a count of 0: few of the pairs of a route and a status ever occur.
+/// Appends the count of a pair of a route and a status, which `index` stands for. Appends nothing for 0: few of the pairs ever occur.
 fn put_answer(text: &mut Vec<u8>, index: usize, count: u64) -> Result<(), AllocError>
     ensures { OnOk result (text.new.items ≡ text.old.items ++ answer_text index count) }
 {
@@ -324,7 +326,7 @@ fn put_times(text: &mut Vec<u8>, tally: &Tally) -> Result<(), AllocError>
     put_sample(text, SECONDS_COUNT, count)
 }
 
-/// The count of each bucket includes those of the buckets below it, as Prometheus wants. Returns the count of all.
+/// Appends each bucket with the sum of the counts up to it, as Prometheus wants. Returns the sum of all.
 fn put_buckets(text: &mut Vec<u8>, buckets: &[u64; BUCKETS]) -> Result<u64, AllocError>
     ensures { IfOk result (λ count. (count ≡ sum_of buckets.now 12)
         × (text.new.items ≡ text.old.items ++ buckets_text buckets.now 12)) }
@@ -372,6 +374,7 @@ fn put_route(text: &mut Vec<u8>, name: &str, micros: u64, count: u64) -> Result<
     put_sample(text, LABEL_END, count)
 }
 
+/// OCSP responses that were internalError (RFC 6960 2.3), by what failed: the signer or the store.
 #[tactic(auto, unfolding(crate::specs::Metrics::failures_text))]
 fn put_failures(text: &mut Vec<u8>, tally: &Tally) -> Result<(), AllocError>
     ensures { OnOk result (text.new.items ≡ text.old.items ++ failures_text tally.now) }
@@ -380,6 +383,7 @@ fn put_failures(text: &mut Vec<u8>, tally: &Tally) -> Result<(), AllocError>
     put_sample(text, OCSP_BY_STORE, tally.ocsp_store_failures)
 }
 
+/// Appends notAfter of the responder's certificate, if there is one that can be read.
 fn put_responder(text: &mut Vec<u8>, ends: Option<Moment>) -> Result<(), AllocError>
     ensures { OnOk result (text.new.items ≡ text.old.items ++ responder_text ends) }
 {

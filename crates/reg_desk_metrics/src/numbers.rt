@@ -1,4 +1,4 @@
-//! Numbers for `/health` and `/metrics` that the tally does not count.
+//! Numbers for `/health` and `/metrics` other than the counters of exchanges, lines and signatures (`Tally`).
 
 use reg_core::{Counts, Fault, Moment};
 use reg_office_api::RegisterSummary;
@@ -10,14 +10,14 @@ pub struct Numbers {
     pub counts: Counts,
     /// When the next CRL is due; `None` if it is due at once.
     pub due: Option<Moment>,
-    /// How many rows the tables have, and at most (the cap); the latest CRL, how long a CRL is valid, and the moment of the last command.
+    /// How many rows each table has, and the most that it may have (the cap); the latest CRL; how long a CRL is valid; the last command's moment.
     pub summary: RegisterSummary,
 }
 
 /// The register's numbers, or why they can't be read.
 pub type NumbersResult = Result<Numbers, Fault>;
 
-/// The register's requests for revocation at a moment. Counting reads all of them, so the desk uses a count for a minute (`Tally::wants_requests`).
+/// Counts of the register's requests for revocation. Counting reads all of them, so the desk uses the counts for a minute (`Tally::wants_requests`).
 #[derive(Clone, Copy, PartialEq, Eq)]
 pub struct Requests {
     /// When they were counted.
@@ -57,7 +57,7 @@ pub struct ConnectionTotals {
     pub open_control: u64,
     /// All connections that were accepted at the port.
     pub accepted: u64,
-    /// Lost connections, by `ConnectionFault` of `reg_desk_server`: broken; timed out; evicted; out of memory.
+    /// Lost connections, by `ConnectionFault` of `reg_desk_server`: broken; timed out (`late`); evicted; out of memory.
     pub broken: u64,
     pub late: u64,
     pub evicted: u64,
@@ -65,7 +65,7 @@ pub struct ConnectionTotals {
 }
 
 impl ConnectionTotals {
-    /// No connections: each count is 0.
+    /// All counts are 0.
     pub fn nothing() -> ConnectionTotals {
         ConnectionTotals {
             open_http: 0,

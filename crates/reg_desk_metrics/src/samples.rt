@@ -6,7 +6,7 @@ ghost use Rattle.reg_desk_metrics.specs.Samples.{digit_at as digit_spec, moment_
 use reg_core::{Decimal, Moment};
 use std::alloc::AllocError;
 
-/// Appends a sample: its series (or the rest of it, such as `LABEL_END`), which ends with a space, its value, and an LF.
+/// Appends a sample: its series (or the last part, such as `LABEL_END`), which ends with a space, its value, and an LF.
 pub(crate) fn put_sample(text: &mut Vec<u8>, series: &str, value: u64) -> Result<(), AllocError>
     ensures { OnOk result (text.new.items ≡ text.old.items ++ sample series.now value) }
 {

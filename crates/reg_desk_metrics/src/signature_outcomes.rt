@@ -1,4 +1,4 @@
-//! Counts the outcomes of signature requests.
+//! Counts the outcomes of signature requests, and keeps since when signatures or the store fail.
 
 ghost use Rattle.std.specs.Prelude.{◌≡◌};
 ghost use Rattle.reg_desk_metrics.specs.Tallies.{nothing_requested, signing_after, store_after as kept_after};
@@ -6,7 +6,8 @@ ghost use Rattle.reg_desk_metrics.specs.Tallies.{nothing_requested, signing_afte
 use reg_core::Moment;
 use reg_office_api::{SignatureOutcome, StoreEffect};
 
-/// Signatures of one kind (CRLs, or OCSP responses): how many were received or failed, and when last. A placeholder digest counts as one.
+/// Signatures of one kind (CRLs, or OCSP responses): how many were received and when last (`last`), how many failed and when last. A placeholder
+/// digest counts as a received signature.
 #[derive(Clone, Copy, PartialEq, Eq)]
 pub(crate) struct Signing {
     pub(crate) received: u64,
@@ -51,7 +52,8 @@ impl Signing {
     }
 }
 
-/// Since when the store fails, after one more effect. Only a write (a command or schedule) ends a failure: reads don't show that writes work.
+/// Since when the store fails, after an exchange or a line with this effect; `since` is from before it. Only a write (a command or schedule) ends a
+/// failure: reads don't show that writes work.
 pub(crate) fn store_after(since: Option<Moment>, effect: StoreEffect, now: Moment) -> Option<Moment>
     ensures { result ≡ kept_after effect now since }
 {

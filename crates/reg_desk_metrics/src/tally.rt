@@ -1,7 +1,7 @@
 //! The counters of an open desk, which count each HTTP exchange and each line of a control connection once. Counts and sums stop at `u64::MAX`.
 
 ghost use Rattle.std.specs.Prelude.{◌≡◌, ◌<◌};
-ghost use Rattle.reg_desk_metrics.specs.Tallies.{IsNewTally, bumped, bucket_of as bucket_spec, route_number as number_of_route, code_number as number_of_code, with_seconds as timed, with_exchange, with_line, outcomes_counted, with_reply_to_line, with_counted, wants_requests as wants_counted, has_crl_key as has_key, read_of, with_read, with_amount, is_ocsp_route, has_response, with_route, with_failure, counted_crl_outcome};
+ghost use Rattle.reg_desk_metrics.specs.Tallies.{IsNewTally, bumped, bucket_of as bucket_spec, route_number as number_of_route, code_number as number_of_code, with_time as timed, with_exchange, with_line, outcomes_counted, with_reply_to_line, with_counted, wants_requests as wants_counted, has_crl_key as has_key, read_of, with_read, with_amount, is_ocsp_route, has_response, with_route, with_failure, counted_crl_outcome};
 
 use crate::numbers::{CrlSigning, ReadCrl, Requests};
 use crate::signature_outcomes::{Signing, store_after};
@@ -42,13 +42,14 @@ pub struct Tally {
     pub(crate) ocsp_store_failures: u64,
     pub(crate) crls: Signing,
     pub(crate) ocsp: Signing,
+    /// Since when the store fails; `None` if it doesn't (`store_after`).
     pub(crate) store_failing_since: Option<Moment>,
     /// The requests for revocation, when they were counted last.
     pub(crate) requests: Option<Requests>,
     pub(crate) crl_signing: CrlSigning,
     /// notAfter of the responder's certificate (RFC 5280 4.1.2.5); `None` if the issuer responds, or if the certificate can't be read.
     pub(crate) responder_ends: Option<Moment>,
-    /// The CRL that was read last.
+    /// The CRL that was read last, kept so that the same CRL is not read again.
     pub(crate) read: Option<ReadCrl>,
 }
 
@@ -131,6 +132,7 @@ fn code_number(status: Option<u16>) -> usize
     }
 }
 
+/// The bucket of a time in microseconds: the first whose upper bound is not below it; the last one has no bound.
 #[tactic(auto, unfolding(crate::specs::Tallies::bucket_of))]
 fn bucket_of(micros: u64) -> usize
     ensures bucket { result ≡ bucket_spec micros }
@@ -198,8 +200,9 @@ impl Tally {
             number * CODES + code_number(exchange.status),
         );
         self.add_route(number, micros);
-        self.add_seconds(micros);
+        self.add_time(micros);
         self.add_failure(exchange);
+        // No HTTP request issues a CRL; `exchange.signature` is that of an OCSP response.
         self.count_outcomes(
             now,
             SignatureOutcome::NotRequested,
@@ -213,7 +216,7 @@ impl Tally {
         ensures { self.new ≡ with_line now line micros self.old }
     {
         self.add_line(line.reply);
-        self.add_seconds(micros);
+        self.add_time(micros);
         self.count_outcomes(now, line.crl, line.ocsp, line.store);
     }
 
@@ -271,7 +274,8 @@ impl Tally {
         }
     }
 
-    fn add_seconds(&mut self, micros: u64)
+    /// Counts a time in the histogram and adds it to the sum, both in microseconds; `/metrics` has them in seconds.
+    fn add_time(&mut self, micros: u64)
         ensures { self.new ≡ timed micros self.old }
     {
         bump(&mut self.buckets, bucket_of(micros));

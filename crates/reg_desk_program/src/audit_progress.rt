@@ -4,13 +4,14 @@ use crate::host::Host;
 use crate::progress::seconds;
 use reg_audit::ProgressObserver;
 
-/// Shows at most once a second how many rows an audit has read and how many CRLs it has compared, if standard error is a terminal.
+/// Shows at most once a second how many rows an audit has read and how many CRLs it has compared with them, if standard error is a terminal.
 #[derive(Drop)]
 pub(crate) struct AuditProgress {
     rt: HostRuntime,
     shows_progress: bool,
     rows: usize,
     crls: usize,
+    /// When progress was last shown, or the audit began: the seconds of the monotonic clock.
     last_shown: u64,
 }
 

@@ -162,7 +162,7 @@ fn open_signer(
     }
 }
 
-/// A signer at a socket; the form of its signatures is checked by its public key, `key`. Errors: `BadSigner` if that doesn't fit; `Memory`.
+/// A signer at a socket. Each signature's form is checked by its public key, `key`. Errors: `BadSigner` if `key` doesn't fit the algorithm; `Memory`.
 pub(crate) fn key_signer(
     rt: &HostRuntime,
     socket: &str,

@@ -70,6 +70,7 @@ fn check_log(rt: &HostRuntime, invocation: &Invocation<'_>) -> io::Result<()> {
         return Ok(());
     };
     let log = open_log(rt, path)?.metadata()?;
+    // SQLite names `-wal` and `-journal` after the file that a symbolic link leads to. If there is no register yet, a log line can't damage it.
     let Ok(register) = fs::canonicalize(rt, register) else {
         return Ok(());
     };

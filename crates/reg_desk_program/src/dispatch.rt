@@ -144,15 +144,15 @@ fn run<M: Machine, R: Source, W: Sink>(
     }
 }
 
-/// Keeps the cause of `BadPolicy`, which the jobs don't keep, in the machine.
+/// Keeps the cause of `BadPolicy`, which the jobs don't keep, in the machine. It needs no location, as its line names the option or the steps.
 fn keep_policy_cause<M: Machine>(machine: &M, job: &Job<'_>, ending: &Result<(), Failure>) {
     if let Err(Failure::BadPolicy) = ending {
-        machine.keep_cause(None, wrong_terms(job));
+        machine.keep_cause(None, bad_policy_cause(job));
     }
 }
 
 /// The cause of `BadPolicy`: the option of `init` that is out of its range, or the invalid steps of `schedule`.
-fn wrong_terms(job: &Job<'_>) -> Option<Cause> {
+fn bad_policy_cause(job: &Job<'_>) -> Option<Cause> {
     match job {
         Job::Init(new) => policy_cause_of(new.days, new.crl_life, new.ocsp_life, new.cap),
         Job::Schedule { .. } => Some(Cause::Steps),

@@ -17,11 +17,11 @@ pub type FileDevice = BackoffDevice<SocketDevice<UnixConnection>, HostRuntime>;
 /// The signer of a register in a file: a process behind a socket, or the placeholder digest.
 pub type FileSigner = RegisterSigner<FileDevice>;
 
-/// An office over a database file. If a page is read from the file again and has another digest than before, the call fails.
+/// An office over a database file. A page that is read again must have its earlier digest, as in a [`FileConnection`](crate::FileConnection).
 pub(crate) type OfficeInFile = Office<FileStore<FileFrom<Unknown>>, FileSigner>;
 
-/// The office of a register in a file. Each method calls the method of [`reg_office::Office`] with the same name. This type has no parameters, so the
-/// prover compares it by its name. To compare all type arguments of `OfficeInFile` takes more steps than the prover allows.
+/// The office of a register in a file. Each method, which the trait describes, calls that of [`reg_office::Office`] with its name. This type has no
+/// parameters, so the prover compares it by its name. To compare all type arguments of `OfficeInFile` takes more steps than the prover allows.
 #[derive(Drop)]
 pub struct FileOffice {
     pub(crate) office: OfficeInFile,

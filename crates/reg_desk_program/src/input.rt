@@ -1,4 +1,4 @@
-//! Standard input, or the file that a job reads.
+//! The input of a job: standard input, or the file that an argument or option names instead.
 
 use reg_desk_cli::{Job, OpenJob, RowTask, ServeJob};
 use reg_desk_service::Location;
@@ -22,7 +22,7 @@ impl Input {
     }
 }
 
-/// The path of the file that a job reads in place of standard input, and the argument or option that names it.
+/// The argument or option that names a file which a job reads in place of standard input, and the file's path; `None` if there is no such file.
 pub(crate) fn input_path<'a>(job: &Job<'a>) -> Option<(Location, &'a str)> {
     match job {
         Job::EachRow {

@@ -15,14 +15,14 @@ use sqlite_disk::Disk;
 /// and the derived tables (states, counts, CRL entries) agree with them. If an office then opens the file with these tables, the records stand in it
 /// (`Stands`: its tables show them, and they are sound). So the contracts and laws of [`reg_office`] hold for them. The law assumes (`IsPresumed`)
 /// what no audit can check: each row of the table `listed` stores its last column (else it reads as NULL), and no call left the connection's
-/// transaction broken, which the crate `sqlite` does not state. It also assumes the signatures of the stored CRLs, which an audit does not verify,
-/// and a disk that returned what was written.
+/// transaction broken, which the crate `sqlite` does not state. It also assumes that the stored CRLs are signed by the signer, or the first ones have
+/// the placeholder digest, which an audit does not verify; and disks (`A` of the audit, `D` of the office) that returned what was written.
 pub fn a_register_that_was_found_sound_stands<A: Disk, D: Disk, S: Signer>()
     ensures { (found : FoundSound A.Disk) → StandsOnceAudited D.Disk S.signs found }
 {}
 
-/// If a register in a file has no signer with a key, its signatures are placeholder digests, and nothing else. So the register may switch from the
-/// digest to a key, by [`reg_office::laws::a_key_follows_the_digest`].
+/// If a register in a file has no signer with a key, each of its signatures is a placeholder digest. So the register may switch from the digest to a
+/// key, by [`reg_office::laws::a_key_follows_the_digest`].
 pub fn without_a_key_only_digests_are_made<D: Device>()
     ensures { IsDigestSigner (SignsByKeyOrDigest D.answers) digest }
 {}
@@ -32,13 +32,13 @@ pub fn without_a_key_only_digests_are_made<D: Device>()
 ///
 /// From the opening of a register to its closing, a job ([`perform`](crate::perform)) changes the register's records only as the replies report
 /// (`UsesRegister` of reg_desk_service). A register of this program's version that is opened has the sound records that its file showed (`begins`).
-/// The machine may stop in any later call, or after it. A register that is then opened again from what the disk kept has the records that stood, or
-/// those after the interrupted call (`leaves`). The interrupted call is the last one (`call`); or an earlier one in which the disk's failure closed
-/// the connection, so that each later call failed (`calls`). The interrupted call got no reply of acceptance. So no accepted command is lost,
+/// The machine may stop in any later call, or after it. A register that is then opened again from what the disk kept has the records from before the
+/// interrupted call, or those after it (`leaves`). The interrupted call is the last one (`call`), or an earlier one in which the disk's failure
+/// closed the connection, so that each later call failed (`calls`). The interrupted call got no reply of acceptance. So no accepted command is lost,
 /// and at most one other command was carried out.
 ///
 /// At its end a job closes the register. If its files are closed without an error, also if the machine stops then, a register that is opened from
-/// them has the records that stood (`closes`). `IsLive` is the clause `live` of `Connection::schema`.
+/// them has the records from before the closing (`closes`), if the connection obeys its schema: `IsLive`, the clause `live` of `Connection::schema`.
 ///
 /// The model of a stop: from then on a disk refuses each call and a client gets no reply. A reply is written only after its call.
 pub fn a_stop_leaves_what_was_reported<D: Disk, S: Signer>()

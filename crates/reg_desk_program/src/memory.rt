@@ -1,4 +1,4 @@
-//! A script over a new register in memory.
+//! Runs a script over a new register in memory: `desk script` without FILE.
 
 ghost use Rattle.std.specs.Prelude.{◌≡◌, None, IfErr, IfOk};
 ghost use Rattle.reg_desk_jobs.specs.Ends.{ScriptInMemory};
@@ -26,7 +26,7 @@ use std::alloc::Global;
 /// The Name of a sample issuer: the common name CA (RFC 5280 4.1.2.4).
 const NAME: [u8; 15] = *b"\x30\x0D\x31\x0B\x30\x09\x06\x03\x55\x04\x03\x0C\x02CA";
 
-/// The key of that issuer: any bytes, since nothing is signed with it.
+/// The public key of that issuer: any bytes, since no signature is made or verified with it.
 const KEY: [u8; 3] = *b"abc";
 
 type MemoryOffice = Office<MemStore, DigestSeal>;
@@ -52,6 +52,7 @@ fn office_in_memory(alloc: Global) -> Result<MemoryOffice, Failure>
     ensures alone { IfOk result (λ office. office.responder ≡ ByIssuer None) }
     ensures err { IfErr result IsCreateFailure }
 {
+    // This Name and key are valid, so only memory can be missing.
     let Ok(issuer) = Issuer::new(alloc, &NAME, &KEY) else {
         return Err(Failure::Fault(Fault::Memory));
     };

@@ -12,7 +12,7 @@ use crate::file_office::FileSigner;
 use crate::host::Host;
 use reg_core::{Fault, io_cause_of};
 use reg_crl::Signer;
-use reg_crl_signer::is_key_identifier;
+use reg_crl_signer::is_key_algorithm_identifier;
 use reg_desk_cli::{Argument, Failure, SignerAddress};
 use reg_desk_service::{Location, Machine};
 use reg_ocsp::{Certificate, CertificateFault};
@@ -54,7 +54,7 @@ pub(crate) fn delegate_responder(
     ensures faults { IfErr result IsOpenFailure }
 {
     let certificate = certificate_at(host, Location::Responder, path.as_str())?;
-    if !is_key_identifier(address.algorithm, certificate.algorithm()) {
+    if !is_key_algorithm_identifier(address.algorithm, certificate.algorithm()) {
         return Err(Failure::BadResponder);
     }
     match key_signer(

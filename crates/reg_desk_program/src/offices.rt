@@ -22,7 +22,8 @@ use reg_store::Store;
 use sqlite::{Alter, Connection, FileFrom, FileStore};
 use sqlite_disk::{Disk, Unknown};
 
-/// A connection to a database file. If a page is read from the file again and has another digest than before, the call fails.
+/// A connection to a database file; contracts suppose nothing of the file's bytes (`Unknown`). If a page is read from the file again and has another
+/// digest than before, the call fails.
 pub type FileConnection = Connection<FileStore<FileFrom<Unknown>>>;
 
 /// Creates a register in a database, and returns its office. Errors: `NotEmpty`, `Memory` or `Store`, with the connection.
@@ -39,6 +40,7 @@ pub(crate) fn create_over<C: Alter, S: Signer + Drop>(
     ensures alone { IfOk result (λ office. office.responder ≡ ByIssuer None) }
     ensures err { IfErr result (λ left. IsCreateFailure left.0) }
 {
+    // Called only for its contract: the policy is in its ranges.
     policy.prove_ranges();
     match Store::create(connection, issuer, policy) {
         Ok(store) => Ok(Office::new(store, signer)),

@@ -55,6 +55,7 @@ impl<'a> CountedOutput<'a> {
             return;
         }
         self.last_shown = now;
+        // 0 only if the clock can't be read.
         let elapsed = now.saturating_sub(self.started_at);
         let per_second = self.lines.checked_div(elapsed).unwrap_or(self.lines);
         let lines = self.lines;

@@ -14,17 +14,16 @@ use std::io;
 use std::io::ErrorKind;
 use std::net::SocketAddr;
 
-const MOST_AT_ONCE: usize = 64;
+const MOST_ACCEPTS: usize = 64;
 
-/// A listener, and the accepted connection that waits for a slot, if one does.
+/// A listener, and in `next` the connection that was accepted and has no slot yet, if there is one.
 #[derive(Drop)]
 pub(crate) struct Acceptor {
     listener: TcpListener,
-    /// The connection that was accepted and has no slot yet.
     next: Option<(TcpStream, SocketAddr)>,
     /// Whether another connection may be waiting at the listener.
     may_have_more: bool,
-    /// Whether another connection is assumed to wait: the listener was ready or can't be polled, and no connection was accepted since.
+    /// Whether one is assumed to wait: the listener was ready or can't be polled, and none was accepted since. Only then does an accept error evict.
     has_more: bool,
     /// Whether there was no descriptor for a waiting connection, and no HTTP connection whose descriptor could be freed for it.
     pub(crate) lacks_descriptors: bool,
@@ -58,9 +57,9 @@ impl Acceptor {
         self.next.is_some() || (self.may_have_more && self.accepted < limit)
     }
 
-    /// Accepts waiting connections: at most [`MOST_AT_ONCE`] in a call, and `limit` in all. Evicts an HTTP connection if there is no slot for the
-    /// next one, or if accept(2) fails though one waits (not if a signal came, or if the client is gone). If there is none to evict, the next call
-    /// tries again if descriptors ran out; any other error is an [`EventLoopFault`].
+    /// Accepts waiting connections: at most `limit` in all, and [`MOST_ACCEPTS`] in a call, so that open ones needn't wait long. Evicts an HTTP
+    /// connection if there is no slot for the next one, or if accept(2) fails though one waits (not if a signal came, or if the client is gone). If
+    /// there is none to evict, the next call tries again if descriptors ran out; any other error is an [`EventLoopFault`].
     pub(crate) fn accept_all<H: Handler>(
         &mut self,
         limit: u64,
@@ -73,7 +72,7 @@ impl Acceptor {
         ensures fails { OnErr result H.failed }
     {
         self.retry_after_shortage();
-        for _ in 0..MOST_AT_ONCE {
+        for _ in 0..MOST_ACCEPTS {
             if !self.accept(limit, connections, shared, handler, now)? {
                 return Ok(());
             }
@@ -168,7 +167,7 @@ impl Acceptor {
                 Ok(())
             }
             ErrorKind::Interrupted | ErrorKind::ConnectionAborted => Ok(()),
-            // There may be no descriptor; Linux reports this even if no connection waits.
+            // Perhaps no connection waits: Linux reports a lack of descriptors even then.
             _ if !self.has_more => {
                 self.reregister(&shared.poller);
                 Ok(())

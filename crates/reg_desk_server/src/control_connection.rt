@@ -16,7 +16,7 @@ use reg_io::first_delimiter;
 use std::alloc::Global;
 use std::io::{ErrorKind, Read};
 
-/// A connection is closed once it keeps at least this many bytes, and none of them is an LF.
+/// A connection that keeps at least this many bytes without an LF is closed. No valid line is so long: it has at most 8,192 bytes before its LF.
 const LONGEST_LINE: usize = 8_194;
 
 const MOST_READS: usize = 4;
@@ -34,12 +34,15 @@ pub struct ControlConnection<S: Link> {
     /// The bytes that came and were not answered yet.
     pub(crate) arrived: Vec<u8>,
     pub(crate) unsent: Unsent,
+    /// Whether nothing more is received: the client has half-closed, a read failed, or there was no memory for what came.
     pub(crate) has_ended: bool,
     /// `Memory` if there was none for bytes that came.
     pub(crate) fault: Option<ConnectionFault>,
+    /// Whether `link` was registered with the poller.
     pub(crate) is_registered: bool,
     /// How often the first line was passed to `Handler::defer` since the last reply.
     pub(crate) deferrals: u32,
+    /// The text that the line `why` reports ([`Handler::answer_lines`]).
     pub(crate) last_reason: Vec<u8>,
 }
 
@@ -126,8 +129,7 @@ impl<S: Link> ControlConnection<S> {
         }
     }
 
-    /// The next step if no more is to be read: `Due` if a line is whole; `Close` if the input ended without one, or the line is too long. Else
-    /// `None`.
+    /// The next step if no more is to be read: `Due` if a line is whole; `Close` if the input ended without one or the line is too long; else `None`.
     fn after_reading(&self) -> Option<Next>
         ensures goes_on { IfNone result (self.now.has_ended ≡ false) }
         ensures whole { (result ≡ Some Next.Due) ⊎ HasNoLine self.now.arrived.items }
@@ -164,6 +166,7 @@ impl<S: Link> ControlConnection<S> {
         }
     }
 
+    /// The index after the first line (`due_lines`: after the last of up to `MOST_LINES`). `None` if no line is whole, or a reply is not wholly sent.
     fn due_line(&self) -> Option<usize>
         ensures { MatchOption result (unsent_of self.now.unsent ≡ [] → HasNoLine self.now.arrived.items)
             (λ end. (unsent_of self.now.unsent ≡ []) × FirstLineEnds self.now.arrived.items end) }
@@ -184,8 +187,8 @@ impl<S: Link> ControlConnection<S> {
         lines_end(self.arrived.as_slice())
     }
 
-    /// If the replies before them were sent, passes the whole lines, at most `MOST_LINES`, to the handler, which answers one or several of them. The
-    /// error is that of [`Handler::answer_lines`].
+    /// Passes the whole lines, at most `MOST_LINES`, to the handler, which answers one or several of them. Does nothing while a reply is not wholly
+    /// sent. The error is that of [`Handler::answer_lines`].
     pub fn answer_lines<H: Handler>(&mut self, handler: &mut H) -> Result<(), EventLoopFault>
         requires { H.has_control handler.old }
         ensures ok { OnOk result
@@ -236,8 +239,8 @@ impl<S: Link> ControlConnection<S> {
         }
     }
 
-    /// Answers the first line, which was deferred, with the signature that came on `link`, or without one. The handler may leave the line unanswered,
-    /// to be deferred again. The error is that of [`Handler::answer_deferred`].
+    /// Answers the first line, which was deferred, with the signature that came on `link` (the connection to the signer, not `self.link`), or without
+    /// one. The handler may leave the line unanswered, to be deferred again. The error is that of [`Handler::answer_deferred`].
     pub fn answer_deferred<H: Handler>(
         &mut self,
         handler: &mut H,

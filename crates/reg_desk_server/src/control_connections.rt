@@ -1,4 +1,4 @@
-//! The control connections: their listener, and each connection in its slot.
+//! The connections of clients at the control socket: their listener, and each connection in its slot.
 
 ghost use Rattle.std.specs.Prelude.{◌≡◌, OnErr};
 ghost use Rattle.reg_desk_server.specs.Handling.{AnsweredLines};
@@ -8,7 +8,7 @@ use crate::handler::{ConnectionFault, EventLoopFault, Handler};
 use crate::http_connection::Next;
 use crate::http_connections::SWEEP_MILLIS;
 use crate::poller::{CONTROL_LISTENER, FIRST_CONTROL, Poller, is_out_of_descriptors};
-use crate::shared::{LostConnection, Shared};
+use crate::shared::{ConnectionFaultReport, Shared};
 use crate::signature_requests::PAUSE_MILLIS;
 use crate::slots::Slots;
 use crate::waiting_line::WaitingLine;
@@ -27,6 +27,7 @@ pub(crate) struct ControlConnections<H: Handler> {
     pub(crate) slots: Slots<ControlConnection<UnixStream>>,
     /// The line that waits for a signature, if there is one. No other line is answered before it.
     pub(crate) waiting: Option<WaitingLine<H>>,
+    /// Whether a connection may be waiting at the listener.
     pub(crate) may_accept: bool,
     /// Whether there was no descriptor for a connection that may be waiting.
     pub(crate) lacks_descriptors: bool,
@@ -38,6 +39,7 @@ pub(crate) struct ControlConnections<H: Handler> {
 }
 
 impl<H: Handler> ControlConnections<H> {
+    /// Registers the listener, if there is a control socket, with the poller for the first time (`false`).
     pub(crate) fn new(
         alloc: Global,
         mut listener: Option<UnixListener>,
@@ -58,6 +60,7 @@ impl<H: Handler> ControlConnections<H> {
         })
     }
 
+    /// Whether the loop must not block, since a line can be answered, or a connection may be waiting at the listener and a slot is free.
     pub(crate) fn is_ready(&self) -> bool {
         let has_work = match &self.waiting {
             Some(waiting) => waiting.has_ended(),
@@ -66,7 +69,7 @@ impl<H: Handler> ControlConnections<H> {
         has_work || (self.may_accept && self.slots.has_free() && self.listener.is_some())
     }
 
-    /// The longest time that the loop may block while a line waits for a signature.
+    /// How long the loop may block for the waiting line: until the next try to connect to the signer, or the next check of its deadline.
     pub(crate) fn longest_wait(&self) -> Duration {
         match &self.waiting {
             Some(waiting) if waiting.link.is_none() => Duration::from_millis(PAUSE_MILLIS),
@@ -75,13 +78,14 @@ impl<H: Handler> ControlConnections<H> {
         }
     }
 
-    /// Closes the connection whose line waits for a signature, and forgets that lines are due, so that the loop can block.
+    /// Answers no more of the lines that came, so that the loop can block. Closes the connection whose line waits for a signature.
     pub(crate) fn stop(&mut self) {
         self.has_lines = false;
         self.waiting = None;
     }
 
-    /// Accepts connections while slots are free; others wait in the kernel's backlog. If there is no descriptor, the next call tries again.
+    /// Accepts connections while slots are free; others wait in the kernel's backlog. If accept(2) fails because a signal came or no descriptor is
+    /// left, the next call tries again. After any other error, such as that no connection waits, no call tries until the listener is ready again.
     pub(crate) fn accept_all(&mut self, shared: &mut Shared) {
         if self.lacks_descriptors {
             self.lacks_descriptors = false;
@@ -158,7 +162,7 @@ impl<H: Handler> ControlConnections<H> {
         }
     }
 
-    /// Closes a connection, and reports it if it is lost.
+    /// Closes a connection. If it is lost (`why` is not `None`), reports that; the client has no address (`client: None`).
     fn close_lost(
         &mut self,
         slot: usize,
@@ -167,7 +171,9 @@ impl<H: Handler> ControlConnections<H> {
         why: Option<ConnectionFault>,
     ) {
         if let Some(why) = why {
-            shared.lost.add_lost(LostConnection { client: None, why });
+            shared
+                .lost
+                .add_fault_report(ConnectionFaultReport { client: None, why });
         }
         self.close(slot, connection);
     }
@@ -179,7 +185,7 @@ impl<H: Handler> ControlConnections<H> {
         self.slots.release(slot);
     }
 
-    /// Answers lines of each connection. But while a line waits for a signature, only advances that line: no other line is answered before it.
+    /// Answers lines of each connection; while a line waits for a signature, only advances that line. `now`: in milliseconds of the handler's clock.
     #[tactic(auto, using(crate::proofs::Exchanges::exchanged_none))]
     pub(crate) fn answer_all_lines(
         &mut self,
@@ -205,7 +211,7 @@ impl<H: Handler> ControlConnections<H> {
         Ok(())
     }
 
-    /// Advances a line that waits for a signature, and answers it once it waits no more.
+    /// Advances a line that waits for a signature, and answers it once it waits no more. `link` is the connection to the signer, not the client's.
     #[tactic(auto, using(crate::proofs::Exchanges::exchanged_none))]
     fn advance_waiting_line(
         &mut self,
@@ -232,7 +238,7 @@ impl<H: Handler> ControlConnections<H> {
         Ok(())
     }
 
-    /// Answers lines of the connection in a slot, unless the first of them, or a line of another connection, waits for a signature.
+    /// Answers lines of the connection in a slot; none while a line of another one waits. If its first line needs a signature, that line now waits.
     #[tactic(auto, using(crate::proofs::Exchanges::exchanged_none))]
     fn answer_lines_at(
         &mut self,

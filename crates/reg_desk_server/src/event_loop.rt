@@ -13,7 +13,7 @@ use crate::poller::{
     CONTROL_LISTENER, FIRST_CONTROL, FIRST_HTTP, FIRST_SIGNATURE, HTTP_LISTENER, LINE_SIGNER,
     MOST_SIGNATURES,
 };
-use crate::shared::{LostConnection, Shared};
+use crate::shared::{ConnectionFaultReport, Shared};
 use crate::signature_requests::{Requester, SignatureRequests, TIMEOUT_MILLIS, WantedSignature};
 use mio::net::{TcpListener, TcpStream, UnixListener};
 use reg_crl_signer::SignatureRequest;
@@ -23,7 +23,7 @@ use std::io::ErrorKind;
 use std::net::Net;
 use std::time::Duration;
 
-/// The longest time, in seconds, for which the loop blocks if no HTTP connection is open.
+/// For how many seconds the loop blocks at most if no HTTP connection is open, which could time out, and no accept waits for a descriptor.
 const IDLE_SECS: u64 = 3_600;
 
 /// The event loop of one thread: the connections that a handler answers.
@@ -110,6 +110,7 @@ impl<H: Handler> EventLoop<H> {
             self.finish_all(handler, now);
             self.request_all(handler, now);
             self.http.close_due(&mut self.shared);
+            // The poll may have read control lines, and while lines are due the next poll doesn't block.
             self.control.stop();
         }
         Ok(())
@@ -123,8 +124,7 @@ impl<H: Handler> EventLoop<H> {
         }
     }
 
-    /// Waits for events, then reads, writes and accepts, and ends the connections whose time is over. Returns the milliseconds of the handler's
-    /// clock.
+    /// Waits for events, then reads, writes and accepts, and ends the connections whose time is over. Returns the handler's clock in milliseconds.
     fn poll(&mut self, handler: &H, limit: u64) -> Result<u64, EventLoopFault>
         ensures ok { OnOk result ((count : ℕ) → H.waited count → H.waited (count + 1)) }
         ensures fails { OnErr result H.failed }
@@ -208,8 +208,7 @@ impl<H: Handler> EventLoop<H> {
         Ok(())
     }
 
-    /// Answers one of the connections that are due, if it is still receiving, and sends its answer. If the answer is to be signed, queues a request
-    /// for its signature.
+    /// Answers the connection at this index of `due`, if it still receives. Sends the answer, or queues a request for its signature.
     #[tactic(auto, using(crate::proofs::Exchanges::exchanged_none))]
     fn answer_due(
         &mut self,
@@ -230,10 +229,12 @@ impl<H: Handler> EventLoop<H> {
             return Ok(());
         };
         let before = connection.unsent();
-        // What came of the request is answered even so.
+        // Even after a fault, such as a timeout, the handler answers what was received.
         if let Some(why) = connection.record_fault(now) {
             let client = Some(connection.client);
-            self.shared.lost.add_lost(LostConnection { client, why });
+            self.shared
+                .lost
+                .add_fault_report(ConnectionFaultReport { client, why });
         }
         match connection.answer(handler, answered, now) {
             Ok(true) => {
@@ -251,7 +252,7 @@ impl<H: Handler> EventLoop<H> {
         }
     }
 
-    /// Sends the answer of a connection that was taken out of a slot. The total of unsent bytes has `before` of this connection so far.
+    /// Sends the answer of a connection that was taken out of a slot. `before`: how many unsent bytes of this connection the total has so far.
     fn send_on(
         &mut self,
         slot: usize,
@@ -290,8 +291,8 @@ impl<H: Handler> EventLoop<H> {
         }
     }
 
-    /// Requests the signature of an answer that was in the queue, as [`EventLoop::request`] does. If its client closed its sending side while it was
-    /// there, closes the connection instead.
+    /// Requests the signature of an answer that was in the queue, as [`EventLoop::request`] does. If the answer waited there, and its client has
+    /// half-closed by now, closes the connection instead: such a client is taken to have gone.
     fn request_next(&mut self, wanted: WantedSignature, index: usize, handler: &H, now: u64) {
         // Whether it was queued at an earlier moment.
         let has_waited = wanted.deadline < now.saturating_add(TIMEOUT_MILLIS);
@@ -305,7 +306,7 @@ impl<H: Handler> EventLoop<H> {
         self.request(wanted, index, handler, now);
     }
 
-    /// Requests the signature of an answer; `index` is that of a free `Place` of `signatures`.
+    /// Requests the signature of an answer; `index` is that of a free `Place` of `signatures`, which may keep an idle connection to the signer.
     fn request(&mut self, wanted: WantedSignature, index: usize, handler: &H, now: u64) {
         let requester = wanted.requester;
         let kept = self.signatures.take(index);
@@ -347,7 +348,7 @@ impl<H: Handler> EventLoop<H> {
             requester,
             deadline,
         } = wanted;
-        // The signature, or the end of the signer's connection without one.
+        // Whether the signature came, or the signer's connection ended without one.
         let has_arrived = self.signatures.has_arrived(index);
         let is_awaited = deadline > now && self.http.is_waiting(requester);
         if is_awaited && !has_arrived {
@@ -356,7 +357,7 @@ impl<H: Handler> EventLoop<H> {
         let request = self.signatures.take(index);
         let mut answered = if has_arrived { request } else { None };
         if is_awaited && failed_unanswered(&answered) {
-            // The `Place` has no kept connection now, so this request is sent on a new one.
+            // The kept connection had failed, as after the signer's restart. The `Place` has none now, so a new one carries this request.
             self.request(wanted, index, handler, now);
             return;
         }

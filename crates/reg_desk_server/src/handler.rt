@@ -16,11 +16,11 @@ pub struct EventLoopFault;
 /// A fault of a connection, by which it was lost or no more of its request was received.
 #[derive(Clone, Copy, Debug, PartialEq, Eq)]
 pub enum ConnectionFault {
-    /// A read, write or poller registration failed before the whole answer was sent, or the client half-closed before its signature was requested.
+    /// A read, write or poller registration failed before the whole answer was sent, or the client half-closed before the signature was requested.
     Broken,
     /// The time of the connection was up before its request was whole or its whole answer was sent.
     TimedOut,
-    /// The connection was evicted, for another one or for the limit of unsent bytes, before its whole answer was sent.
+    /// The loop evicted the connection, to accept another one or because of the limit of unsent bytes, before its whole answer was sent.
     Evicted,
     /// There was no memory for the bytes that came on the connection.
     Memory,
@@ -48,9 +48,8 @@ pub struct LineReplies {
     pub text: Vec<u8>,
 }
 
-/// Answers requests and lines, one after the other. While a signature is awaited, other requests are answered. While a line awaits one, no other line
-/// is answered. Only `Desk` in `reg_desk_service` implements this trait, which exists so that the contracts of the event loop hold for any `answers`,
-/// `answers_lines`, `defers` and `finishes`.
+/// Answers requests and lines, one after the other. While a request awaits a signature, others are answered; while a line does, no other line is.
+/// Only `Desk` (reg_desk_service) implements it. As a trait, it lets the loop's contracts hold whatever `answers`, `finishes` and the like mean.
 pub trait Handler {
     ghost use Rattle.std.specs.Prelude.{◌≡◌, ◌+◌, ℕ, List, take, IsTrue, IfErr, IfOk, OnErr, OnOk, MatchOption};
     ghost use Rattle.reg_http_head.specs.Bytes.{collected_bytes};
@@ -74,7 +73,7 @@ pub trait Handler {
     // The handler does not answer this line; at most it makes the message to be signed for the line. The handler before and after it.
     ghost defers: { Self → List ℕ → Self → Type 0 };
 
-    // This is the whole text of the answer that was left to be signed.
+    // This is the whole text of the answer with this ticket, which was left to be signed.
     ghost finishes: { Self → Self.Ticket → List ℕ → Type 0 };
 
     // This handler has a control socket.
@@ -89,7 +88,7 @@ pub trait Handler {
     // At first the handler has not waited.
     ghost not_waited: { waited 0 };
 
-    /// Whether this handler has a control socket, and so answers lines.
+    /// Whether this handler has a control socket, and so answers lines. If not, the event loop closes each control connection instead.
     fn has_control_socket(&self) -> bool
         ensures { IsTrue result → has_control self.now };
 
@@ -107,13 +106,11 @@ pub trait Handler {
         ensures ok { OnOk result ((count : ℕ) → waited count → waited (count + 1)) }
         ensures err { OnErr result failed };
 
-    /// Accepts a connection. Errors of accept(2): no connection waits, a signal came, the client is gone, no descriptor is left, or the system
-    /// failed.
+    /// Accepts a connection. Errors of accept(2): none waits, a signal came, the client is gone, no descriptor is left, or the system failed.
     fn accept(&self, listener: &TcpListener) -> io::Result<(TcpStream, SocketAddr)>
         ensures { IfErr result (AcceptFails failed) };
 
-    /// Answers the bytes that came from a client, or leaves an answer to be signed. An incomplete request gets an empty text.
-    /// [`EventLoopFault`] if the clock can't be read.
+    /// Answers a client's bytes (an incomplete request by an empty text), or leaves the answer to be signed. [`EventLoopFault`] if the clock fails.
     fn answer(
         &mut self,
         client: SocketAddr,
@@ -124,8 +121,8 @@ pub trait Handler {
         ensures err { OnErr result (self.new ≡ self.old) }
         ensures fails { OnErr result failed };
 
-    /// Requests the signature of an answer, without blocking. `kept` is the request of an earlier answer, whose connection may be used again. The
-    /// error is `WouldBlock` if the signer's backlog is full, or if no descriptor is left. After any other, no signature comes.
+    /// Requests the signature of an answer, without blocking. `kept` is the request of an earlier answer, if its connection may be used again. The
+    /// error is `WouldBlock` if the backlog of the signer's socket is full, or if no descriptor is left. After any other error, no signature comes.
     fn request_signature(
         &self,
         ticket: &Self::Ticket,
@@ -138,7 +135,7 @@ pub trait Handler {
         ensures { finishes self.now ticket result.items };
 
     /// Answers the first of these lines of a control connection, or the first several. The handler keeps in `last_reason`, which is empty at first,
-    /// the text that the line `why` reports. [`EventLoopFault`] if the clock can't be read.
+    /// the text that the line `why` reports: mostly why the last refused line was refused. [`EventLoopFault`] if the clock can't be read.
     fn answer_lines(
         &mut self,
         lines: &[u8],
@@ -152,7 +149,7 @@ pub trait Handler {
         ensures fails { OnErr result failed };
 
     /// The message to be signed before a line is answered. `None` if nothing is to be signed, if there is no signer, or if the message can't be made.
-    /// An empty message for an OCSP line in its signer's back-off: then `connect_to_signer` fails, and the line is answered without a signature.
+    /// It is empty for a line `ocsp` while its signer isn't asked, after a timeout: then `connect_to_signer` fails, and the line gets no signature.
     fn defer(&mut self, line: &[u8]) -> Option<Deferred<Self::ControlTicket>>
         ensures { defers self.old line.now self.new };
 
@@ -175,7 +172,7 @@ pub trait Handler {
         ensures err { OnErr result ((self.new ≡ self.old) × (last_reason.new ≡ last_reason.old)) }
         ensures fails { OnErr result failed };
 
-    /// Reports a fault of a connection: it was lost, or what came of its request is answered. A control connection has no address.
+    /// Reports a fault of a connection, which is lost or is answered for the part of its request that came. `client` is `None` at the control socket.
     fn report_lost(&self, client: Option<SocketAddr>, why: ConnectionFault);
 
     /// Receives how many connections there are, in each iteration of `serve_all` before anything is answered.

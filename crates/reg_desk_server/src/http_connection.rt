@@ -23,7 +23,7 @@ const TIMEOUT_MILLIS: u64 = 30_000;
 /// For how many milliseconds after its answer the bytes that a client still sends are dropped.
 const LINGER_MILLIS: u64 = 1_000;
 
-const MOST_DROPPED: usize = 32;
+const MOST_DROP_READS: usize = 32;
 
 /// The stage of a connection, in the order in which a connection reaches them. An answer that needs no signature skips `Signing`.
 #[derive(Drop)]
@@ -46,11 +46,11 @@ pub enum Next {
     Close,
 }
 
-/// Drops the bytes that came, in at most `MOST_DROPPED` reads.
+/// Drops the bytes that came, in at most `MOST_DROP_READS` reads.
 fn drop_all<R: Read>(reader: &mut R, read_buffer: &mut [u8]) -> Received
     ensures { IsDropped (R.remaining reader.old) (R.remaining reader.new) }
 {
-    for _ in 0..MOST_DROPPED {
+    for _ in 0..MOST_DROP_READS {
         match drop_once(reader, read_buffer) {
             Received::More => {}
             received => return received,
@@ -79,7 +79,7 @@ pub struct HttpConnection<S: Link, H: Handler> {
     pub(crate) stage: Stage<H::Ticket>,
     /// The fault because of which no more of the request is received, if there is one.
     pub(crate) fault: Option<ConnectionFault>,
-    /// Whether the client closed its sending side while its answer waits for a signature.
+    /// Whether the client has closed its sending side, if that was noticed while its answer waits for a signature.
     pub(crate) has_ended: bool,
     /// When the time of the connection is up, in milliseconds of the handler's clock.
     pub(crate) deadline: u64,
@@ -112,12 +112,10 @@ impl<S: Link, H: Handler> HttpConnection<S, H> {
         }
     }
 
-    /// Whether the request is still being received.
     pub fn is_receiving(&self) -> bool {
         matches!(self.stage, Stage::Receiving(_))
     }
 
-    /// Whether the answer is to be signed.
     pub fn is_signing(&self) -> bool {
         matches!(self.stage, Stage::Signing(..))
     }
@@ -165,7 +163,7 @@ impl<S: Link, H: Handler> HttpConnection<S, H> {
         }
     }
 
-    /// Advances the connection without blocking, by a limited number of reads or writes, and returns its next step.
+    /// Advances the connection without blocking, and returns its next step. The number of reads or writes is limited, so that others get their turn.
     pub fn advance(&mut self, read_buffer: &mut [u8], now: u64) -> Next
         ensures receives { ReceivesMore S.Read.remaining self.old self.new }
         ensures sends { Sends S.Write.contents self.old self.new }
@@ -186,6 +184,7 @@ impl<S: Link, H: Handler> HttpConnection<S, H> {
         if self.fault.is_some() {
             return Next::Due;
         }
+        // `advance` calls this in the stage `Receiving` only, and `send_on` in `Sending` only: the other arms are not reached.
         match &mut self.stage {
             Stage::Receiving(collected) => match receive(&mut self.link, collected, read_buffer) {
                 Received::Blocked => Next::Poll(Interest::READABLE),
@@ -207,7 +206,8 @@ impl<S: Link, H: Handler> HttpConnection<S, H> {
         }
     }
 
-    /// Drops the bytes that a client sends while its answer waits for a signature, and notices if the client is gone.
+    /// Drops the bytes that a client sends while its answer waits for a signature, and notices if the client is gone. If it is not, the connection is
+    /// parked: its next step depends on the signature.
     fn drop_received(&mut self, read_buffer: &mut [u8]) -> Next
         ensures { Drops S.Read.remaining self.old self.new }
     {
@@ -273,9 +273,8 @@ impl<S: Link, H: Handler> HttpConnection<S, H> {
         }
     }
 
-    /// Answers the bytes that came of the request, even if it is incomplete, and adds 1 to `answered`. Returns whether the answer is to be signed. A
-    /// connection that has an answer, or waits for one, is not answered again. [`EventLoopFault`] as for [`Handler::answer`], and if `answered` is
-    /// 2^64 - 1.
+    /// Answers the bytes that came of the request, even if it is incomplete, and adds 1 to `answered`. Returns whether the answer is to be signed. In
+    /// a stage after `Receiving`, does nothing and returns `false`. [`EventLoopFault`] as for [`Handler::answer`], and if `answered` is 2^64 - 1.
     #[tactic(auto, using(crate::proofs::Exchanges::exchanged_none))]
     pub fn answer(
         &mut self,
@@ -328,8 +327,7 @@ impl<S: Link, H: Handler> HttpConnection<S, H> {
         self.deadline = now.saturating_add(TIMEOUT_MILLIS);
     }
 
-    /// Requests the signature of the answer, without blocking. The errors are those of [`Handler::request_signature`]; `NotConnected` if no answer
-    /// is to be signed.
+    /// Requests the answer's signature. The errors are those of [`Handler::request_signature`]; `NotConnected` if no answer is to be signed.
     pub(crate) fn request_signature(
         &self,
         handler: &H,

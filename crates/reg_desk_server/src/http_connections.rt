@@ -6,7 +6,7 @@ ghost use Rattle.reg_desk_server.specs.Buffers.{AppendsIfMemory};
 use crate::handler::{ConnectionFault, Handler};
 use crate::http_connection::{HttpConnection, Next};
 use crate::poller::{FIRST_HTTP, Poller};
-use crate::shared::{LostConnection, Shared};
+use crate::shared::{ConnectionFaultReport, Shared};
 use crate::signature_requests::Requester;
 use crate::slots::Slots;
 use mio::net::TcpStream;
@@ -19,13 +19,13 @@ use std::io::ErrorKind;
 /// register, the log, copies, and the control socket.
 pub const MOST_HTTP_CONNECTIONS: usize = 960;
 
-/// The most unsent bytes of all HTTP connections together: 64 MiB.
+/// The most unsent bytes of all HTTP connections together, which clients that don't read keep in memory: 64 MiB.
 const MOST_UNSENT: usize = 67_108_864;
 
 /// How many milliseconds pass at least between two searches for connections whose time is up.
 pub(crate) const SWEEP_MILLIS: u64 = 250;
 
-/// Which connections may be evicted: those without an answer; those with one; those whose answer is not wholly sent, except one slot.
+/// Which connections may be evicted: those without an answer; those with one; those whose answer is not wholly sent, except the one in a slot.
 #[derive(Clone, Copy)]
 enum Selection {
     Unanswered,
@@ -50,6 +50,7 @@ pub(crate) struct HttpConnections<H: Handler> {
     /// The slots of the connections that are to be answered in this iteration.
     pub(crate) due: Vec<usize>,
     unsent: usize,
+    /// When the last sweep was, in milliseconds of the handler's clock.
     swept: u64,
 }
 
@@ -67,6 +68,7 @@ impl<H: Handler> HttpConnections<H> {
         })
     }
 
+    /// Corrects the total of unsent bytes: of these, a connection had `before`, and has `after` now.
     pub(crate) fn count_unsent(&mut self, before: usize, after: usize)
         ensures count { self.new.unsent ≡ min (self.old.unsent - before + after) (2 ^ 64 - 1) }
         ensures due { self.new.due ≡ self.old.due }
@@ -127,7 +129,7 @@ impl<H: Handler> HttpConnections<H> {
     }
 
     /// Closes a connection that was taken out of its slot. The connection is lost if it awaits a signature or its answer is not wholly sent. The loss
-    /// is reported unless a fault of the connection was reported before.
+    /// is reported, with its reason `why`, unless a fault of the connection was reported before.
     fn close(
         &mut self,
         slot: usize,
@@ -140,16 +142,17 @@ impl<H: Handler> HttpConnections<H> {
         let is_lost = connection.unsent() > 0 || connection.is_signing();
         if is_lost && connection.fault.is_none() {
             let client = Some(connection.client);
-            shared.lost.add_lost(LostConnection { client, why });
+            shared
+                .lost
+                .add_fault_report(ConnectionFaultReport { client, why });
         }
         self.count_unsent(connection.unsent(), 0);
         drop(connection);
         self.slots.release(slot);
     }
 
-    /// Evicts one connection: the oldest that has an answer, or else the oldest of all. If it still receives, the handler gets the bytes that came,
-    /// in this iteration, and the connection is closed after the answer, which is empty for an incomplete request. If its answer is to be signed, it
-    /// is closed without one. If that connection is due, it is answered in this iteration, and none is evicted.
+    /// Evicts the oldest connection that has an answer, or else the oldest of all, unless it is due. One that still receives becomes due: the handler
+    /// gets what came, the answer (empty for an incomplete request) is sent, and the connection closed. Any other connection is closed at once.
     pub(crate) fn evict(&mut self, shared: &mut Shared) {
         let answered = self.oldest(Selection::Answered);
         let Some(slot) = answered.or(self.oldest(Selection::Unanswered)) else {
@@ -296,7 +299,7 @@ impl<H: Handler> HttpConnections<H> {
         }
     }
 
-    /// Advances the connection of a requester, and closes it if the client closed its side. Returns whether the requester no longer waits.
+    /// Advances the connection of a requester, and closes it if its client has half-closed. Returns whether the requester no longer waits.
     pub(crate) fn close_if_ended(
         &mut self,
         requester: Requester,

@@ -12,10 +12,10 @@ use crate::link::Link;
 
 /// On a control connection the lines are answered in order and no line twice, and the replies are sent in order and no reply twice.
 ///
-/// Over any steps since the connection was accepted, the bytes that came are the answered lines, the kept bytes, and last any bytes for which there
-/// was no memory; if there are such bytes, the connection has ended. The sent bytes and then the unsent ones are the replies to these lines
-/// (`HasAnsweredLines`). `ControlConnection::advance` answers no line, `answer_lines` one or several or none, and `answer_deferred` at most one. The
-/// law is about a `Link`; no clause states which bytes a socket carries.
+/// After any calls named below since the connection was accepted, the bytes that came are the answered lines, the kept bytes, and last any bytes for
+/// which there was no memory; if there are such bytes, the connection has ended. The sent bytes, followed by the unsent ones, are the replies to the
+/// answered lines (`HasAnsweredLines`). `ControlConnection::advance` answers no line, `answer_lines` none, one or several, and `answer_deferred` at
+/// most one. The law is about any `Link`, a connection that never blocks; no clause states which bytes a socket carries.
 pub fn each_line_is_answered_once_in_order<S: Link, H: Handler>()
     ensures begins { (client : ControlConnection S) → IsFresh client
         → HasAnsweredLines S.Write.contents S.Read.remaining H.answers_lines client.link client [] [] }
@@ -28,10 +28,10 @@ pub fn each_line_is_answered_once_in_order<S: Link, H: Handler>()
 
 /// A request is answered at most once.
 ///
-/// Over any steps since an HTTP connection was accepted: while it receives, the bytes that came are kept, except last ones for which there was no
-/// memory. Nothing is sent before its answer is finished. From then on the sent bytes, followed by the unsent ones, are the answer to a prefix of the
-/// bytes that came, which is passed to the handler once; the bytes after it are dropped (`IsServedOnce`). `HttpConnection::advance`, `answer`,
-/// `complete` and `record_fault` preserve this, also if no more of the request is received.
+/// While an HTTP connection receives, the bytes that came are kept, except the last if no memory was left for them. Nothing is sent before its answer
+/// is finished. From then on the sent bytes, followed by the unsent ones, are the answer to a prefix of the bytes that came. That prefix is passed to
+/// the handler once; the bytes after it are dropped (`IsServedOnce`). `HttpConnection::advance`, `answer`, `complete` and `record_fault` preserve
+/// this. So it holds after any of these calls since the connection was accepted.
 pub fn each_request_is_answered_at_most_once<S: Link, H: Handler>()
     ensures begins { (client : HttpConnection S H H.Ticket H.ControlTicket) → HasReceived client.stage []
         → IsServedOnce S.Write.contents S.Read.remaining H.Handler client.link client }

@@ -1,4 +1,4 @@
-//! A connection that never blocks.
+//! The trait of a connection whose reads and writes never block.
 
 use mio::event::Source;
 use mio::net::{TcpStream, UnixStream};
@@ -6,7 +6,6 @@ use std::io;
 use std::io::{Read, Write};
 use std::net::Shutdown;
 
-/// A connection whose reads and writes never block.
 pub trait Link: Read + Write + Source {
     /// Shuts down the sending side of the connection. The errors are those of shutdown(2).
     fn finish(&self) -> io::Result<()>;

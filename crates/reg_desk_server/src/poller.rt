@@ -23,8 +23,7 @@ const ENFILE: i32 = 23;
 /// How many signatures for HTTP answers can be awaited at the same time.
 pub(crate) const MOST_SIGNATURES: usize = 32;
 
-/// The tokens of the listeners. After them come those of the control connections, of the signature requests, of the connection to the signer for
-/// a line, and of the HTTP connections.
+/// Tokens: the listeners, the 8 control connections, the signature requests, a line's connection to the signer, and last the HTTP connections.
 pub(crate) const HTTP_LISTENER: usize = 0;
 
 pub(crate) const CONTROL_LISTENER: usize = 1;
@@ -103,6 +102,7 @@ impl Poller {
         ensures ok { OnOk result ((count : ℕ) → H.waited count → H.waited (count + 1)) }
         ensures err { OnErr result H.failed }
     {
+        // The handler waits, so that contracts can count its waits (`Handler::waited`).
         handler.wait(&mut self.poll, &mut self.events, longest)?;
         self.tokens.clear();
         for event in &self.events {
@@ -123,8 +123,7 @@ pub(crate) fn is_out_of_descriptors(error: &io::Error) -> bool
     }
 }
 
-/// The error of a call that opens a descriptor. It is `WouldBlock` if none is left, because the call can succeed once another file is closed.
-/// Every other error stays.
+/// The error of a call that opens a descriptor: `WouldBlock` if none is left, as the call can succeed once a file is closed; else `error` itself.
 pub fn as_would_block(error: io::Error) -> io::Error
     ensures none_left { IsOutOfDescriptors error → error_kind result ≡ ErrorKind.WouldBlock }
     ensures other { (IsOutOfDescriptors error → ⊥) → result ≡ error }

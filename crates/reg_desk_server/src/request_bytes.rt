@@ -1,4 +1,4 @@
-//! Receives the bytes of a request.
+//! Receives the bytes of an HTTP request.
 
 ghost use Rattle.std.specs.Prelude.{◌≡◌, ◌⊎◌};
 ghost use Rattle.reg_http_head.specs.Bytes.{collected_bytes};
@@ -10,8 +10,7 @@ use std::io::{ErrorKind, Read};
 
 const MOST_READS: usize = 32;
 
-/// The result of a read: there is a whole request; nothing more has come yet; more may have come; nothing more will come; the connection failed; or
-/// there was no memory for the last bytes that came.
+/// After a read: the request is whole; nothing more came yet; more may have come; the client will send no more; the connection failed; out of memory.
 #[derive(Clone, Copy)]
 pub(crate) enum Received {
     Whole,
@@ -22,7 +21,7 @@ pub(crate) enum Received {
     OutOfMemory,
 }
 
-/// Receives bytes until they are a whole request or a read adds none, in at most `MOST_READS` reads.
+/// Receives bytes until they are a whole request or no more can be received now, in at most `MOST_READS` reads.
 pub(crate) fn receive<R: Read>(
     reader: &mut R,
     collected: &mut Collected,

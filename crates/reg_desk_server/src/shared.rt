@@ -11,12 +11,12 @@ use std::net::{Net, SocketAddr};
 
 const BUFFER_SIZE: usize = 65_536;
 
-/// The poller, the lost connections, and the buffer for one read.
+/// The poller, the faults to report, and the buffer for one read. Each read overwrites the buffer, so all connections use the same one.
 #[derive(Drop)]
 pub(crate) struct Shared {
     pub(crate) alloc: Global,
     pub(crate) poller: Poller,
-    pub(crate) lost: LostConnections,
+    pub(crate) lost: ConnectionFaultReports,
     pub(crate) read_buffer: Vec<u8>,
 }
 
@@ -24,7 +24,7 @@ impl Shared {
     pub(crate) fn new(rt: &(impl Net + AllocGlobal), connections: usize) -> io::Result<Shared> {
         let alloc = rt.alloc();
         let read_buffer = vec![in alloc; 0u8; BUFFER_SIZE]?;
-        let lost = LostConnections::new(alloc, connections)?;
+        let lost = ConnectionFaultReports::new(alloc, connections)?;
         let poller = Poller::new(rt)?;
         Ok(Shared {
             alloc,
@@ -35,28 +35,28 @@ impl Shared {
     }
 }
 
-/// A fault of a connection: the connection was lost, or what came of its request is answered. A control connection has no address.
+/// A fault of a connection, which is lost or is answered for the part of its request that came. A control connection has no address (`client`).
 #[derive(Clone, Copy)]
-pub(crate) struct LostConnection {
+pub(crate) struct ConnectionFaultReport {
     pub(crate) client: Option<SocketAddr>,
     pub(crate) why: ConnectionFault,
 }
 
 /// The faults of connections that were not reported yet, in their order.
 #[derive(Drop)]
-pub(crate) struct LostConnections {
-    pub(crate) unreported: Vec<LostConnection>,
+pub(crate) struct ConnectionFaultReports {
+    pub(crate) unreported: Vec<ConnectionFaultReport>,
 }
 
-impl LostConnections {
-    fn new(alloc: Global, count: usize) -> Result<LostConnections, AllocError>
+impl ConnectionFaultReports {
+    fn new(alloc: Global, count: usize) -> Result<ConnectionFaultReports, AllocError>
         ensures { IfOk result (λ lost. lost.unreported.items ≡ []) }
     {
         let unreported = Vec::with_capacity(alloc, count)?;
-        Ok(LostConnections { unreported })
+        Ok(ConnectionFaultReports { unreported })
     }
 
-    pub(crate) fn add_lost(&mut self, lost: LostConnection)
+    pub(crate) fn add_fault_report(&mut self, lost: ConnectionFaultReport)
         ensures { AppendsIfMemory lost self.old.unreported.items self.new.unreported.items }
     {
         // Without memory for it, it is not reported.

@@ -1,4 +1,4 @@
-//! The signature requests for HTTP answers.
+//! The signatures of HTTP answers: the requests sent to the signer, and the queue of signatures that are to be requested.
 
 use crate::poller::{FIRST_SIGNATURE, MOST_SIGNATURES, Poller};
 use mio::Interest;
@@ -32,7 +32,7 @@ pub(crate) struct WantedSignature {
     pub(crate) deadline: u64,
 }
 
-/// A place for one signature request at a time. Between two of them it may keep the connection to the signer.
+/// A place for one signature request at a time. Between two of them (`wanted` is `None`), `request` is the last one, if its connection is kept.
 #[derive(Drop)]
 struct Place {
     wanted: Option<WantedSignature>,
@@ -41,12 +41,12 @@ struct Place {
     has_arrived: bool,
 }
 
-/// The signatures that were requested, and the queue of those that are to be requested.
+/// The signatures that were requested, each at a place, and the queue of those that are to be requested. `now`: milliseconds of the handler's clock.
 #[derive(Drop)]
 pub(crate) struct SignatureRequests {
     queue: VecDeque<WantedSignature>,
     places: Vec<Place>,
-    /// Until when no signature is requested, because the last request would have blocked.
+    /// Until when no signature is requested, because the last request would have blocked; in milliseconds, like `deadline`.
     paused: Option<u64>,
     /// How many polls for a signature are left before the loop blocks.
     polls: u32,
@@ -93,7 +93,7 @@ impl SignatureRequests {
         }
     }
 
-    /// The next of the queue, and a free place for it; `None` during a pause, if no place is free, or if the queue is empty.
+    /// Takes the next signature out of the queue. Returns it with a free place; `None` in a pause, if no place is free, or if the queue is empty.
     pub(crate) fn next(&mut self, now: u64) -> Option<(WantedSignature, usize)> {
         if let Some(paused) = self.paused {
             if now < paused {
@@ -105,13 +105,13 @@ impl SignatureRequests {
         Some((self.queue.pop_front()?, index))
     }
 
-    /// Puts a signature back at the head of the queue, because its request would have blocked, and begins a pause. Returns whether there was memory
-    /// for it.
+    /// Puts a signature back at the head of the queue, as its request would have blocked, and begins a pause. Returns whether there was memory.
     pub(crate) fn requeue(&mut self, wanted: WantedSignature, now: u64) -> bool {
         self.paused = Some(now.saturating_add(PAUSE_MILLIS));
         self.queue.push_front(wanted).is_ok()
     }
 
+    /// Takes the first signature out of the queue if its deadline has passed.
     pub(crate) fn take_expired(&mut self, now: u64) -> Option<WantedSignature> {
         match self.queue.front() {
             Some(first) if first.deadline <= now => self.queue.pop_front(),
@@ -128,12 +128,10 @@ impl SignatureRequests {
         None
     }
 
-    /// The signature that was requested at a place.
     pub(crate) fn wanted(&self, index: usize) -> Option<WantedSignature> {
         self.places.get(index)?.wanted
     }
 
-    /// Whether nothing more is awaited from the signer for the signature at a place.
     pub(crate) fn has_arrived(&self, index: usize) -> bool {
         match self.places.get(index) {
             Some(place) => place.has_arrived,
@@ -148,7 +146,7 @@ impl SignatureRequests {
         place.request.take()
     }
 
-    /// Keeps a request for a wanted signature at a free place, and polls it. Returns whether it can be polled.
+    /// Keeps a request for a wanted signature at a free place, and registers it with the poller. Returns whether that succeeded.
     pub(crate) fn put(
         &mut self,
         index: usize,
@@ -169,7 +167,7 @@ impl SignatureRequests {
     ) {
         if let Some(mut request) = answered {
             if request.can_be_kept() {
-                // If it can't be polled, it is closed.
+                // If it can't be registered with the poller, it is closed.
                 self.put_polled(index, None, request, poller);
             }
         }

@@ -1,8 +1,8 @@
-//! The slots of connections.
+//! A fixed number of slots, each for one connection.
 
 use std::alloc::{AllocError, Global};
 
-/// A fixed number of slots. A slot is free, or reserved for a connection. A connection that is being used is taken out of its slot.
+/// A slot is free (its index is in `free`), or reserved for a connection. Its entry is `None` if it is free, and while its connection is taken out.
 #[derive(Drop)]
 pub(crate) struct Slots<T> {
     pub(crate) entries: Vec<Option<T>>,

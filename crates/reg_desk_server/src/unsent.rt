@@ -1,4 +1,4 @@
-//! A text that is being sent on a connection.
+//! A text of which a prefix was sent on a connection.
 
 ghost use Rattle.std.specs.Prelude.{◌≤◌, length};
 
@@ -18,7 +18,6 @@ pub(crate) enum Sent {
     Broken,
 }
 
-/// A text of which a prefix was sent.
 #[derive(Drop)]
 pub(crate) struct Unsent {
     pub(crate) text: Vec<u8>,

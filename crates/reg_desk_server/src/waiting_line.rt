@@ -9,10 +9,10 @@ use mio::net::UnixStream;
 use reg_crl_signer::SignatureRequest;
 use std::io::ErrorKind;
 
-/// How many milliseconds a signature may take, from the iteration in which its message was made.
+/// How many milliseconds a signature may take, from the event loop's iteration in which its message was made.
 const TIMEOUT_MILLIS: u64 = 10_000;
 
-/// The progress of a signature: its message is being sent; the signer's answer is awaited; nothing more is awaited; or the message can't be sent.
+/// The progress of a signature: its message is being sent, or is to be; its answer is awaited; the answer came, or none will; or sending failed.
 #[derive(Clone, Copy)]
 enum Progress {
     Sending,
@@ -21,8 +21,7 @@ enum Progress {
     Failed,
 }
 
-/// A line of a control connection that waits for a signature. The connection is taken out of its slot and kept here, so no other client gets the
-/// reply.
+/// A line that waits. Its client's connection is taken out of its slot and kept here, so no other client gets the reply. The handler made `ticket`.
 #[derive(Drop)]
 pub(crate) struct WaitingLine<H: Handler> {
     slot: usize,
@@ -30,10 +29,11 @@ pub(crate) struct WaitingLine<H: Handler> {
     ticket: H::ControlTicket,
     /// The message to be signed, with how much of it was sent.
     message: Unsent,
-    /// The connection to the signer, if there is one yet.
+    /// The connection to the signer, if there is one yet, and whether it was registered with the poller.
     pub(crate) link: Option<SignatureRequest>,
     is_registered: bool,
     progress: Progress,
+    /// When the line is answered without a signature, in milliseconds of the handler's clock (`now`).
     deadline: u64,
 }
 
@@ -64,7 +64,7 @@ impl<H: Handler> WaitingLine<H> {
         self.has_ended() || self.deadline <= now
     }
 
-    /// The connection to the signer is ready: sends more of the message, or reads what has come of the answer.
+    /// The connection to the signer is ready: sends more of the message (`finish` tells that it is whole), or reads what has come of the answer.
     pub(crate) fn advance(&mut self, poller: &Poller) {
         if !matches!(self.progress, Progress::Waiting) {
             self.send_on(poller);
@@ -117,7 +117,7 @@ impl<H: Handler> WaitingLine<H> {
         };
     }
 
-    /// The slot, its connection, the message with its ticket, and the connection to the signer, if nothing more is awaited on it.
+    /// The slot, the client's connection, the message with its ticket, and the connection to the signer, if its answer came or none will.
     pub(crate) fn into_parts(
         self,
     ) -> (

@@ -1,4 +1,4 @@
-//! The limits of an open desk for requests for revocation over HTTP. Only the refusal because the clock is too far ahead also applies to commands at
+//! The limits of `desk open` for requests for revocation over HTTP. Only the refusal because the clock is too far ahead also applies to commands at
 //! the control socket, so the operator can revoke while clients flood the port.
 
 ghost use Rattle.std.specs.Prelude.{◌≡◌, IfOk, None, replicate};
@@ -76,7 +76,8 @@ impl Admission {
 }
 
 /// Answers a `POST /requests`, or any other request at that route. A request for revocation beyond the limits is refused with 429 (RFC 6585 4) or 503
-/// (RFC 9110 15.6.4); but the register refuses one with an unknown ground. If the store fails during the check, the answer reports that fault.
+/// (RFC 9110 15.6.4). One with an unknown ground (reason for revocation) is not checked here: the register refuses it. If the store fails during the
+/// check, the answer reports that fault.
 pub(crate) fn begin_admitted<M: Machine>(
     alloc: Global,
     office: &mut M::Office,
@@ -104,7 +105,8 @@ pub(crate) fn begin_admitted<M: Machine>(
     }
 }
 
-/// The refusal of a request for the revocation of a serial number; `None` if it is within the limits.
+/// The refusal of a request for the revocation of a serial number, or the answer with the store's fault; `None` if the request is within the limits.
+/// A request within the rate limit is counted, also if it is refused otherwise.
 fn refusal_of<M: Machine>(
     alloc: Global,
     office: &mut M::Office,
@@ -138,8 +140,8 @@ fn refused(alloc: Global, status: u16) -> Result<Option<Answered>, Memory>
     Ok(Some(refuse(alloc, status)?))
 }
 
-/// The status of the refusal: 503 if the clock is too far ahead, or if less than a tenth of `cap`, rounded down, is left for requests, which the
-/// operator may need; else 429 for [`MOST_OPEN`] open requests.
+/// The status of the refusal: 503 if the clock is too far ahead, or if less than a tenth (rounded down) of the requests table's most rows (`cap`) is
+/// free, since the operator may need those rows; else 429 if [`MOST_OPEN`] requests for the serial number are open (`waiting`).
 fn limit_of(request_load: RequestLoad, is_ahead: bool) -> Option<u16>
     ensures { result ≡ limit_by request_load is_ahead }
 {

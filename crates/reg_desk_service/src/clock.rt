@@ -18,6 +18,7 @@ pub(crate) fn moment_at(seconds: u64) -> Moment
     }
 }
 
+/// `LAST_SECOND` is a moment, so `EPOCH` is not returned.
 fn last_moment() -> Moment
     ensures { result ≡ 253402300799 }
 {

@@ -1,4 +1,4 @@
-//! Command lines at the control socket that run together, in one transaction.
+//! Command lines at the control socket that run together, in one transaction. A command line has a command, other than `crl`, that scripts also have.
 
 ghost use Rattle.std.specs.Prelude.{◌≡◌, ◌⊎◌, ◌≤◌, ◌*◌, [], take, length, IfNone, IfSome, IsFalse, IsTrue, vec_capacity};
 ghost use Rattle.reg_desk_metrics.specs.Ahead.{is_ahead as ahead_by};
@@ -32,11 +32,11 @@ struct CommandLines<'a> {
     lines: Vec<&'a [u8]>,
     /// The command of each line, at the moment at which it is to run.
     commands: Vec<(Moment, Command)>,
-    /// How many bytes the lines have.
+    /// How many bytes the lines have, with their LFs.
     length: usize,
 }
 
-/// A line with its length and its command.
+/// A line with its LF, how many bytes it has, and its command.
 #[derive(Clone, Copy)]
 struct CommandLine<'a> {
     line: &'a [u8],
@@ -45,8 +45,8 @@ struct CommandLine<'a> {
 }
 
 /// Runs the command lines at the beginning of these lines in one transaction, and counts and logs each. `None` if no command has run: there are fewer
-/// than two such lines, the clock is too far ahead, the store failed, or there was no memory. `accepted`, `began` and `last_reason` are as for
-/// `answer_counted`; the time since `began` is counted for each line.
+/// than two such lines, the clock is too far ahead, the store failed, or there was no memory. `accepted` is the moment of the last `accept-clock`.
+/// `began` is when the desk began to answer, in microseconds of the monotonic clock; each line's time counts from then. `why` reports `last_reason`.
 pub(crate) fn answer_batch<M: Machine>(
     alloc: Global,
     office: &mut M::Office,
@@ -125,7 +125,6 @@ fn command_lines<'a>(alloc: Global, now: Moment, lines: &'a [u8]) -> CommandLine
     }
 }
 
-/// The first line, if it is a command line.
 fn command_line<'a>(alloc: Global, lines: &'a [u8]) -> Option<CommandLine<'a>>
     ensures ends { IfSome result (λ next. FirstLineEnds lines.now next.length) }
     ensures means { IfSome result (λ next. IsCommandLine (take next.length lines.now) next.command) }
@@ -157,7 +156,7 @@ fn command_of(alloc: Global, line: &[u8]) -> Option<Command>
     }
 }
 
-/// Memory for the replies to this many commands.
+/// Memory for the replies to this many commands, each of at most 84 bytes (`LONGEST_REPLY`).
 fn room_for(alloc: Global, commands: usize) -> Option<Vec<u8>>
     ensures { IfSome result (λ room. (room.items ≡ []) × (84 * commands ≤ vec_capacity room)) }
 {
@@ -165,7 +164,7 @@ fn room_for(alloc: Global, commands: usize) -> Option<Vec<u8>>
     Vec::with_capacity(alloc, size).ok()
 }
 
-/// Whether the clock is not too far ahead. `false` if the last accepted moment can't be read.
+/// Whether the clock is not too far ahead. `false` if the last command's moment can't be read: then each line runs alone and checks the clock.
 fn may_run<M: Machine>(office: &mut M::Office, accepted: Option<Moment>, now: Moment) -> bool
     ensures { LooksIn M.Office.Office
         (λ records. IsTrue result → IsFalse (ahead_by now records.last accepted))
@@ -232,7 +231,7 @@ fn refused_command(command: &Command, outcome: &Outcome) -> Option<RefusedComman
     }
 }
 
-/// Counts and logs a line whose command has run in a batch, and keeps the reason for `why` if it was refused.
+/// Counts and logs a line whose command has run in a batch, and keeps for `why` why it was refused. `named` is the line's request, for the log.
 fn report_line<M: Machine>(
     alloc: Global,
     office: &mut M::Office,
@@ -256,7 +255,7 @@ fn report_line<M: Machine>(
     }
     let named = decided_request::<M>(alloc, office, machine, now, line);
     let micros = machine.micros().saturating_sub(began);
-    // A batch signs nothing, so no signature failed.
+    // A batch signs nothing, so no signature failed (`false`, also for the log).
     tally.count_line(now, line_outcome.effects(false), micros);
     let named = logged_request(&line_outcome, named);
     log_line(

@@ -1,4 +1,4 @@
-//! Lines at the control socket, as an open desk answers them.
+//! Answers lines at the control socket of `desk open`.
 
 ghost use Rattle.std.specs.Prelude.{◌≡◌, ◌⊎◌, ◌↔◌, ◌<◌, ◌≤◌, [], IfSome, IsTrue, OnOk, Some, codes, take, vec_capacity};
 ghost use Rattle.reg_lines.specs.Answer.{reply_of};
@@ -83,7 +83,6 @@ pub(crate) fn answer_first_lines<M: Machine>(
     }
 }
 
-/// Answers the first of these lines alone.
 fn answer_first_line<M: Machine>(
     alloc: Global,
     office: &mut M::Office,
@@ -120,6 +119,7 @@ fn answer_first_line<M: Machine>(
     LineReplies { length, text }
 }
 
+/// The length of the first line with its LF. Whole lines have an LF, so `line_end` gives no `None` here.
 fn first_length(lines: &[u8]) -> usize
     requires { IsWholeLines lines.now }
     ensures { FirstLineEnds lines.now result }
@@ -132,6 +132,7 @@ fn first_length(lines: &[u8]) -> usize
 
 /// Answers a line at a moment, counts it, and logs it if there is a log. `file` is the register's path. `began` is when the desk began to answer, in
 /// microseconds of the monotonic clock. `accepted` is the moment of the last `accept-clock`, which this line may be. `why` reports `last_reason`.
+/// `named` is the request that the line decided or entered, for the log. `keep_due_reason` keeps, after `next-crl`, why a CRL is due at once.
 pub(crate) fn answer_counted<M: Machine>(
     alloc: Global,
     office: &mut M::Office,
@@ -183,6 +184,7 @@ pub(crate) fn answer_counted<M: Machine>(
     reply.text
 }
 
+/// Answers a line of any kind. `Line(None)` is a line with too many bytes. Without memory to read the line, the reply is that fault.
 fn answer_control_line<M: Machine>(
     alloc: Global,
     office: &mut M::Office,
@@ -232,7 +234,7 @@ fn accept_clock(alloc: Global, clock: AcceptedClock, accepted: &mut Option<Momen
     ControlReply::line(alloc, b"clock accepted", LineOutcome::Done)
 }
 
-/// The refusal of a command because the clock is too far ahead, or the fault of reading the last accepted moment; `None` if the command may run.
+/// The refusal of a command because the clock is too far ahead, or the fault of reading the last moment; `None` if it may run. `b""`: no prefix.
 fn refusal_by_clock<M: Machine>(
     alloc: Global,
     office: &mut M::Office,
@@ -263,6 +265,7 @@ fn clock_refused(alloc: Global) -> ControlReply
     ControlReply::line(alloc, b"bad-clock", LineOutcome::Failed(Failure::BadClock))
 }
 
+/// Runs `revoke` or `decline` with a serial number, unless the clock is too far ahead.
 fn decide_by_clock<M: Machine>(
     alloc: Global,
     office: &mut M::Office,
@@ -318,7 +321,7 @@ fn has_command(line: &[u8]) -> bool
     }
 }
 
-/// Runs a line that scripts also have, given without its line end, at a moment. Memory for its reply is reserved before it runs.
+/// Runs a line that scripts also have, given without its line end, at a moment. Memory for its reply (`room`) is reserved before it runs.
 fn answer_command_line<M: Machine>(
     alloc: Global,
     office: &mut M::Office,
@@ -341,7 +344,7 @@ fn answer_command_line<M: Machine>(
     reply
 }
 
-/// Writes the reply to a command, query or OCSP request, which has run, into the empty buffer `room`. If it was refused, keeps the reason for `why`.
+/// The reply to a command, query or OCSP request, which has run ([`ControlReply::of`]). If it was refused, keeps the reason for `why`.
 pub(crate) fn answer_command<M: Machine>(
     alloc: Global,
     office: &mut M::Office,
@@ -363,6 +366,7 @@ pub(crate) fn answer_command<M: Machine>(
     reply
 }
 
+/// Sets the schedule of the longest validities, if its steps (a notBefore, and days from it on) are valid.
 fn answer_schedule<M: Machine>(
     alloc: Global,
     office: &mut M::Office,
@@ -407,6 +411,7 @@ fn set_reply(alloc: Global, set: Result<(), Failure>) -> ControlReply
     }
 }
 
+/// Whether a signature has failed since `failures` were the office's two counts of failed signatures: of CRLs, and of OCSP responses.
 fn has_failed<M: Machine>(office: &M::Office, failures: (u64, u64)) -> bool
     ensures { IsTrue result
         ↔ ((failures.0 < M.Office.failures office.now) ⊎ (failures.1 < M.Office.answer_failures office.now)) }

@@ -24,7 +24,7 @@ pub(crate) enum LineOutcome {
     ScheduleSet,
     /// Any other failure: of a word that only the control socket has, or before a command ran, such as `bad-clock`.
     Failed(Failure),
-    /// No copy was created, because of this fault, which is not counted as a failure of the store.
+    /// No copy was created, because of this fault. It is not counted as a failure of the store: it may come from the path of the copy.
     CopyFault(Fault),
     /// There was no memory for the reply.
     Silent,
@@ -40,7 +40,7 @@ impl LineOutcome {
         }
     }
 
-    /// The effects of the line on the counts. `signature_failed` is whether a signature failed while the desk answered the line.
+    /// What is counted of the line: its reply, signature and effect on the store. `signature_failed`: whether a signature failed during the line.
     pub(crate) fn effects(&self, signature_failed: bool) -> LineEffects
         ensures { result ≡ effects_of signature_failed self.now }
     {
@@ -82,7 +82,7 @@ impl LineOutcome {
         }
     }
 
-    /// A response with only a status needed no signature, or its signature failed.
+    /// An `ocsp` line without a response, and a response with only a status, needed no signature, or their signature failed.
     fn ocsp(&self, signature_failed: bool) -> SignatureOutcome
         ensures { result ≡ ocsp_outcome signature_failed self.now }
     {
@@ -136,7 +136,7 @@ pub(crate) struct ControlReply {
 }
 
 impl ControlReply {
-    /// The reply to a line that scripts also have. It is written into `room`, which is empty, without an allocation.
+    /// The reply to a line that scripts also have. Unless it is an OCSP response, it is written into `room` (empty, 84 bytes) without an allocation.
     pub(crate) fn of(answered: Answered, room: Vec<u8>) -> ControlReply
         requires empty { room.items ≡ [] }
         requires room { 84 ≤ vec_capacity room }
@@ -169,7 +169,6 @@ impl ControlReply {
         )
     }
 
-    /// The reply for a fault because of which no copy was created.
     pub(crate) fn copy_failed(alloc: Global, fault: Fault) -> ControlReply
         ensures { IsLineReply (fault_line fault) (LineOutcome.CopyFault fault) result }
     {

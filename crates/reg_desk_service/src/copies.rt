@@ -26,8 +26,8 @@ pub(crate) fn is_copy_line(line: &[u8]) -> bool
     line.starts_with(b"copy ")
 }
 
-/// Copies the open register, whose file is `file`, to another path, and replies. Other clients wait meanwhile. If no copy is created, keeps the
-/// cause for `why`, or the reply if the cause is not known. No record changes.
+/// Copies the open register, whose file is `file`, to another path, and replies. Other clients wait meanwhile. If no copy is created, as when the
+/// path is not UTF-8 (`None`), keeps the cause for `why`, or the reply if the cause is not known. No record changes.
 pub(crate) fn answer_copy<M: Machine>(
     alloc: Global,
     machine: &M,
@@ -67,7 +67,7 @@ pub(crate) fn path_in(line: &[u8]) -> Option<&str> {
     str::from_utf8(path).ok()
 }
 
-/// The whole milliseconds since a reading of [`Machine::micros`].
+/// The whole milliseconds since a reading of [`Machine::micros`], in microseconds.
 pub fn millis_since<M: Machine>(machine: &M, since: u64) -> u64 {
     machine.micros().saturating_sub(since) / 1_000
 }
@@ -78,7 +78,7 @@ fn copied_reply(alloc: Global, bytes: u64, millis: u64) -> ControlReply
     ControlReply::made(alloc, copied_line(alloc, bytes, millis), LineOutcome::Done)
 }
 
-/// The line that reports a copy: its bytes, and the milliseconds that it took. Fails without memory.
+/// The line that reports a copy: how many bytes it has, and how many milliseconds it took. Fails without memory.
 #[tactic(auto, unfolding(crate::specs::Copies::copied_text))]
 pub fn copied_line(alloc: Global, bytes: u64, millis: u64) -> Result<Vec<u8>, AllocError>
     ensures { IfOk result (λ text. text.items ≡ copied_text bytes millis) }
@@ -99,7 +99,7 @@ fn copy_failed_reply(alloc: Global, why: CopyFault, last_reason: &mut Vec<u8>) -
     reply
 }
 
-/// The cause as `why` reports it: without the two spaces with which its line on standard error begins.
+/// The cause as `why` reports it: its line on standard error, without the two spaces at its beginning (`b""`: no other prefix), and with an LF.
 fn cause_text(alloc: Global, cause: Option<Cause>) -> Option<Vec<u8>> {
     let line = cause?.line();
     prefix_and_end(alloc, b"", line.as_bytes().strip_prefix(b"  ")?).ok()

@@ -23,7 +23,7 @@ use reg_lines::{
 use reg_office_api::Office;
 use std::alloc::Global;
 
-/// Revokes or declines a request. `NoRequest` if the request is for another serial number than the line's; `why` then replies with the request's.
+/// Revokes or declines a request; the office refuses if there is none. `NoRequest` if it is for another serial number: `why` then reports that.
 pub(crate) fn answer_serial_decision<M: Machine>(
     alloc: Global,
     office: &mut M::Office,
@@ -68,7 +68,7 @@ fn answer_run<M: Machine>(
     answer_command::<M>(alloc, office, answered, room, last_reason)
 }
 
-/// Refuses a line whose request is for another serial number, and keeps that serial number for `why`.
+/// Refuses a line whose request is for another serial number, and keeps that serial number for `why`, without a prefix (`b""`).
 fn answer_other(alloc: Global, request: RequestRow, last_reason: &mut Vec<u8>) -> ControlReply
     ensures told { ReportsFault (Fault.Refused Refusal.NoRequest) result.text.items }
     ensures line_outcome { ReportsLineOutcome result.line_outcome result.text.items }
@@ -107,7 +107,7 @@ fn request_of_row(found: Option<Row>) -> Option<RequestRow>
     }
 }
 
-/// The number and the serial number, for the log, of the request that a line decides. `None` if there is no log, or no decision, or no such request.
+/// The number and the serial number, for the log, of the request that a line decides. `None` without a log, decision or such request, or at a fault.
 pub(crate) fn decided_request<M: Machine>(
     alloc: Global,
     office: &mut M::Office,
@@ -133,7 +133,7 @@ pub(crate) fn decided_request<M: Machine>(
     }
 }
 
-/// The number of the request that a line revokes or declines.
+/// The number of the request that a line revokes or declines, with a serial number or without.
 fn decided_by(line: &[u8]) -> Option<u64>
     ensures { IfSome result (Decides line.now) }
 {
@@ -147,7 +147,7 @@ fn decided_by(line: &[u8]) -> Option<u64>
     }
 }
 
-/// The request that a line entered or decided, as the log names it. `looked_up` is what `decided_request` found, before or after the line ran.
+/// The request that a line entered (then with its ground) or decided, for the log. `looked_up`: what `decided_request` found before or after it ran.
 pub(crate) fn logged_request(
     line_outcome: &LineOutcome,
     looked_up: Option<LoggedRequest>,

@@ -42,7 +42,7 @@ pub struct LineTicket {
     pub(crate) is_backed_off: bool,
 }
 
-/// The signature for a line, if there is one, and the moment at which the line is to run.
+/// The moment at which a line is to run, and the signature for it: the message, and the signer's answer, if there is one.
 #[derive(Drop)]
 pub(crate) struct LineSignature {
     pub(crate) moment: Moment,
@@ -60,6 +60,7 @@ fn signature_kind_by(command_line: &ParsedLine<'_>) -> Option<SignatureKind> {
     }
 }
 
+/// The message to sign for a line `ocsp` or `crl`, made at its ticket's moment; `None` if nothing is to be signed, or if it can't be made.
 fn deferred_of<M: Machine>(
     alloc: Global,
     office: &mut M::Office,
@@ -77,7 +78,7 @@ fn deferred_of<M: Machine>(
     }
 }
 
-/// As [`deferred_of`], for an `ocsp` line with these hexadecimal digits. `looked` is its ticket: certificates are looked up at the ticket's moment.
+/// As [`deferred_of`], for an `ocsp` line with these hexadecimal digits. `looked` is its ticket, at whose moment the certificates are looked up.
 fn deferred_ocsp<O: Office>(
     alloc: Global,
     office: &mut O,
@@ -129,9 +130,9 @@ fn crl_signer_socket<'w>(signer: &Option<SignerAddress<'w>>) -> Option<&'w str>
     Some(signer.as_ref()?.socket.as_str())
 }
 
-/// The signature for a line, and the moment at which the line is to run. Without a connection to the signer (`link`) it has none, and the moment is
-/// the clock's: [`EventLoopFault`] if the clock can't be read. With a connection, the moment is that of the message. Then the result is `None` if a
-/// command was accepted at a later moment meanwhile, and if the clock is now behind the moment of the message or can't be read.
+/// The signature for a line, and the moment at which it is to run. Without a connection to the signer (`link`) the signature is empty: signing fails
+/// without asking the signer. The moment is then the clock's; [`EventLoopFault`] if it can't be read. With a connection, the moment is the message's;
+/// but `None` (a new message is needed) if a command was accepted at a later moment, or if the clock is behind the message's moment or can't be read.
 pub(crate) fn line_signature_of<M: Machine>(
     alloc: Global,
     office: &mut M::Office,
@@ -203,7 +204,7 @@ fn signature_if_current<M: Machine>(
     })
 }
 
-/// Whether a command was accepted at a later moment than this; `false` if the register can't be read.
+/// Whether a command was accepted at a later moment than this; `false` if the register can't be read, since the line then meets that fault itself.
 fn is_past<O: Office>(office: &mut O, moment: Moment) -> bool
     ensures { KeepsIn O.Office office.old office.new }
 {
@@ -214,8 +215,8 @@ fn is_past<O: Office>(office: &mut O, moment: Moment) -> bool
 }
 
 impl<'a, 'w, M: Machine> Desk<'a, 'w, M> {
-    /// The message to sign before a line can be answered; empty for an OCSP line in a back-off. `None` if nothing is to be signed for the line, if no
-    /// signer has the key, if the clock can't be read or is too far ahead for `crl`, and if the message can't be made: then it is answered at once.
+    /// The message to sign before a line can be answered; empty for an OCSP line in a back-off. `None` if nothing is to be signed for the line, if it
+    /// has no signer, if the clock can't be read or is too far ahead for `crl`, and if the message can't be made: then it is answered at once.
     pub(crate) fn deferred_line(
         &mut self,
         command_line: &ParsedLine<'_>,
@@ -229,7 +230,7 @@ impl<'a, 'w, M: Machine> Desk<'a, 'w, M> {
         socket_of(self.signer, self.responder, wanted)?;
         let began = self.machine.micros();
         if wanted == SignatureKind::Answer && self.backoff.is_active(Duration::from_micros(began)) {
-            // Without a message, the line is answered without asking its signer, which is backed off.
+            // Without a message, the line is answered without asking its signer. A `crl` line asks even in a back-off, and may so end it.
             let ticket = LineTicket {
                 wanted,
                 moment: Moment::EPOCH,
@@ -255,7 +256,7 @@ impl<'a, 'w, M: Machine> Desk<'a, 'w, M> {
         deferred_of::<M>(self.alloc, &mut self.office, ticket, command_line)
     }
 
-    /// Whether commands are refused at a moment, because the clock is too far ahead.
+    /// Whether commands are refused at a moment, because the clock is too far ahead; `false` if the register can't be read: the line checks it again.
     fn is_ahead(&mut self, moment: Moment) -> bool
         ensures open { self.new.is_open ≡ self.old.is_open }
         ensures admission { self.new.admission ≡ self.old.admission }
@@ -268,7 +269,7 @@ impl<'a, 'w, M: Machine> Desk<'a, 'w, M> {
         }
     }
 
-    /// The back-off after this line: cleared if the OCSP signer answered or failed before the timeout, set if it timed out, kept if it was not asked.
+    /// The back-off after this line: kept if the OCSP signer was not asked, set if it timed out, else cleared. `has_arrived`: it answered or closed.
     pub(crate) fn backoff_after(&self, ticket: LineTicket, has_arrived: bool) -> Backoff {
         let ocsp_socket = socket_of(self.signer, self.responder, SignatureKind::Answer);
         let asked_socket = socket_of(self.signer, self.responder, ticket.wanted);
@@ -285,7 +286,7 @@ impl<'a, 'w, M: Machine> Desk<'a, 'w, M> {
         )
     }
 
-    /// Answers a line with this signature, or without one; the signer is not asked again. The line is counted like any other.
+    /// Answers a line with this signature, which may be empty. It is preset in the office meanwhile, so no signer is asked. The line is counted.
     pub(crate) fn answer_with_signature(
         &mut self,
         line: &[u8],

@@ -32,7 +32,7 @@ use std::time::Duration;
 pub struct Desk<'a, 'w, M: Machine> {
     /// The open register.
     pub office: M::Office,
-    /// Gives the memory for answers.
+    /// The allocator of the memory for answers.
     pub alloc: Global,
     /// Has the clock, the sockets and the log.
     pub machine: &'a M,
@@ -44,13 +44,13 @@ pub struct Desk<'a, 'w, M: Machine> {
     pub signer: &'a Option<SignerAddress<'w>>,
     /// The signer of OCSP responses, as the options name it.
     pub responder: &'a ResponderChoice<'w>,
-    /// The back-off of the OCSP signer, for `ocsp` lines at the control socket.
+    /// The back-off of the OCSP signer, for `ocsp` lines at the control socket: for ten seconds after a timeout they don't ask it.
     pub backoff: Backoff,
     /// The counts since the register was opened. No contract of `Desk` mentions them. A `Cell`, since `finish` takes `&self` and counts a response.
     pub tally: &'a Cell<Tally>,
     /// The counts of connections since then, in a `Cell` because `report_lost` takes `&self`.
     pub connection_totals: &'a Cell<ConnectionTotals>,
-    /// Decides, with the records, which requests for revocation are refused.
+    /// The state by which requests for revocation over HTTP beyond the limits are refused, and the moment of the last `accept-clock`.
     pub admission: Admission,
 }
 
@@ -249,6 +249,7 @@ impl<'a, 'w, M: Machine> Handler for Desk<'a, 'w, M> {
         ensures fails { OnErr result M.failed }
     {
         let Deferred { message, ticket } = deferred;
+        // Copies for the two calls below.
         let signed_ticket = ticket;
         let asked_ticket = ticket;
         // With `link`, the signer's answer has arrived or its connection has ended; without, it timed out, or no connection was made.

@@ -74,7 +74,8 @@ pub(crate) fn log_line<M: Machine>(
     );
 }
 
-/// Logs a fault of a connection; a client whose request it cut off may still get an answer. `client` is `None` for a control connection.
+/// Logs a fault of a connection, if there is memory and the clock can be read. A client whose request the fault cut off may still get an answer.
+/// `client` is `None` for a control connection.
 pub(crate) fn log_lost<M: Machine>(
     alloc: Global,
     machine: &M,

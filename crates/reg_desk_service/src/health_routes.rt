@@ -37,7 +37,8 @@ use std::alloc::Global;
 
 const PROMETHEUS: &str = "text/plain; version=0.0.4; charset=utf-8";
 
-/// Answers `/health` at a moment: 200 if all is well, else 503 (RFC 9110 15.6.4); 405 if not GET. `accepted` is the moment given by `accept-clock`.
+/// Answers `/health` at a moment: 200 if all is well, else 503 (RFC 9110 15.6.4); 405 if not GET. `accepted` is the MOMENT of the last
+/// control line `accept-clock MOMENT`, if any.
 pub(crate) fn answer_health<M: Machine>(
     alloc: Global,
     office: &mut M::Office,
@@ -75,7 +76,8 @@ fn health_at<M: Machine>(
     health_answer(alloc, &Health::of(now, &found, tally, accepted))
 }
 
-/// Answers `/metrics` at a moment with 200; 405 if not GET. Counts open requests anew if the last count is a minute old, or of a later moment.
+/// Answers `/metrics` at a moment with 200; 405 if not GET. Counts the open requests for revocation anew if the
+/// last count is a minute old, or of a later moment.
 pub(crate) fn answer_metrics<M: Machine>(
     alloc: Global,
     office: &mut M::Office,
@@ -113,6 +115,7 @@ fn metrics_at<M: Machine>(
     metrics_answer(alloc, now, &found, tally, connection_totals)
 }
 
+/// The register's numbers at a moment. Keeps in the tally whether the latest CRL is signed.
 fn found_at<M: Machine>(
     alloc: Global,
     office: &mut M::Office,
@@ -202,6 +205,7 @@ fn latest_read<M: Machine>(
     }
 }
 
+/// Reads the latest CRL, which has this number (`None` asks for the latest). It exists, so `NoCrl`, the only refusal, can't come.
 fn read_latest<M: Machine>(
     alloc: Global,
     office: &mut M::Office,
@@ -238,7 +242,8 @@ fn is_digest(algorithm: &[u8]) -> bool
     algorithm == digest.algorithm()
 }
 
-/// After an answered `next-crl`: if a signer has the key and the latest CRL a placeholder digest, keeps for `why` that the next CRL is due at once.
+/// After an answered line `next-crl`, prepares the reply to the line `why` (`last_reason`) if the next CRL is due at once because the latest one has
+/// a placeholder digest and a signer has the key.
 pub(crate) fn keep_due_reason<M: Machine>(
     alloc: Global,
     office: &mut M::Office,
@@ -251,6 +256,7 @@ pub(crate) fn keep_due_reason<M: Machine>(
     match line_outcome {
         LineOutcome::Completed(LineKind::Query(Query::NextCrl), Ok(_)) => {
             let why = why_at_once::<M>(alloc, office, tally);
+            // The line has no prefix. Without a reason, as after a fault, or without memory for it, the earlier one stays.
             if let Some(text) = reason_line(alloc, b"", why.unwrap_or(None)) {
                 *last_reason = text;
             }

@@ -11,9 +11,10 @@ use std::alloc::{AllocError, Global};
 /// The most bytes, before escaping, that the log quotes of a request or an answer. So its line stays below 4,096 bytes, which a pipe takes whole.
 pub const MOST_QUOTED: usize = 256;
 
-/// The line of an exchange, without its LF. `client_text`, an address and port or `control`, is copied as it is. The request and the answer are
-/// escaped: they put no control character and no byte outside ASCII into the log, so no client can forge a line. A request for revocation that was
-/// entered or decided is named by number and serial number; an entered one also by its ground. If a signature failed, the last word is `signer`.
+/// The line of an exchange, without its LF. `client_text`, an address and port or `control`, is copied as it is. The first lines of the request and
+/// of the answer are quoted and escaped: they put no control character and no byte outside ASCII into the log, so no client can forge a line. Then
+/// come the answer's length in bytes, and `micros`. A request for revocation that was entered or decided (`named`) has its number and serial number;
+/// an entered one also its ground. If a signature failed, the last word is `signer`.
 pub(crate) fn exchange_line(
     alloc: Global,
     now: Moment,

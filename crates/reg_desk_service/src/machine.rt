@@ -20,11 +20,12 @@ use std::net::SocketAddr;
 use std::os::unix::net::UnixStream;
 use std::time::Duration;
 
-/// The machine that a job runs on. A job reaches a register's files only by these methods, and by the office that they open. The methods that create,
-/// open for writing or remove such files take `&mut self`, except `copy_open`. So a job's contract, which relates the machine before the job to that
-/// after it, excludes such calls at paths that it does not name. A method's relation, such as `claimed`, states what the method did; no proof covers
-/// what the system does. Most methods are one action of the system. Functions that combine several actions are written over any machine, such as
-/// [`open_signed`](crate::open_signed). Errors that a comment does not name: the system's; in a [`Failure`] or [`CopyFault`], `Memory` and `Store`.
+/// The machine that a job runs on. A job reaches a register's files only by these methods, and by the office that they open. A job's contract
+/// relates the machine before the job to the one after it. The methods that create, open for writing or remove such files take `&mut self`, except
+/// `copy_open`. So, by its contract, a job calls them only at the paths that the contract names. A method's relation, such as `claimed`, states what
+/// the method did; no proof covers what the system does. Most methods are one action of the system. Functions that combine several actions are
+/// written over any machine, such as [`open_signed`](crate::open_signed). Errors that a comment does not name: the system's; in a [`Failure`] or
+/// [`CopyFault`], `Memory` and `Store`. Only the program's `Host` implements it: its relations must be opaque to the proofs.
 pub trait Machine {
     ghost use Rattle.std.specs.Prelude.{◌≡◌, ◌≤◌, ◌+◌, ◌⊎◌, ℕ, List, [], IsTrue, IsFalse, MatchBool, OnOk, OnErr, IfOk, IfErr, IfSome, length};
     ghost use Rattle.reg_office_api.specs.Calls.{KeepsIn};
@@ -110,7 +111,7 @@ pub trait Machine {
     ghost not_waited: { waited 0 };
     /// This port of this address was bound (four bytes, RFC 791 3.1, or sixteen, RFC 4291 2).
     ghost bound: { List ℕ → ℕ → Type 0 };
-    /// A socket was created at this path.
+
     ghost socket_created: { List ℕ → Type 0 };
     /// The file at this path was given this mode.
     ghost has_mode: { List ℕ → ℕ → Type 0 };
@@ -118,7 +119,7 @@ pub trait Machine {
     ghost locked: { OpenFile → List ℕ → Type 0 };
     /// While this file held the lock, the socket at this path was stale: no program listened at it.
     ghost stale: { OpenFile → List ℕ → Type 0 };
-    /// The program connected to the socket at this path.
+
     ghost socket_connected: { List ℕ → Type 0 };
     /// The signer at the socket at this path was asked to sign this message.
     ghost signature_requested: { List ℕ → List ℕ → Type 0 };
@@ -214,13 +215,13 @@ pub trait Machine {
 
     /// Copies the register at a path, which is only read, to a path without a file, and returns how many bytes the copy has. The copy is for
     /// its owner alone, and is synced with its folder. It gets its name once it is whole. `NotARegister` if there is no database yet; `Store` also if
-    /// a program has locked the register for writing, or if there is a file at the second path, or there with `-wal`, `-journal` or `.part`.
+    /// a program has locked the register for writing, or if a file is at the second path, or at it with `-wal`, `-journal` or `.part`.
     fn copy(&mut self, path: &str, to: &str) -> Result<u64, Failure>
         ensures ok { IfOk result (λ bytes. copied self.old path.now to.now bytes self.new) }
         ensures err { IfErr result (λ why. copy_failed self.old path.now to.now why self.new) }
         ensures faults { IfErr result IsReadFailure };
 
-    /// In the same way, copies the register that this program has open, between two transactions. `Store` also if another file is at the path now.
+    /// In the same way, copies the register that this program has open, between two transactions. `Store` also if its path has another file now.
     fn copy_open(&self, path: &str, to: &str) -> Result<u64, CopyFault>
         ensures ok { IfOk result (copied_open path.now) }
         ensures err { IfErr result (λ why. IsOfStore why.fault) };
@@ -301,15 +302,16 @@ pub trait Machine {
         ensures reached { OnOk result (reached path.now) }
         ensures kept { IfOk result (IsSignatureRequest path.now []) };
 
-    /// The signer's answer to a request. `None` if none has arrived, or there is no memory for it.
+    /// The signer's answer to a request, `link`, read from the request's connection: at most 4,096 bytes. `None` if no whole answer has arrived, or
+    /// if out of memory.
     fn receive_answer(alloc: Global, link: &mut SignatureRequest) -> Option<Vec<u8>>
         ensures given { IfSome result (λ answer.
             (path message : List ℕ) → IsSignatureRequest path message link.old
             → signer_answered path message answer.items) }
         ensures short { IfSome result (λ answer. length answer.items ≤ 4096) };
 
-    /// Presets the next signature of an office: a signer's answer to a message, or that there is none. For that signature the office doesn't ask the
-    /// signer, and a signature of another message fails. `None` removes the preset.
+    /// Presets an office's next signature of the kind `wanted`: a message, and the signer's answer to it, if it gave one. For that signature the
+    /// office doesn't ask the signer, and a signature of another message fails. `None` removes the preset.
     fn set_preset(
         office: &mut Self::Office,
         wanted: SignatureKind,

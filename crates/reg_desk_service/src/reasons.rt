@@ -27,7 +27,7 @@ pub enum Reason {
     Latest(Moment),
     /// The request with this number is for this serial number, and not for the one in the line.
     OtherSerial(u64, Serial),
-    /// The clock is more than 30 days past this last accepted moment, and more than 30 days past the moment that the operator accepted, if any.
+    /// The clock is more than 30 days past this moment, the last command's, and more than 30 days past the one given by `accept-clock`, if any.
     ClockAhead(Moment),
     /// The line can't be read, because of this field.
     Wrong(WrongField),
@@ -35,7 +35,7 @@ pub enum Reason {
     Unsigned(u64),
 }
 
-/// The reply to `why`, with the connection's last reason.
+/// The reply to the line `why`, with the last reason that was kept for its connection.
 pub(crate) fn reason_reply(alloc: Global, last_reason: &[u8]) -> ControlReply
     ensures { ReportsLineOutcome result.line_outcome result.text.items }
 {
@@ -102,12 +102,13 @@ fn wrong_field_reason(line: &[u8]) -> Option<Reason> {
     Some(Reason::Wrong(wrong_field(line)?))
 }
 
+/// Keeps the reply as the last reason; without memory for it, no reason is kept.
 pub(crate) fn keep_reply_reason(reply: &[u8], last_reason: &mut Vec<u8>) {
     last_reason.clear();
     let _ = last_reason.extend_from_slice(reply);
 }
 
-/// Why the register refused a registration with E08, E09 or E12; `None` for any other command or refusal. No record changes.
+/// Why the register refused a registration for its order or its validity (E08, E09 or E12); `None` for any other refusal. No record changes.
 fn reason_of<M: Machine>(office: &mut M::Office, refused: &RefusedCommand) -> Option<Reason>
     ensures { KeepsIn M.Office.Office office.old office.new }
 {
@@ -137,7 +138,7 @@ fn latest_of<M: Machine>(office: &mut M::Office, order: u64, not_before: Moment)
     }
 }
 
-/// Keeps why a run ended at a refused registration ([`reason_of`]); `None` after any other run.
+/// Keeps in `reason` why a run of a script or an import ended at a refused registration ([`reason_of`]); `None` after any other run.
 pub fn keep_reason<M: Machine>(
     office: &mut M::Office,
     run_result: &Result<Ended, Fault>,
@@ -151,7 +152,7 @@ pub fn keep_reason<M: Machine>(
     }
 }
 
-/// The last second of that many days from a moment on, with both ends counted (RFC 5280 4.1.2.5).
+/// The last second of a validity of `days` days from `not_before` on. Both ends count (RFC 5280 4.1.2.5), so one second is taken off.
 fn last_moment_of(not_before: Moment, days: u64) -> Option<Moment>
     ensures { IfSome result (λ at. at ≡ last_second not_before days) }
 {
@@ -159,7 +160,7 @@ fn last_moment_of(not_before: Moment, days: u64) -> Option<Moment>
     Moment::of_secs(not_before.secs().checked_add(seconds)?)
 }
 
-/// A prefix, the text of a reason and an LF; `None` if there is no reason or no memory.
+/// A prefix (`b""` for the reply to `why`), the text of a reason and an LF; `None` if there is no reason or no memory.
 pub fn reason_line(alloc: Global, prefix: &[u8], reason: Option<Reason>) -> Option<Vec<u8>>
     ensures { IfSome result (λ text. IsReasonLine prefix.now reason text.items) }
 {

@@ -21,13 +21,14 @@ pub fn open_unsigned<M: Machine>(machine: &mut M, path: &str) -> Result<M::Offic
     ensures err { IfErr result (λ why. Unopened M.Machine machine.old path.now unsigned why machine.new) }
     ensures faults { IfErr result IsOpenFailure }
 {
+    // This choice (the issuer's key signs OCSP responses) needs no certificate file and no signer of its own.
     let issuer_signs = ResponderChoice::Issuer { certificate: None };
     open_by(machine, path, &CrlSigner::NoSigner, &issuer_signs)
 }
 
 /// Opens the register at a path with the given signer of its CRLs, and with its OCSP responder. Without a signer, each new CRL gets a placeholder
-/// digest, or fails with a fault of the signer if the responder has a key of its own. Errors: those of [`Machine::read_responder`], and of a register
-/// that [`open_unsigned`] opens.
+/// digest, or fails with a fault of the signer if the responder has a key of its own. Errors: those of [`Machine::read_responder`] and of
+/// [`open_unsigned`].
 pub fn open_signed<M: Machine>(
     machine: &mut M,
     path: &str,
@@ -85,7 +86,7 @@ pub fn create_register<M: Machine>(
     machine.create_in(database, issuer, policy)
 }
 
-/// Audits the register at a path. It only reads: no file changes, none is created, and a register of an older version is not
+/// Audits the register at a path. It only reads its files (`sources`): none changes, none is created, and a register of an older version is not
 /// migrated. Errors: those of [`Machine::read`] and [`Machine::audit_in`].
 pub fn audit_at<M: Machine>(machine: &M, path: &str) -> Result<AuditResult, Failure>
     ensures ok { IfOk result (Audits M.Machine machine.now path.now) }
@@ -96,7 +97,7 @@ pub fn audit_at<M: Machine>(machine: &M, path: &str) -> Result<AuditResult, Fail
     machine.audit_in(sources)
 }
 
-/// The same result, with its fault as a [`Failure`].
+/// The result of a call (`ran`), with its fault as a [`Failure`].
 pub fn ended(ran: Result<(), Fault>) -> Result<(), Failure>
     ensures { result ≡ exit_of ran }
 {

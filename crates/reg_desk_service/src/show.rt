@@ -17,7 +17,7 @@ use reg_core_lists::{Cursor, Format, Row, put_rows};
 use reg_office_api::Office;
 use std::alloc::{AllocError, Global};
 
-/// How many subscribers one call of [`Office::page`] reads.
+/// How many subscribers one call of [`Office::page`] reads: as many rows as a page over HTTP reads at most.
 const SUBSCRIBERS_READ: u64 = 250;
 
 const SERIAL_BYTES: usize = 20;
@@ -93,7 +93,7 @@ fn row_line(alloc: Global, row: Row) -> Result<Vec<u8>, AllocError>
     Ok(text)
 }
 
-/// The row to be shown, at a moment; `None` if there is none. Errors: those of [`Office::page`].
+/// The row to be shown, at a moment; `None` if there is none. A page of a list begins after its cursor, a key. Errors: those of [`Office::page`].
 pub(crate) fn find<O: Office>(
     alloc: Global,
     office: &mut O,
@@ -117,7 +117,7 @@ pub(crate) fn find<O: Office>(
     }
 }
 
-/// The first row after `from`, the cursor just before the key of `shown`, if it has that key.
+/// The first row after `from`, the cursor just before the key of `shown`, if it has that key: a page of at most one row (`1`).
 fn find_at<O: Office>(
     alloc: Global,
     office: &mut O,
@@ -174,6 +174,7 @@ fn row_among(rows: &[Row], shown: &RowKey) -> Option<Row>
     None
 }
 
+/// Whether this is the row to be shown. `History` is a row of the list of all requests.
 fn has_key(row: &Row, shown: &RowKey) -> bool
     ensures { result ≡ has_key shown.now row.now }
 {
@@ -185,7 +186,7 @@ fn has_key(row: &Row, shown: &RowKey) -> bool
     }
 }
 
-/// The serial number minus 1; `None` for 1.
+/// The serial number minus 1, counted on its 20 bytes, the last of which is the lowest; `None` for 1.
 fn serial_before(serial: Serial) -> Option<Serial>
     ensures before { key_of result ≡ serial - 1 }
     ensures above_0 { 1 ≤ serial }

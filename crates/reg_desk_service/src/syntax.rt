@@ -10,7 +10,7 @@ use reg_core::{Label, Moment, Serial, read_number};
 use reg_lines::Fields;
 use std::alloc::{AllocError, Global};
 
-/// A field of a command or query, by its name in `help`.
+/// A field of a command or query, by its name in the reply to the line `help`.
 #[derive(Clone, Copy, PartialEq, Eq)]
 pub enum Field {
     Name,
@@ -24,16 +24,16 @@ pub enum Field {
     Request,
 }
 
-/// The error in the fields of a command.
+/// The first error in the fields of a command or query.
 #[derive(Clone, Copy, PartialEq, Eq)]
 pub enum WrongField {
-    /// This field is malformed.
     Malformed(Field),
     Missing(Field),
     /// There is a field after the last one.
     TooMany,
 }
 
+/// The fields of the command `subscriber`, in their order. The lists below are those of other commands and queries.
 const SUBSCRIBER: &[Field] = &[Field::Name];
 
 const ORDER: &[Field] = &[Field::Subscriber, Field::Days];
@@ -127,7 +127,6 @@ fn is_moment(text: &[u8]) -> bool
     Moment::read(text).is_some()
 }
 
-/// The text of `why` for a wrong field.
 pub(crate) fn wrong_field_text(alloc: Global, wrong: WrongField) -> Result<Vec<u8>, AllocError>
     ensures { IfOk result (λ text. text.items ≡ wrong_text wrong) }
 {

@@ -20,7 +20,7 @@ use reg_office_api::SignatureOutcome;
 use std::alloc::Global;
 use std::net::SocketAddr;
 
-/// The most bytes of a request that are kept for the log, which quotes at most as many of the first line.
+/// The most bytes of a request that are kept for the log: it quotes at most this many of the first line.
 const MOST_KEPT: usize = 256;
 
 /// An OCSP response that is to be signed, with the data that the tally and the log need.
@@ -74,8 +74,9 @@ fn log_prefix_of<M: Machine>(alloc: Global, machine: &M, request: &[u8]) -> Vec<
     }
 }
 
-/// Finishes an OCSP response with the signer's answer to `request` (the request of its signature, if any), or as internalError without an answer (RFC
-/// 6960 2.3). Returns the text of the HTTP answer. Counts the exchange under the moment and route of `unsigned`, and logs it if there is a log.
+/// Finishes an OCSP response with the signer's answer to `request`, which asks for its signature. If there is no request, or no answer that has the
+/// form of a signature, it becomes internalError (RFC 6960 2.3). Returns the text of the HTTP answer. Counts the exchange under the moment and route
+/// of `unsigned`, and logs it if there is a log. `signer` signs CRLs; `responder` says whether it signs OCSP responses too, or another signer does.
 pub(crate) fn finish_http<M: Machine>(
     alloc: Global,
     machine: &M,
@@ -130,7 +131,8 @@ fn signature_of<M: Machine>(
     }
 }
 
-/// The signer's answer. `None` without a signer, without a request for this signer and message, or if [`Machine::receive_answer`] gives none.
+/// The answer of the signer of CRLs, or of that of OCSP responses (`wanted` is `Answer`). `None` without this signer, without a request to it for
+/// `message`, or if [`Machine::receive_answer`] gives none.
 pub(crate) fn received_answer<M: Machine>(
     alloc: Global,
     signer: &Option<SignerAddress<'_>>,

@@ -1,4 +1,4 @@
-//! The end of a certificate's validity (RFC 5280 4.1.2.5).
+//! Reads the end of a certificate's validity (RFC 5280 4.1.2.5).
 
 ghost use Rattle.std.specs.Prelude.{◌≡◌, ◌≢◌, ℕ, Some, IfNone, IfSome, length};
 ghost use Rattle.reg_core.specs.Calendar.{IsMoment, moment_text};
@@ -10,7 +10,7 @@ use reg_der::tags::{GENERALIZED_TIME, INTEGER, SEQUENCE, TAGGED_0, UTC_TIME};
 use reg_der::take;
 use reg_der::values::{expect, optional, whole};
 
-/// notAfter of a certificate in DER. `None` if the fields up to validity can't be read, and if notAfter is no [`Moment`]. Later fields are not read.
+/// notAfter of a certificate in DER. `None` if the fields up to validity can't be read, or if notAfter is no [`Moment`]. Later fields are not read.
 pub(crate) fn not_after(certificate: &[u8]) -> Option<Moment>
     ensures found { IfSome result (λ at. not_after_at certificate.now ≡ Some (moment_text at)) }
     ensures none { IfNone result
@@ -22,7 +22,7 @@ pub(crate) fn not_after(certificate: &[u8]) -> Option<Moment>
     }
 }
 
-/// notAfter of a certificate, in the form `2026-01-01T00:00:00Z`.
+/// notAfter of a certificate, in the form `2026-01-01T00:00:00Z`. The digits are not checked here: `Moment::read` does that.
 #[tactic(auto, unfolding(crate::specs::Validities::not_after_at))]
 fn not_after_text(certificate: &[u8]) -> Option<[u8; 20]>
     ensures { result ≡ not_after_at certificate.now }
@@ -34,7 +34,7 @@ fn not_after_text(certificate: &[u8]) -> Option<[u8; 20]>
     time_text(time.tag, time.contents)
 }
 
-/// The contents of the field validity in those of a TBSCertificate (RFC 5280 4.1).
+/// The contents of the field validity in those of a TBSCertificate (RFC 5280 4.1): after version, serialNumber, signature and issuer.
 #[tactic(auto, unfolding(crate::specs::Validities::validity_at))]
 fn validity_in(bytes: &[u8]) -> Option<&[u8]>
     ensures { AgreesWith (λ x. x.now) result (validity_at bytes.now) }
@@ -57,7 +57,7 @@ fn time_text(tag: u8, digits: &[u8]) -> Option<[u8; 20]>
     }
 }
 
-/// The text of a UTCTime `YYMMDDHHMMSSZ`, of the years 1950 to 2049.
+/// The text of a UTCTime, whose contents (`digits`) are `YYMMDDHHMMSSZ`. Its year is 1950 to 2049.
 fn utc_text(digits: &[u8]) -> Option<[u8; 20]>
     ensures { result ≡ utc_spec digits.now }
 {
@@ -87,6 +87,7 @@ fn century(decade: u8) -> (u8, u8)
     }
 }
 
+/// The form `2026-01-01T00:00:00Z` of a time; `century` has the first two digits of its year, and `digits` the rest: `YYMMDDHHMMSSZ`.
 fn dated(century: (u8, u8), digits: &[u8]) -> [u8; 20]
     requires { length digits.now ≡ 13 }
     ensures { result ≡ dated_spec century digits.now }

@@ -22,13 +22,13 @@ pub(crate) enum ControlWord<'a> {
     Copy(Option<&'a str>),
     /// `show`: the reply shows a row.
     Show(RowKey),
-    /// `revoke` or `decline` with two fields: the desk decides a request, given by number and serial number.
+    /// `revoke` or `decline` with two fields: the desk decides the request with this number, which must be for this serial number.
     Decide(SerialDecision),
     /// `accept-clock`: the operator accepts the clock.
     AcceptClock(AcceptedClock),
-    /// `schedule`: the desk sets another schedule, with these steps.
+    /// `schedule`: the desk sets another schedule; each of its steps is a notBefore and the longest validity in days from it on.
     Schedule(Steps),
-    /// Any other line, also a word above with wrong fields (it will be refused), without its line end; `None` if the line has too many bytes.
+    /// Any other line without its line end, also a word above with wrong fields, which will be refused. `None` for over 8,171 bytes.
     Line(Option<&'a [u8]>),
 }
 

@@ -25,7 +25,6 @@ pub struct LoggedRequest {
     pub ground: Option<Label>,
 }
 
-/// An answer, with the outcome of its signature and its effect on the store.
 #[derive(Drop)]
 pub struct Answered {
     pub answer: Answer,
@@ -56,7 +55,7 @@ impl Answered {
     }
 }
 
-/// The answer to a refusal or a fault, with its line in the JSON body.
+/// The answer to a refusal or a fault: its line (such as `E22 syntax`) in a JSON body, written into `buffer`.
 pub(crate) fn answer_of_fault(buffer: Vec<u8>, fault: Fault) -> Answered
     requires empty { buffer.items ≡ [] }
     requires buffer { 256 ≤ vec_capacity buffer }
@@ -66,8 +65,8 @@ pub(crate) fn answer_of_fault(buffer: Vec<u8>, fault: Fault) -> Answered
     Answered::unsigned(fault_answer(buffer, fault), store)
 }
 
-/// The answer whose body is the reply to a query for a status or the counts, or to a request for revocation. No office gives these another reply;
-/// it would be answered as a fault of the store.
+/// The answer whose body is the reply to a query for a status or the counts, or to a request for revocation. No office returns
+/// another reply to these; one would be answered as a fault of the store.
 fn reply_answer(mut buffer: Vec<u8>, reply: Reply) -> Answered
     requires empty { buffer.items ≡ [] }
     requires buffer { 256 ≤ vec_capacity buffer }
@@ -101,7 +100,7 @@ pub(crate) fn outcome_answer(buffer: Vec<u8>, outcome: Outcome) -> Answered
     }
 }
 
-/// The answer to a request for revocation, with its [`LoggedRequest`] if it was entered.
+/// The answer to a request for revocation on the ground `word`, with its [`LoggedRequest`] if it was entered.
 pub(crate) fn request_answer(
     buffer: Vec<u8>,
     serial: Serial,
@@ -154,7 +153,7 @@ fn ocsp_answered(response: OcspResponse) -> Answered
     }
 }
 
-/// The answer with an OCSP response, or the draft of one that is to be signed.
+/// The answer with an OCSP response, or the draft of one that is to be signed; if out of memory, the answer with that fault.
 pub(crate) fn begun_answer(
     buffer: Vec<u8>,
     given: Result<ReadyOrUnsigned<OcspResponse, Draft>, Memory>,
@@ -170,6 +169,7 @@ pub(crate) fn begun_answer(
     }
 }
 
+/// The answer with an OCSPResponse in DER, or with the fault that memory ran out.
 pub(crate) fn ocsp_answer(buffer: Vec<u8>, given: Result<Vec<u8>, Memory>) -> Answer
     requires empty { buffer.items ≡ [] }
     requires buffer { 256 ≤ vec_capacity buffer }

@@ -1,5 +1,5 @@
 //! Requests for the changes of the register, which only `desk open` answers: `GET /changes?after=POSITIONS` for those that a client's copy lacks
-//! (POSITIONS says how far it has got), or without a query for all from the first row on.
+//! (POSITIONS: how far the copy has got), or without a query for all from the first row on.
 
 ghost use Rattle.std.specs.Prelude.{◌≡◌, IfOk};
 ghost use Rattle.reg_office_api.specs.Calls.{LooksIn};
@@ -88,7 +88,6 @@ fn changes_wanted(query: &[u8]) -> ChangesRequest
     }
 }
 
-/// The positions in a query `after=POSITIONS`.
 fn positions_after(query: &[u8]) -> Option<Positions>
     ensures { result ≡ positions_after query.now }
 {
@@ -98,7 +97,7 @@ fn positions_after(query: &[u8]) -> Option<Positions>
     Positions::read(&query[b"after=".len()..])
 }
 
-/// The answer with a page, with `diverged`, or with the fault that the office returned.
+/// The answer with a page, with the fault that the office returned, or with `diverged` (the positions are not in the history of this register).
 fn answer_given(alloc: Global, given: Result<Changes, Fault>) -> Result<Answered, Memory>
     ensures { IfOk result (λ answered. answer_effects answered ≡ given_changes given) }
 {

@@ -60,7 +60,8 @@ impl Exchange {
         }
     }
 
-    /// The exchange if there was no memory for the answer: the constant text of status code 500, in `buffer`. The contract allows an empty text too.
+    /// The exchange if there was no memory for the answer: the constant text of status code 500, in `buffer`. `IsMemoryAnswer` allows an empty text
+    /// too, which [`Exchange::finished`] may have.
     pub fn out_of_memory(route: Route, mut buffer: Vec<u8>) -> Exchange
         requires empty { buffer.items ≡ [] }
         requires buffer { 512 ≤ vec_capacity buffer }

@@ -21,7 +21,6 @@ use serde_json::{Category, Error, Value};
 use std::alloc::Global;
 use std::str;
 
-/// The meaning of a request.
 #[derive(Drop)]
 pub(crate) enum Meaning {
     /// An OCSP request in the body.
@@ -39,15 +38,15 @@ pub(crate) enum Call {
     /// The method is not GET, the only one of the route. For `OnlyPost`, the only one is POST.
     OnlyGet,
     OnlyPost,
-    /// A number, a serial number or a body can't be read.
+    /// A number, a serial number or a body can't be read: the answer is 400 with `E22`.
     Unreadable,
-    /// The text of an OCSP request in the path can't be decoded.
+    /// The text of an OCSP request in the path can't be decoded: the answer is an OCSPResponse of status malformedRequest.
     Malformed,
     /// The CRL with this number, or the latest one.
     Crl(Option<u64>),
     Status(Serial),
     Counts,
-    /// A request to revoke this serial number, with the word of its ground.
+    /// A request to revoke this serial number. `word` names its ground (such as `key-compromise`); the office checks whether it is a known one.
     Request { serial: Serial, word: Label },
 }
 
@@ -134,9 +133,9 @@ fn unreadable(error: &Error) -> Result<Meaning, Memory>
     }
 }
 
-/// Reads a request for revocation from its body, such as `{"serial":"05","ground":"key-compromise"}`.
+/// The meaning of a request for revocation with this body, such as `{"serial":"05","ground":"key-compromise"}`.
 #[tactic(auto, unfolding(crate::specs::RoutedRequests::json_of))]
-fn request_part(alloc: Global, body: &[u8]) -> Result<Meaning, Memory>
+fn revocation_meaning(alloc: Global, body: &[u8]) -> Result<Meaning, Memory>
     ensures { IfOk result (λ part.
         (posted : List ℕ) → request_of_meaning posted part ≡ revocation_request (wanted_by body.now)) }
 {
@@ -162,12 +161,12 @@ fn meaning_at(
     let is_get = method.as_str() == "GET";
     let is_post = method.as_str() == "POST";
     match found.route {
-        // `desk open` answers the first four before it calls this; no other desk has them.
+        // `desk open` answers the first four before it calls this; `desk serve` doesn't have them.
         Route::List | Route::Health | Route::Metrics | Route::Changes | Route::Other => {
             Ok(Meaning::Other(Call::Refused(status::NOT_FOUND)))
         }
         Route::Ocsp if is_post => Ok(Meaning::OcspByPost),
-        Route::Requests if is_post => request_part(alloc, body),
+        Route::Requests if is_post => revocation_meaning(alloc, body),
         Route::Ocsp | Route::Requests => Ok(Meaning::Other(Call::OnlyPost)),
         _ if !is_get => Ok(Meaning::Other(Call::OnlyGet)),
         Route::OcspRest => decoded(alloc, found.rest),

@@ -1,4 +1,4 @@
-//! Finds the route of a path with a router.
+//! Finds the route of a path, and its variable part, with a router. [`Route::of`], for dispatch and counts, looks at the start of a path only.
 
 ghost use Rattle.std.specs.Prelude.{◌≡◌, ◌≤◌, ◌<◌, [], All, length, codes, IfOk, IsTrue, OnOk, unwrap_or};
 ghost use Rattle.matchit.specs.Router.{map_key, rename};

@@ -1,4 +1,4 @@
-//! Calls the office, and answers with its result.
+//! Calls the office, which runs commands and queries on the register, and answers with its result.
 
 ghost use Rattle.std.specs.Prelude.{◌≡◌, ◌≤◌, [], codes, vec_capacity};
 ghost use Rattle.reg_http_head.specs.Response.{shown};
@@ -27,7 +27,7 @@ fn malformed(mut buffer: Vec<u8>) -> Answer
     der(OCSP_RESPONSE, buffer)
 }
 
-/// Makes the call of the office, and writes the answer into `buffer`, which was reserved before, so that no memory is needed after the call.
+/// Makes the call (`Crl(None)`: of the latest CRL). A body but a CRL is written into `buffer`, reserved before: no memory is needed after the call.
 pub(crate) fn respond<O: Office>(
     alloc: Global,
     buffer: Vec<u8>,

@@ -1,11 +1,11 @@
-//! The routes of the desk, by which it dispatches and counts requests.
+//! The routes of the desk, by which it dispatches and counts HTTP requests.
 
 ghost use Rattle.std.specs.Prelude.{◌≡◌, ◌<◌, IfSome, length};
 ghost use Rattle.std.specs.List.{position};
 ghost use Rattle.reg_http.specs.RoutedRequests.{path_of as path_in};
 ghost use Rattle.reg_http.specs.RouteNames.{ends_path as ends_a_path, prefix_to, is_space, named_path, named_route, route_at as route_of_path};
 
-/// A route, whatever the variable part of the path is.
+/// A route. The variable part of its path, such as the serial number, is not kept.
 #[derive(Clone, Copy, PartialEq, Eq)]
 pub enum Route {
     Ocsp,
@@ -17,14 +17,12 @@ pub enum Route {
     /// `/status/{serial}`
     Status,
     Counts,
+    /// `/requests`, for requests for revocation.
     Requests,
-    /// `/list/{word}`, only at an open desk.
+    /// `/list/{word}`: only `desk open` has this route and the next three.
     List,
-    /// `/health`, only at an open desk.
     Health,
-    /// `/metrics`, only at an open desk.
     Metrics,
-    /// `/changes`, only at an open desk.
     Changes,
     /// Any other path.
     Other,
@@ -90,7 +88,6 @@ fn path_end(text: &[u8]) -> Option<usize>
     text.iter().position(|byte| ends_path(*byte))
 }
 
-/// Whether a byte ends a path: a space, a `?`, a CR or an LF.
 fn ends_path(byte: u8) -> bool
     ensures { result ≡ ends_a_path byte }
 {

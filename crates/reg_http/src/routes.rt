@@ -58,7 +58,8 @@ pub fn answer<O: Office>(
     }
 }
 
-/// As [`answer`], with the same errors, but returns an OCSP response that still needs its signature as a draft, and other answers with their effects.
+/// As [`answer`], with the same errors, but returns an OCSP response that still needs its signature as a draft, and other answers with the effects
+/// that are logged and counted.
 pub fn begin<O: Office>(
     alloc: Global,
     method: &Method,
@@ -91,8 +92,8 @@ pub fn begin<O: Office>(
     }
 }
 
-/// The serial number of a request for revocation whose ground has a known word, for the limits of `desk open`; `None` for any other request.
-/// [`Memory`] if out of memory.
+/// The serial number of a request for revocation, to which `desk open` applies its limits. `None` for any other request, and if the ground has an
+/// unknown word: the register refuses that without any limit. [`Memory`] if out of memory.
 pub fn serial_of(
     alloc: Global,
     method: &Method,

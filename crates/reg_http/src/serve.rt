@@ -23,6 +23,7 @@ use reg_office_api::Office;
 use std::alloc::Global;
 use std::io::{Read, Write};
 
+/// Writes the answer at a moment; `buffer` is for the head of the response.
 fn send<W: Write>(
     writer: &mut W,
     buffer: Vec<u8>,
@@ -40,7 +41,6 @@ fn send<W: Write>(
     write_answer(writer, buffer, answer, now).map_err(|_| Fault::Write)
 }
 
-/// Writes the constant response of a desk that is out of memory.
 fn send_memory_fault<W: Write>(writer: &mut W) -> Result<(), Fault>
     ensures ok { OnOk result (Appends (W.contents writer.old) (W.contents writer.new) memory_text) }
     ensures err { IfErr result (λ fault. (fault ≡ Fault.Write)

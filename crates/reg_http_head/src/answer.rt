@@ -3,7 +3,7 @@
 ghost use Rattle.std.specs.Prelude.{◌≤◌, length, option_map};
 ghost use Rattle.reg_http_head.specs.Allow.{allowed};
 
-/// The parts of a response (RFC 9110 15, 8.3, 10.2.1).
+/// The parts of a response (RFC 9110 15, 8.3, 10.2.1). The limits of 64 bytes keep its head within [`RESPONSE_HEAD_ROOM`](crate::RESPONSE_HEAD_ROOM).
 #[derive(Drop)]
 pub struct Answer {
     /// The status code, one of [`status`](crate::status).

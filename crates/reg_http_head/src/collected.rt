@@ -24,7 +24,6 @@ impl Collected {
     ghost use Rattle.reg_http_head.specs.Collected.{HoldsRequest, IsWholeRequest};
     ghost use Rattle.reg_http_head.specs.Frame.{IsUnfinished, request_ref_meaning};
 
-    /// No bytes.
     pub fn new(alloc: Global) -> Collected
         ensures { collected_bytes result ≡ [] }
     {

@@ -11,7 +11,7 @@ use reg_core::read_number;
 /// The most bytes of a body.
 const LONGEST_BODY: u64 = 65_536;
 
-/// The values of the fields of one name: none, one, or more.
+/// The values of the fields of one name: none, one (its place in the head), or more.
 #[derive(Clone, Copy)]
 pub(crate) enum Values {
     Absent,
@@ -19,6 +19,7 @@ pub(crate) enum Values {
     Several,
 }
 
+/// The values after this field: `values` (those before it), with its own if it has this name.
 fn with_field(head: &[u8], field: &HeaderSpan, name: &[u8], values: Values) -> Values
     requires { IsHeaderWithin (length head.now) field.now }
     ensures { (before : List (List ℕ)) → HasFieldValues head.now before values
@@ -47,7 +48,7 @@ fn values_of(head: &[u8], fields: &[HeaderSpan], name: &[u8]) -> Values
     values
 }
 
-/// The length in bytes of the body of a POST, by its fields (RFC 9112 6.3), or the status code that refuses the POST: 411, 400 or 413.
+/// The length in bytes of the body of a POST, by its fields (RFC 9112 6.3), or the status code that refuses it. No transfer coding is read (411).
 pub(crate) fn post_size(head: &[u8], fields: &[HeaderSpan]) -> Result<u64, u16>
     requires { All (IsHeaderWithin (length head.now)) fields.now }
     ensures { result ≡ size_by

@@ -20,7 +20,7 @@ const MOST_FIELDS: usize = 64;
 pub(crate) struct HeadSpans {
     pub(crate) method: Span,
     pub(crate) target: Span,
-    /// The length in bytes of the body that follows, at most 65,536. Only a POST has one.
+    /// The length in bytes of the body that follows: at most 65,536, and 0 if the method is not POST.
     pub(crate) size: u64,
 }
 
@@ -33,6 +33,7 @@ impl HeadSpans {
         Method::from_bytes(alloc, self.method.of(head)).map_err(|_| Memory)
     }
 
+    /// The target. httparse accepts only targets in UTF-8.
     pub(crate) fn target_in(self, head: &[u8]) -> &str
         requires { ∥ HoldsHead head.now self ∥₁ }
         ensures { result.now ≡ span_bytes head.now self.target }
@@ -45,7 +46,7 @@ impl HeadSpans {
 }
 
 /// Reads a whole head, with its empty line. The error is the status code that refuses the head: 431 for more than 64 fields; 400 for bytes that are
-/// no head (400 or 431, if these have more than 64 fields); 411, 400 or 413 for a POST whose length [`post_size`] refuses.
+/// no head (if both apply, one of the two); 411, 400 or 413 for a POST whose length [`post_size`] refuses.
 pub(crate) fn read_head(head: &[u8]) -> Result<HeadSpans, u16>
     ensures ok { IfOk result (HoldsHead head.now) }
     ensures small { IfOk result (λ spans. spans.size ≤ longest_body) }
@@ -63,6 +64,7 @@ pub(crate) fn read_head(head: &[u8]) -> Result<HeadSpans, u16>
         }
         // The parser found a head that ends before the CR LF CR LF: at an empty line with LF alone.
         Ok(Status::Complete(_)) => Err(status::BAD_REQUEST),
+        // The parser found no request line, as it skips empty lines.
         Ok(Status::Partial) => Err(status::BAD_REQUEST),
         Err(Error::TooManyHeaders) => Err(status::HEADERS_TOO_LARGE),
         Err(_) => Err(status::BAD_REQUEST),

@@ -2,7 +2,7 @@
 
 ghost use Rattle.reg_http_head.specs.Laws.{ArePhrases, IsOneRequest, IsOneText};
 
-/// The phrases of the desk's status codes, except 429, are those of the crate `http`.
+/// The phrases of the desk's status codes are those of the crate `http`; for 429 this is not stated.
 pub fn phrases()
     ensures { ArePhrases }
 {}

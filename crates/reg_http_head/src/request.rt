@@ -19,10 +19,9 @@ pub(crate) const LONGEST_HEAD: usize = 8_192;
 /// The end of the last line of a head, and the empty line after it.
 pub(crate) const BLANK_LINE: &[u8] = b"\r\n\r\n";
 
-/// A request that was read.
 #[derive(Drop)]
 pub enum Request {
-    /// The head is refused with this status code, before any route is found.
+    /// The head is refused with this status code, whatever its route.
     Refused(u16),
     Valid {
         method: Method,
@@ -76,6 +75,7 @@ fn read_within<R: Read>(alloc: Global, reader: &mut R, room: &mut [u8]) -> Resul
     }
 }
 
+/// Reads the rest of a request. `buffered` has the bytes that were read, of which the head ends at the index `end`.
 fn read_rest<R: Read>(
     alloc: Global,
     reader: &mut R,
@@ -98,6 +98,7 @@ fn read_rest<R: Read>(
     }
 }
 
+/// A body of `size` bytes: first those that were read after the head (`buffered`), then those of the reader.
 fn read_body<R: Read>(
     alloc: Global,
     reader: &mut R,

@@ -117,7 +117,7 @@ fn put_head(out: &mut Vec<u8>, answer: &Answer, date: &[u8])
     put_line(out, b"", b"");
 }
 
-/// The date of a moment as IMF-fixdate (RFC 9110 5.6.7).
+/// The date of a moment as IMF-fixdate (RFC 9110 5.6.7). Each moment has one, because it is before the year 10000.
 fn date_of(now: Moment) -> [u8; 29]
     ensures { IsDateOf now result }
 {
@@ -138,7 +138,7 @@ pub fn put_answer(text: &mut Vec<u8>, answer: &Answer, now: Moment) -> Result<()
     }
 }
 
-/// The constant response of a desk that is out of memory: status code 500, without a Date and a body.
+/// The constant response of a desk that is out of memory: status code 500, without a Date or a body.
 #[tactic(auto, unfolding(crate::specs::Response::memory_text, crate::specs::Response::field_line))]
 pub fn memory_fault() -> &'static [u8]
     ensures text { result.now ≡ memory_text }

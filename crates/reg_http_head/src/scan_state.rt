@@ -1,4 +1,4 @@
-//! The facts known about the bytes of a connection, so that no byte is tested twice as the end of the head.
+//! What is known about the bytes of a connection. It is kept, so that no byte is tested twice as the end of the head.
 
 ghost use Rattle.reg_http_head.specs.Frame.{HasHead};
 ghost use Rattle.reg_http_head.specs.Collected.{HasNoHeadEnd, Knows, IsAllKnown};
@@ -25,7 +25,7 @@ pub(crate) struct HeadIn {
     pub(crate) needed: usize,
 }
 
-/// The facts known after all bytes were searched for the end of the head.
+/// What is known after all bytes were searched for the end of the head; `known` is what was known before.
 pub(crate) fn scan_all(bytes: &[u8], known: ScanState) -> ScanState
     requires { ∥ Knows bytes.now known ∥₁ }
     ensures { ∥ IsAllKnown bytes.now result ∥₁ }
@@ -37,7 +37,7 @@ pub(crate) fn scan_all(bytes: &[u8], known: ScanState) -> ScanState
     }
 }
 
-/// The facts known after the bytes were searched for the end of the head. The caller knows that no head ends in the first `searched` bytes.
+/// As [`scan_all`], if no head ends in the first `searched` bytes. A head that does not end within 8,192 bytes is refused.
 fn search_rest(bytes: &[u8], searched: usize) -> ScanState
     requires { HasNoHeadEnd bytes.now searched }
     ensures { IsAllKnown bytes.now result }
@@ -53,6 +53,7 @@ fn search_rest(bytes: &[u8], searched: usize) -> ScanState
     }
 }
 
+/// As [`scan_all`], for a head that ends at the index `end`.
 fn read_to(bytes: &[u8], end: usize) -> ScanState
     requires { HasHead bytes.now end }
     ensures { IsAllKnown bytes.now result }

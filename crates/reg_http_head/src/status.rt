@@ -9,7 +9,7 @@ pub const NOT_FOUND: u16 = 404;
 
 /// 405: the route has another method, which Allow names.
 pub const METHOD_NOT_ALLOWED: u16 = 405;
-/// 409: the register refuses the request.
+/// 409: the register refuses the request, or its history lacks the positions after which a client requests the changes (`diverged`).
 pub const CONFLICT: u16 = 409;
 /// 411: a POST has no Content-Length, or has a Transfer-Encoding.
 pub const LENGTH_REQUIRED: u16 = 411;
@@ -22,5 +22,5 @@ pub const HEADERS_TOO_LARGE: u16 = 431;
 
 /// 500: out of memory, or the store failed.
 pub const INTERNAL_SERVER_ERROR: u16 = 500;
-/// 503: the open desk is not healthy, its clock is too far ahead, or it keeps the last tenth of the requests table for the control socket.
+/// 503: the open desk is not healthy, its clock is too far ahead, or only the last tenth of the requests table, kept for the control socket, is left.
 pub const SERVICE_UNAVAILABLE: u16 = 503;

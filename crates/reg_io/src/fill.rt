@@ -12,8 +12,8 @@ use std::io::Read;
 #[derive(Clone, Copy, PartialEq, Eq)]
 pub struct ReadFault;
 
-/// Why a read up to a delimiter stopped: the buffer has a delimiter, and the first one is the last bytes of `buf[..end]`; the buffer is full and has
-/// no delimiter; or the reader is at its end before that. The buffer has `buffered` bytes.
+/// Why a read up to a delimiter stopped: the buffer has a delimiter, and `end` is the index after the first one; the buffer is full and has none; or
+/// the reader ended before either. `buffered` is how many bytes the buffer has then.
 #[derive(Clone, Copy, PartialEq, Eq)]
 pub enum Reached {
     Delimiter { end: usize, buffered: usize },
@@ -44,6 +44,7 @@ pub fn fill_to_delimiter<R: Source>(
 {
     let mut filled = buffered;
     let mut searched: usize = 0;
+    // The proof finds the loop by this label.
     'reading: loop {
         if let Some(end) = first_delimiter(buf, filled, delimiter, searched) {
             return Ok(Reached::Delimiter {
@@ -86,7 +87,7 @@ pub fn first_delimiter(
 }
 
 /// Reads into `buf` after its first `buffered` bytes, until the buffer is full. [`ReadFault`] at the first read that fails, even with
-/// `Interrupted`, and if the reader ends before.
+/// `Interrupted`, and if the reader ends before that.
 pub fn fill_exact<R: Read>(reader: &mut R, buf: &mut [u8], buffered: usize) -> Result<(), ReadFault>
     requires { buffered ≤ length buf.old }
     ensures ok { OnOk result ((took : List ℕ)
@@ -108,7 +109,7 @@ pub fn fill_exact<R: Read>(reader: &mut R, buf: &mut [u8], buffered: usize) -> R
 }
 
 /// Reads into `buf` from its beginning until the reader is at its end, and returns how many bytes came. [`ReadFault`] at the first read that
-/// fails, even with `Interrupted`, and if the bytes fill the buffer, even exactly.
+/// fails, even with `Interrupted`, and if the bytes fill the buffer, even exactly: then the reader's end was not seen.
 pub fn fill_to_end<R: Read>(reader: &mut R, buf: &mut [u8]) -> Result<usize, ReadFault>
     ensures came { IfOk result (λ count.
         Consumes (R.remaining reader.old) (R.remaining reader.new) (take count buf.new)) }

@@ -5,7 +5,8 @@ ghost use Rattle.reg_io.specs.Delimiter.{OneFirstDelimiter, FirstDelimiterOfAppe
 ghost use Rattle.reg_io.specs.Put.{PrefixOfFirst, PrefixOfSecond};
 ghost use Rattle.reg_io.specs.RunsOfAnswers.{RunsGoOn, RunsStepOn};
 
-/// Bytes have at most one first delimiter. It is also the first in longer bytes that begin with these, and in each prefix that contains it.
+/// Bytes have at most one first delimiter. It is also the first in longer bytes that begin with these, and in each prefix that contains it. If no
+/// prefix of some bytes ends with the delimiter, they don't contain it.
 pub fn one_first_delimiter()
     ensures one { OneFirstDelimiter }
     ensures longer { FirstDelimiterOfAppend }
@@ -25,7 +26,7 @@ pub fn kept_is_what_was_taken()
     ensures parts { SplitsAtDelimiter }
 {}
 
-/// A write of two parts that failed wrote a proper prefix of the first part, or that part and a proper prefix of the second.
+/// Appending a proper prefix of the first of two parts, or that part and a proper prefix of the second, appends a proper prefix of both together.
 pub fn prefixes_of_two_parts()
     ensures first { PrefixOfFirst }
     ensures second { PrefixOfSecond }

@@ -4,14 +4,12 @@ use crate::fill::ReadFault;
 use crate::put::WriteFault;
 use std::io::{Read, Write};
 
-/// A reader whose failed reads a contract can name. A clause `failed` of a function that is generic in its `Source` means that a read failed:
-/// nothing else gives `failed`. No clause of [`Read`] says so.
+/// A reader. In a contract over any `R: Source`, `R.failed` means that a read failed: only `read_once` gives it. [`Read`] can't say so.
 pub trait Source: Read {
     ghost use Rattle.std.specs.Prelude.{OnErr};
     ghost use Rattle.std.specs.Io.{ReadsAtMost};
     ghost use Rattle.std.specs.Io.KnownBytes.{ReadConsumes};
 
-    /// A read failed.
     ghost failed: { Type 0 };
 
     /// Reads once, as [`Read::read`], and returns how many bytes came. [`ReadFault`] if the read fails, even with `Interrupted`.
@@ -22,7 +20,7 @@ pub trait Source: Read {
 }
 
 impl<R: Read> Source for R {
-    // `failed` is true of any reader, since no clause can state what a call did outside the program.
+    // Here `failed` is always true, since no clause can state what a call did outside the program.
     ghost failed = { Unit {0} };
 
     fn read_once(&mut self, buf: &mut [u8]) -> Result<usize, ReadFault> {
@@ -33,8 +31,7 @@ impl<R: Read> Source for R {
     }
 }
 
-/// A writer whose failed writes a contract can name. A clause `failed` of a function that is generic in its `Sink` means that a write failed, or
-/// took 0 bytes: nothing else gives `failed`.
+/// A writer. In a contract over any `W: Sink`, `W.failed` means that a write failed, or took 0 bytes: only `write_once` gives it.
 pub trait Sink: Write {
     ghost use Rattle.std.specs.Prelude.{◌≡◌, ◌<◌, length, IfOk, OnErr};
     ghost use Rattle.std.specs.Io.{WritesAtMost};
@@ -52,6 +49,7 @@ pub trait Sink: Write {
 }
 
 impl<W: Write> Sink for W {
+    // As for `Source`.
     ghost failed = { Unit {0} };
 
     fn write_once(&mut self, bytes: &[u8]) -> Result<usize, WriteFault> {

@@ -45,7 +45,7 @@ pub struct RefusedCommand {
 }
 
 /// How a run of lines or rows ended, if no fault of input, clock, output or memory cut it short. A strict run (`--strict`) ends at the first refusal
-/// or fault, and does not run a last line or row without its line end, which may be cut off.
+/// or fault, and does not run a last line or row without its line end, as it may be cut off.
 #[derive(Clone, Copy)]
 pub enum Ended {
     /// Each line or row ran. In a strict run, each was accepted.
@@ -56,7 +56,7 @@ pub enum Ended {
     NoLineEnd,
 }
 
-/// Whether a run goes on after a reply.
+/// Whether a run goes on after a reply, or ends as in [`Ended::Refused`].
 #[derive(Clone, Copy)]
 pub(crate) enum Continuation {
     On,
@@ -89,7 +89,7 @@ impl Answered {
         }
     }
 
-    /// The reply, with its LF. The reply of an outcome is written into `room`, which has the capacity for it, so nothing is allocated.
+    /// The reply, with its LF. The reply of an outcome is written into `room`, which has the capacity of the longest, so nothing is allocated.
     pub fn into_reply(self, mut room: Vec<u8>) -> Vec<u8>
         requires empty { room.items ≡ [] }
         requires room { 84 ≤ vec_capacity room }
@@ -138,7 +138,7 @@ impl Answered {
     }
 }
 
-/// Drops how a run ended, and keeps only its fault, if any.
+/// The fault of a run, if any, without how it ended.
 pub(crate) fn done<T: Copy>(ran: Result<T, Fault>) -> Result<(), Fault>
     ensures { result ≡ done_of ran }
 {

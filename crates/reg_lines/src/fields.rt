@@ -30,7 +30,6 @@ impl<'a> Fields<'a> {
         Fields { rest: Some(line) }
     }
 
-    /// Whether no field is left.
     pub fn is_empty(&self) -> bool
         ensures { IsTrue result ↔ (self.now ≡ []) }
     {

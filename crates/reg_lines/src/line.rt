@@ -30,7 +30,7 @@ pub fn read_line(line: &[u8]) -> Option<ParsedLine<'_>>
     read_fields(Fields::of(line))
 }
 
-/// Reads the fields of a line: `subscriber`, `order`, `register`, or else what `read_revoking` reads.
+/// Reads `subscriber NAME`, `order SUBSCRIBER DAYS` (the longest validity), `register ORDER SERIAL NOTBEFORE NOTAFTER`, or as `read_revoking`.
 #[tactic(auto, unfolding(crate::specs::LineReading::meaning_in_fields, crate::specs::LineReading::meaning_by))]
 fn read_fields(mut fields: Fields<'_>) -> Option<ParsedLine<'_>>
     ensures { option_map meaning_of result ≡ meaning_in_fields fields.entry }
@@ -47,7 +47,7 @@ fn read_fields(mut fields: Fields<'_>) -> Option<ParsedLine<'_>>
     }
 }
 
-/// Reads `request`, `decline`, `revoke`, `crl`, or else what `read_query` reads.
+/// Reads `request SERIAL GROUND`, `decline REQUEST`, `revoke REQUEST`, `crl` (issue the next CRL), or as `read_query`.
 #[tactic(auto, unfolding(crate::specs::LineReading::revoking_by))]
 fn read_revoking<'a>(word: &[u8], fields: Fields<'a>) -> Option<ParsedLine<'a>>
     ensures { option_map meaning_of result ≡ revoking_by word.now fields.entry }
@@ -67,7 +67,7 @@ fn read_revoking<'a>(word: &[u8], fields: Fields<'a>) -> Option<ParsedLine<'a>>
     }
 }
 
-/// Reads a query or `ocsp`; `None` for any other word.
+/// Reads a query (such as `listing SERIAL`: which CRLs list it) or `ocsp HEX`; `None` for any other word.
 #[tactic(auto, unfolding(crate::specs::LineReading::query_by))]
 fn read_query<'a>(word: &[u8], fields: Fields<'a>) -> Option<ParsedLine<'a>>
     ensures { option_map meaning_of result ≡ query_by word.now fields.entry }
@@ -183,7 +183,6 @@ fn number_alone(fields: Fields<'_>) -> Option<u64>
     read_number(one(fields)?)
 }
 
-/// The serial number in the only field.
 #[tactic(auto, unfolding(crate::specs::LineReading::serial_alone))]
 fn serial_alone(fields: Fields<'_>) -> Option<Serial>
     ensures { result ≡ serial_alone fields.entry }

@@ -75,7 +75,7 @@ fn buffer_size(is_clocked: bool) -> usize
     }
 }
 
-/// Runs each line of an input. `buffer` has room for the longest line and one byte more.
+/// Runs each line of an input. `buffer` has room for the longest line and its LF.
 fn run_all<R: Source, W: Sink, O: Office, H: Host>(
     alloc: Global,
     reader: &mut R,

@@ -25,7 +25,7 @@ pub fn take_moment(line: &[u8]) -> Option<(Moment, &[u8])>
     Some((now, &line[MOMENT + 1..]))
 }
 
-/// An untimed line without its line end; `None` if it has more than [`LONGEST_UNTIMED_LINE`] bytes before its LF.
+/// `line`, an untimed line, without its line end; `None` if it has more than [`LONGEST_UNTIMED_LINE`] (8,171) bytes before its LF.
 pub fn untimed_line(line: &[u8]) -> Option<&[u8]>
     ensures { MatchOption result (¬ IsShortUntimedLine line.now)
         (λ command. (command.now ≡ line_of line.now) × IsShortUntimedLine line.now) }

@@ -60,6 +60,7 @@ pub(crate) fn read_text<R: Source>(alloc: Global, reader: &mut R) -> Result<Vec<
     let mut text = Vec::new(alloc);
     let mut piece = [0; PIECE];
     while text.len() <= MOST_BYTES {
+        // One byte more than `MOST_BYTES` shows that the text is too long.
         let room = (MOST_BYTES + 1 - text.len()).min(PIECE);
         match reader.read_once(&mut piece[..room]) {
             Ok(0) => return Ok(text),

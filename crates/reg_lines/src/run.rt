@@ -1,4 +1,4 @@
-//! Runs one untimed line (a line without its moment) in an office.
+//! Runs one untimed line (a line without its moment) in an office, which runs commands and queries on a register.
 
 ghost use Rattle.std.specs.Prelude.{◌≡◌, ◌++◌, Err, IfOk, Ok, codes};
 ghost use Rattle.hex.specs.Hex.{encode_lower};
@@ -48,6 +48,7 @@ fn run_ocsp<O: Office>(alloc: Global, office: &mut O, now: Moment, digits: &[u8]
     ensures { OfficeAnswers (LineCalls O.Office) now office.old (is_ocsp_line (decoded_bytes digits.now))
         result office.new }
 {
+    // `read_line` found the digits valid, so decoding fails only if out of memory.
     let Ok(request) = hex::decode(alloc, digits) else {
         return no_memory();
     };

@@ -39,7 +39,7 @@ impl Host for NoHost {
 /// Runs each line of a script, in order, and writes each reply before it runs the next line. The input may come in pieces
 /// of any size. Memory is allocated once, before the first line, and later only by the calls of the office and for `ocsp`
 /// lines. If a later allocation fails, the reply is `F1 memory`. `F3 signer` is the reply only if the office's count of
-/// signer failures rose at that line.
+/// failures of the signer of CRLs rose at that line.
 ///
 /// # Errors
 ///
@@ -63,7 +63,7 @@ pub fn run_script<R: Source, W: Sink, O: Office>(
     run_script_for(alloc, reader, writer, office, &NoHost)
 }
 
-/// As [`run_script`], with the same errors, for a host without a clock, which observes the result of each line.
+/// As [`run_script`], with the same errors, for a host without a clock, which observes the result of each line. The run is not strict.
 pub fn run_script_for<R: Source, W: Sink, O: Office, H: Host>(
     alloc: Global,
     reader: &mut R,

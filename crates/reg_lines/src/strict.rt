@@ -1,4 +1,4 @@
-//! The strict import (`--strict`).
+//! The strict import (`import --strict`), which ends at the first refusal or fault.
 
 ghost use Rattle.std.specs.Prelude.{◌≡◌};
 ghost use Rattle.reg_office_api.specs.Calls.{LeadsIn};
@@ -12,8 +12,8 @@ use reg_io::{Sink, Source};
 use reg_office_api::Office;
 use std::alloc::Global;
 
-/// Registers each row of a text as [`crate::import`] does, up to the first reply that is a refusal or a fault. Bytes after the last line end (CR or
-/// LF) of the text do not run ([`Ended::NoLineEnd`]), because they may be a part of a row. The errors are those of [`crate::import`].
+/// Registers each row (CSV) of a text as [`crate::import`] does, up to the first reply that is a refusal or a fault. Bytes after the last line end
+/// (CR or LF) of the text do not run ([`Ended::NoLineEnd`]), because they may be a part of a row. The errors are those of [`crate::import`].
 pub fn import_strictly<R: Source, W: Sink, O: Office>(
     alloc: Global,
     reader: &mut R,
@@ -35,7 +35,7 @@ pub fn import_strictly<R: Source, W: Sink, O: Office>(
     }
 }
 
-/// Runs each row of a text up to its last line end.
+/// Runs each row of a text up to its last line end. The run is strict (`true`).
 fn run_ended<W: Sink, O: Office>(
     alloc: Global,
     writer: &mut W,

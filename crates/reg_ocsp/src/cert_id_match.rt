@@ -1,4 +1,4 @@
-//! Compares a CertID with an issuer, and reads its serial number (RFC 6960 4.1.1).
+//! Compares the hashes of a CertID with an issuer, and reads the CertID's serial number (RFC 6960 4.1.1).
 
 ghost use Rattle.std.specs.Prelude.{◌≡◌, ℕ, ◌↔◌, IsTrue, IfSome, IfNone};
 ghost use Rattle.sha1.specs.Sha1.{sha1};

@@ -1,4 +1,4 @@
-//! Reads the public key of a certificate (RFC 5280 4.1.2.7).
+//! A certificate for OCSP responses, and its public key (RFC 5280 4.1.2.7).
 
 ghost use Rattle.std.specs.Prelude.{◌≡◌, ◌≤◌, ℕ, List, Some, IfOk, IfSome, IsErrOf, length, option_map};
 ghost use Rattle.reg_der.specs.ValueReading.{AgreesWith};
@@ -13,6 +13,7 @@ use std::marker::Model;
 
 const LONGEST_CERTIFICATE: usize = 65_536;
 
+/// The most bytes (not bits) of a subjectPublicKey.
 const LONGEST_KEY: usize = 2_048;
 
 /// Why there is no [`Certificate`].
@@ -31,8 +32,7 @@ impl From<AllocError> for CertificateFault {
     }
 }
 
-/// A certificate for the field `certs` of responses (RFC 6960 4.2.1): the responder's, or the issuer's. Contracts see its DER, its public key and
-/// the AlgorithmIdentifier of that key.
+/// A certificate for the field `certs` of responses (RFC 6960 4.2.1): the responder's, or the issuer's. Contracts see the bytes of its fields.
 #[derive(Drop)]
 pub struct Certificate {
     der: Vec<u8>,
@@ -104,9 +104,8 @@ pub struct SubjectPublicKey<'a> {
     pub key: &'a [u8],
 }
 
-/// The public key of a certificate in DER, of at most 65,536 bytes. Only the tags and lengths of the other fields are checked, and nothing after
-/// subjectPublicKeyInfo in the TBSCertificate, such as the extensions. `None` exactly for other bytes, and for a key that has unused bits, is
-/// empty, or is longer than 2,048 bytes.
+/// The public key of a certificate of at most 65,536 bytes in DER; `None` for other bytes, a key with unused bits, or one not of 1 to 2,048 bytes.
+/// Of the other fields only tags and lengths are checked, and of the TBSCertificate nothing after subjectPublicKeyInfo, such as the extensions.
 pub fn subject_public_key(certificate: &[u8]) -> Option<SubjectPublicKey<'_>>
     ensures found { IfSome result (λ it. IsCertificateOf certificate.now it.algorithm.now it.key.now) }
     ensures only { (algorithm key : List ℕ) → IsCertificateOf certificate.now algorithm key
@@ -138,7 +137,7 @@ fn tbs_contents(bytes: &[u8]) -> Option<&[u8]>
     Some(part.contents)
 }
 
-/// The fields after the subject, in the contents of a TBSCertificate.
+/// The fields after version, serialNumber, signature, issuer, validity and subject, in the contents of a TBSCertificate (`part`).
 #[tactic(auto, unfolding(crate::specs::Certificate::after_subject_at))]
 fn after_subject(part: &[u8]) -> Option<&[u8]>
     ensures { AgreesWith (λ x. x.now) result (after_subject_at part.now) }
@@ -176,7 +175,6 @@ fn without_unused_bits(contents: &[u8]) -> Option<&[u8]>
     }
 }
 
-/// The bits, if they can be a key: 1 to 2,048 bytes.
 fn checked_key(bits: &[u8]) -> Option<&[u8]>
     ensures { AgreesWith (λ x. x.now) result (as_key bits.now) }
 {

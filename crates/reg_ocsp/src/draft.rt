@@ -8,8 +8,8 @@ use reg_der::copy_of;
 use std::alloc::Global;
 use std::marker::Model;
 
-/// The fields of a BasicOCSPResponse except the signature (RFC 6960 4.2.1), and the public key of its signer. To complete the response, nothing
-/// more is read from the register, so the register may change before the signature comes.
+/// The fields of a BasicOCSPResponse except the signature (RFC 6960 4.2.1; `message` is the ResponseData), and the public key of its signer, to
+/// check the signature's form. Nothing more is read from the register to complete the response, so it may change before the signature comes.
 #[derive(Drop)]
 pub struct Draft {
     message: Vec<u8>,
@@ -75,14 +75,13 @@ impl Draft {
         &self.message
     }
 
-    /// The AlgorithmIdentifier of the signature.
     pub fn algorithm(&self) -> &[u8]
         ensures { result.now ≡ self.now.algorithm }
     {
         &self.algorithm
     }
 
-    /// The public key of the signer.
+    /// The public key of the signer: the bits of its subjectPublicKey.
     pub fn key(&self) -> &[u8]
         ensures { result.now ≡ self.now.key }
     {

@@ -14,17 +14,19 @@ pub(crate) const NONCE: [u8; 9] = [0x2B, 0x06, 0x01, 0x05, 0x05, 0x07, 0x30, 0x0
 #[derive(Clone, Copy)]
 pub(crate) struct Extension<'a> {
     identifier: &'a [u8],
+    /// As it is written; `None` if it is left out, which means `false`.
     critical: Option<bool>,
     /// The contents of the OCTET STRING.
     value: &'a [u8],
 }
 
-/// The value of the first nonce in bytes that are one Extensions value under this explicit tag, or empty. `Some(None)` if there is no
-/// nonce; `None` for any other bytes.
+/// The value of the first nonce in `bytes`, which are empty or one Extensions value under this explicit tag. `Some(None)` if there is no nonce;
+/// `None` if `bytes` are anything else, or an Extension is refused ([`is_refused`]).
 #[tactic(auto, unfolding(crate::specs::RequestReading::last_nonce_at))]
 pub(crate) fn nonce_under(tag: u8, bytes: &[u8]) -> Option<Option<&[u8]>>
     ensures { AgreesWith (λ x. option_copied x) result (last_nonce_at tag bytes.now) }
 {
+    // `last` reads the one value that is left, if any.
     written_nonce(last(tag, bytes)?)
 }
 

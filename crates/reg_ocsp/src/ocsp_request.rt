@@ -18,6 +18,7 @@ use reg_der::take;
 use reg_der::values::{expect, last, optional, whole};
 use std::alloc::Global;
 
+/// The most bytes of a request: as many as the body of an HTTP request may have.
 const LONGEST_REQUEST: usize = 65_536;
 
 /// The INTEGER 0, which means version 1 (RFC 6960 4.1.1).
@@ -26,10 +27,9 @@ const VERSION_1: [u8; 3] = [0x02, 0x01, 0x00];
 /// The most contents octets in the extnValue of a nonce that is repeated: the DER of an OCTET STRING of 128 octets (RFC 9654 2.1).
 const LONGEST_NONCE: usize = 131;
 
-/// Reads an OCSP request. `Malformed` exactly if the bytes are not one OCSPRequest in DER of at most 65,536 bytes, with at
-/// least one CertID and no critical extension but the nonce. The defaults (version v1, `critical` FALSE) may be encoded, and Extensions may be empty.
-/// The contents of requestorName, optionalSignature, extnValue, OIDs (not empty) and parameters (one value, its tag of one octet) are not checked.
-/// Bytes have at most one reading (`laws::one_reading`). `Memory` if out of memory for the CertIDs.
+/// Reads the CertIDs and nonce of an OCSPRequest: DER of at most 65,536 bytes, at least one CertID, no critical extension but the nonce. `Malformed`
+/// exactly for other bytes. Defaults (version v1, `critical` FALSE) may be encoded. Extensions may be empty; OIDs may not. Parameters, if any, are
+/// one value with a tag of one octet. OIDs that are not empty, requestorName, optionalSignature and extnValue may have any contents.
 pub fn read_request(alloc: Global, bytes: &[u8]) -> Result<Asked<'_>, RequestFault>
     ensures found { IfOk result
         (λ a. IsOcspRequest bytes.now (ids_model a.ids.items) (option_copied a.nonce)) }
@@ -65,7 +65,7 @@ fn parts(bytes: &[u8]) -> Option<(&[u8], Option<&[u8]>)>
     signed_parts(to_be_signed(bytes)?)
 }
 
-/// The contents of the TBSRequest in an OCSPRequest.
+/// The contents of the TBSRequest in an OCSPRequest. Of optionalSignature only the tag and the length are checked.
 #[tactic(auto, unfolding(crate::specs::RequestReading::tbs_at))]
 fn to_be_signed(bytes: &[u8]) -> Option<&[u8]>
     ensures { AgreesWith (λ x. x.now) result (tbs_at bytes.now) }
@@ -85,7 +85,7 @@ fn signed_parts(bytes: &[u8]) -> Option<(&[u8], Option<&[u8]>)>
     Some((list, echoed_nonce(nonce)))
 }
 
-/// The contents of requestList in the contents of a TBSRequest, and the bytes after it.
+/// The contents of requestList in the contents of a TBSRequest, and the bytes after it. Of requestorName only the tag and the length are checked.
 #[tactic(auto, unfolding(crate::specs::RequestReading::list_at))]
 fn list(bytes: &[u8]) -> Option<(&[u8], &[u8])>
     ensures { AgreesWith (λ x. (x.0.now, x.1.now)) result (list_at bytes.now) }
@@ -210,7 +210,7 @@ fn is_at_most_one(bytes: &[u8]) -> bool
     }
 }
 
-/// Whether the contents octets of an INTEGER are the fewest: the first nine bits are neither all zero nor all one (X.690 8.3.2).
+/// Whether these are the fewest contents octets of an INTEGER: at least one, and the first nine bits neither all zero nor all one (X.690 8.3.2).
 fn is_shortest(octets: &[u8]) -> bool
     ensures { result ≡ spec.is_shortest octets.now }
 {

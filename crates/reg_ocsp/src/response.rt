@@ -1,4 +1,4 @@
-//! Writes OCSP responses (RFC 6960 4.2.1).
+//! Writes OCSP responses in DER (RFC 6960 4.2.1). Clauses `length_at_most` bound the bytes of all fields, with their tags and lengths.
 
 ghost use Rattle.std.specs.Prelude.{◌≡◌, ◌+◌, ◌*◌, ◌^◌, ◌<◌, ◌≤◌, ◌%◌, length, None, IfOk, OnOk, IfSome, option_copied, sum_by};
 ghost use Rattle.std.specs.List.{flat_map};
@@ -50,10 +50,9 @@ pub fn refusal(status: RefusalStatus) -> [u8; 5]
 
 /// The ResponseData, which is to be signed (RFC 6960 4.2.1), of an issuer that is its own responder: responderID is the SHA-1 of the issuer's key.
 ///
-/// producedAt and each thisUpdate are `now`, each nextUpdate is `next`. Each CertID is repeated byte for byte, in the order
-/// of `answers`. An expired certificate that isn't revoked is `good`, and the reason 0 is left out. There are at most
-/// 65,536 CertIDs with 65,536 bytes in all, and the nonce has at most 131, as `read_request` gives them. The result has at most 2^27 bytes.
-/// [`Memory`] if out of memory.
+/// producedAt and each thisUpdate are `now`, each nextUpdate is `next`. Each CertID is repeated byte for byte, in the order of `answers`. An expired
+/// certificate that isn't revoked is `good`, and the reason 0 (unspecified) is left out. There are at most 65,536 CertIDs with 65,536 bytes in all.
+/// `nonce`, the contents of its extnValue, has at most 131. `read_request` gives no more. [`Memory`] if out of memory.
 pub fn response_data(
     alloc: Global,
     issuer: &Issuer,
@@ -70,8 +69,7 @@ pub fn response_data(
     response_data_by(alloc, issuer.key(), now, next, answers, nonce)
 }
 
-/// As [`response_data`], for any responder: `key` is the bits of the responder's subjectPublicKey, and responderID is the SHA-1 of these bits
-/// (RFC 6960 4.2.1).
+/// As [`response_data`], for any responder: `key` is the bits of its subjectPublicKey, and responderID (byKey) is the SHA-1 of them.
 #[tactic(auto, using(crate::proofs::Answering::few_answers, crate::proofs::Answering::short_answers), unfolding(crate::specs::Response::response_data))]
 pub fn response_data_by(
     alloc: Global,
@@ -91,6 +89,7 @@ pub fn response_data_by(
     enclosed(alloc, SEQUENCE, &fields)
 }
 
+/// Appends responderID, producedAt (`now`), responses and responseExtensions.
 fn put_data_fields(
     alloc: Global,
     out: &mut Vec<u8>,
@@ -115,8 +114,9 @@ fn put_data_fields(
     put_nonce(alloc, out, nonce)
 }
 
-/// The whole OCSPResponse of status successful, with a BasicOCSPResponse (RFC 6960 4.2.1). `signed` is the ResponseData (at most 2^27 bytes),
-/// `algorithm` the AlgorithmIdentifier of the signature (at most 1,024 bytes). `signature` has at most 65,536 bytes. [`Memory`] if out of memory.
+/// The whole OCSPResponse of status successful, with a BasicOCSPResponse (RFC 6960 4.2.1). `signed` is the DER of the ResponseData (at most
+/// 2^27 bytes), `algorithm` that of the signature's AlgorithmIdentifier (at most 1,024 bytes). `signature`, the contents of the BIT STRING without
+/// the octet that counts unused bits, has at most 65,536 bytes. [`Memory`] if out of memory.
 pub fn basic(
     alloc: Global,
     signed: &[u8],
@@ -157,6 +157,7 @@ pub fn basic_with(
     successful_value(alloc, &bytes)
 }
 
+/// The OCSPResponse of status successful (0), around the DER of its ResponseBytes.
 fn successful_value(alloc: Global, bytes: &[u8]) -> Result<Vec<u8>, Memory>
     requires { length bytes.now ≤ 2 ^ 28 }
     ensures value { ItemsOnOk result (successful_response bytes.now) }
@@ -168,6 +169,7 @@ fn successful_value(alloc: Global, bytes: &[u8]) -> Result<Vec<u8>, Memory>
     enclosed(alloc, SEQUENCE, &fields)
 }
 
+/// The ResponseBytes around the DER of a BasicOCSPResponse.
 fn response_bytes(alloc: Global, basic: &[u8]) -> Result<Vec<u8>, Memory>
     requires { length basic.now < 2 ^ 28 }
     ensures value { ItemsOnOk result (spec.response_bytes basic.now) }
@@ -235,7 +237,7 @@ fn put_basic_fields(
     put_certificate(alloc, out, certificate)
 }
 
-/// Appends `certs` with the certificate, if there is one.
+/// Appends the field `certs` with the certificate, if there is one.
 fn put_certificate(
     alloc: Global,
     out: &mut Vec<u8>,
@@ -254,7 +256,6 @@ fn put_certificate(
     put(out, TAGGED_0, &certificates)
 }
 
-/// Appends the ResponderID byKey: the SHA-1 of the key.
 fn put_responder(alloc: Global, out: &mut Vec<u8>, key: &[u8]) -> Result<(), Memory>
     ensures ok { AppendsOnOk out.old out.new result (spec.responder key.now) }
     ensures length_at_most { OnOk result (length out.new.items ≤ length out.old.items + 32) }
@@ -263,7 +264,7 @@ fn put_responder(alloc: Global, out: &mut Vec<u8>, key: &[u8]) -> Result<(), Mem
     put(out, TAGGED_2, &hash)
 }
 
-/// Appends `responses`: a SingleResponse for each answer.
+/// Appends the field `responses`: a SingleResponse for each answer.
 fn put_answers(
     alloc: Global,
     out: &mut Vec<u8>,
@@ -304,6 +305,7 @@ fn put_single(
     put(out, SEQUENCE, &fields)
 }
 
+/// Appends certID, certStatus, thisUpdate (`now`) and nextUpdate (`next`).
 fn put_single_fields(
     alloc: Global,
     out: &mut Vec<u8>,
@@ -352,7 +354,7 @@ fn put_revoked(alloc: Global, out: &mut Vec<u8>, at: Moment, reason: u8) -> Resu
     put(out, TAGGED_1, &info)
 }
 
-/// Appends the reason of a revocation, unless it is unspecified (RFC 5280 5.3.1).
+/// Appends the reason of a revocation, unless it is 0, unspecified (RFC 5280 5.3.1).
 fn put_reason(alloc: Global, out: &mut Vec<u8>, reason: u8) -> Result<(), Memory>
     ensures ok { AppendsOnOk out.old out.new result (reason_part reason) }
     ensures length_at_most { OnOk result (length out.new.items ≤ length out.old.items + 13) }
@@ -364,6 +366,7 @@ fn put_reason(alloc: Global, out: &mut Vec<u8>, reason: u8) -> Result<(), Memory
     put(out, TAGGED_0, &code)
 }
 
+/// Appends responseExtensions with the nonce, if there is one.
 fn put_nonce(alloc: Global, out: &mut Vec<u8>, nonce: Option<&[u8]>) -> Result<(), Memory>
     requires { IfSome (option_copied nonce) (λ value. length value ≤ 131) }
     ensures ok { AppendsOnOk out.old out.new result (spec.nonce_part (option_copied nonce.entry)) }

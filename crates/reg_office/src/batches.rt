@@ -58,6 +58,7 @@ impl<C: Alter, S: Signer> Office<C, S> {
             _ => match decide(&mut self.store, now, command) {
                 Ok((reply, change)) => match self.store.enter(now, &change) {
                     Ok(()) => Ok(Ok(reply)),
+                    // Also if out of memory: after any error of `enter` the batch stops, and the caller rolls it back.
                     Err(_) => Err(Fault::Store),
                 },
                 Err(fault) => {

@@ -21,6 +21,7 @@ pub(crate) fn register<C: Alter>(
     let by_serial = tables.cert(wanted.serial)?;
     match decide_register(&head, wanted, order, by_order, by_serial)? {
         Some(row) => Ok((Reply::Registered, Change::Certificate(row))),
+        // The same certificate is registered already: only the last accepted moment changes.
         None => Ok((Reply::Same, Change::Touch)),
     }
 }

@@ -1,5 +1,5 @@
-//! Pages of the changes feed: the rows after some positions (how far a client's copy has got), in the order of entry, such that each row comes after
-//! those that it refers to. A page has a limited number of rows in all, so it has rows of a table only if all those of earlier tables fit.
+//! Pages of the changes feed: the rows after positions (how far a client's copy has got), at most `MOST_ROWS` in all. A table comes after those that
+//! it refers to, and has rows on a page only if all rows of the tables before it fit. If a page has no rows, it has the next CRL, if any.
 
 ghost use Rattle.std.specs.Prelude.{◌≡◌, ◌-◌, length, option_map, IfErr, Some};
 ghost use Rattle.std.specs.List.{slice_get};
@@ -23,7 +23,7 @@ use reg_store_tables::Entered;
 use sqlite::Alter;
 use std::alloc::Global;
 
-/// The page of the changes feed after some positions, or from the first row on.
+/// The page of the changes feed after the positions `after`; from the first row on for `None`.
 #[tactic(auto, using(crate::proofs::Composing::answer_of_fault))]
 pub(crate) fn changes_in<C: Alter>(
     tables: &mut Tables<C>,
@@ -55,6 +55,7 @@ fn changes<C: Alter>(
     }
 }
 
+/// The page after positions; `Diverged` if their digest is not that of this register's rows up to them.
 fn changes_after<C: Alter>(
     tables: &mut Tables<C>,
     alloc: Global,
@@ -72,7 +73,7 @@ fn changes_after<C: Alter>(
     Ok(Changes::Page(text))
 }
 
-/// The page for a copy that has `counts` rows of the tables, and `declines` of the declined requests.
+/// The text of the page for a copy that has the first `counts` rows of the tables, and `declines` as declined requests.
 fn page_after<C: Alter>(
     tables: &mut Tables<C>,
     alloc: Global,
@@ -91,7 +92,7 @@ fn page_after<C: Alter>(
     Ok(text)
 }
 
-/// The lines before the rows.
+/// The lines before the rows: the issuer, the policy, and the last accepted moment.
 fn head_in<C: Alter>(
     tables: &mut Tables<C>,
     alloc: Global,
@@ -116,6 +117,7 @@ fn head_in<C: Alter>(
 
 // ---- the rows
 
+/// The rows of the page, or the next CRL. `Store` if a count would be above 2^64 - 1, which no register reaches.
 fn page_in<C: Alter>(
     tables: &mut Tables<C>,
     counts: &RowCounts,
@@ -133,7 +135,7 @@ fn page_in<C: Alter>(
     }
 }
 
-/// The declines that a page continues: these, or none if the register has another number of them.
+/// The declines that a page continues: these. If a request with an id up to their last one was declined since: none, and the feed has all again.
 fn declines_in<C: Alter>(
     tables: &mut Tables<C>,
     declines: &Declines,
@@ -177,14 +179,14 @@ fn rows_in<C: Alter>(
     })
 }
 
-/// How many rows more fit into a page after these.
+/// How many rows more fit, after these, into a page with room for `room` rows.
 fn left<T>(room: u64, rows: &Vec<T>) -> u64
     ensures { result ≡ room - length rows.now.items }
 {
     room.saturating_sub(rows.len() as u64)
 }
 
-/// The CRL after the first `crls` ones, if there is one.
+/// The CRL after the first `crls` ones, if there is one: CRLs have the numbers from 1 on.
 fn next_crl<C: Alter>(tables: &mut Tables<C>, crls: u64) -> Result<Option<FeedCrl>, DatabaseFault>
     ensures { Learns C.Store tables.old tables.new result (λ records next.
         option_map feed_crl_of next ≡ slice_get records.crls crls) }
@@ -219,7 +221,7 @@ fn der_of<C: Alter>(tables: &mut Tables<C>, number: u64) -> Result<Vec<u8>, Data
 
 // ---- the digest of positions
 
-/// The digest of the positions with these counts.
+/// The digest of the positions with these counts (`digest_of`), by which a register recognizes its own history.
 fn digest_at<C: Alter>(
     tables: &mut Tables<C>,
     alloc: Global,
@@ -236,7 +238,7 @@ fn digest_at<C: Alter>(
     Ok(digest)
 }
 
-/// The last rows of each table up to the counts, at most `WINDOW` of each. The digest doesn't cover which requests were declined.
+/// The last rows of each table up to the counts, at most `WINDOW` of each. `declined` is empty: the digest doesn't cover which requests are declined.
 fn windows_in<C: Alter>(
     tables: &mut Tables<C>,
     alloc: Global,
@@ -261,6 +263,7 @@ fn windows_in<C: Alter>(
     })
 }
 
+/// The last of the first `count` rows of the table with the rows `T`, at most `WINDOW`.
 fn window_in<C: Alter, T: Entered>(
     tables: &mut Tables<C>,
     count: u64,

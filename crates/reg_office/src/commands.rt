@@ -14,7 +14,7 @@ use reg_core::{CertRow, Command, Fault, Moment};
 use reg_store::Tables;
 use sqlite::Alter;
 
-/// Decides a command that issues no CRL: its refusal, or its reply and the change to make. No table changes.
+/// Decides a command of the moment `now` that issues no CRL: its refusal, or its reply and the change to make. No table changes.
 pub(crate) fn decide<C: Alter>(
     tables: &mut Tables<C>,
     now: Moment,

@@ -76,7 +76,7 @@ fn signature_of<S: Signer>(
     signer.sign(alloc, message)
 }
 
-/// The row of the next CRL, and its nextUpdate; or the refusal of the command `crl`.
+/// The row of the next CRL, and its nextUpdate; or the refusal of the command `crl`. `head` has the moments, the policy and the number of CRLs.
 fn next_row<C: Alter>(tables: &mut Tables<C>, now: Moment) -> Result<(CrlRow, Moment), Fault>
     requires { now < clock_end }
     ensures { LooksAndDecides C.Store tables.old tables.new (λ records. refusal records now IssueCrl)

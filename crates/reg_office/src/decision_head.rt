@@ -1,4 +1,4 @@
-//! The input that decisions read from the tables, and the result of a decision.
+//! The input that decisions read from the tables (a `Head`, and rows), and the result of a decision.
 
 ghost use Rattle.std.specs.Prelude.{◌≡◌, ◌<◌, ◌^◌, option_map, IfOk, IfSome, IsTrue};
 ghost use Rattle.reg_core.specs.Calendar.{clock_end};
@@ -15,7 +15,7 @@ use sqlite::Alter;
 /// The reply to a command that is accepted, and the one change that it makes.
 pub(crate) type Decided = (Reply, Change<'static>);
 
-/// The input of a decision besides its rows: the moments, the policy, and the number of rows of the table to which it would add one.
+/// The input of a decision besides its rows: the moments, the policy, and the number of rows of `table`, to which it would add one.
 pub(crate) fn head_at<C: Alter>(
     tables: &mut Tables<C>,
     now: Moment,
@@ -53,7 +53,7 @@ pub(crate) fn clock_head<C: Alter>(
     })
 }
 
-/// The certificate with a serial number, and its revocation.
+/// The certificate with a serial number, and its revocation; `None` for each that does not exist.
 pub(crate) fn certificate_of<C: Alter>(
     tables: &mut Tables<C>,
     serial: Serial,
@@ -67,14 +67,14 @@ pub(crate) fn certificate_of<C: Alter>(
     Ok((certificate, revocation))
 }
 
-/// Whether the CRL number is below 10^18 and thisUpdate before `CLOCK_END`, as `decide_crl` and `due_of` require. A register writes no others.
+/// Whether the number is below 10^18 and thisUpdate before `CLOCK_END` (in the year 9999), as reg_core requires. A register writes no others.
 fn can_be_written(crl: &CrlRow) -> bool
     ensures { IsTrue result → (crl.now.number < 10 ^ 18) × (crl.now.this_update < clock_end) }
 {
     crl.number < 1_000_000_000_000_000_000 && crl.this_update < Moment::CLOCK_END
 }
 
-/// The row of the CRL that was issued last; `Store` for values that no register writes.
+/// The row of the CRL that was issued last, if any; `Store` for values that no register writes.
 pub(crate) fn latest_crl<C: Alter>(tables: &mut Tables<C>) -> Result<Option<CrlRow>, DatabaseFault>
     ensures looks { Learns C.Store tables.old tables.new result (λ records row.
         row ≡ option_map row_of (latest records.crls)) }

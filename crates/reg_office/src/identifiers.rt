@@ -38,7 +38,7 @@ fn next_number_after(latest: Option<CrlRow>) -> Option<u64>
     }
 }
 
-/// The issuer with a key identifier of these octets, from the next CRL on.
+/// The issuer with a key identifier of these octets (1 to 64), which CRLs have from the next one, number `first`, on.
 fn identified<C: Alter>(
     tables: &mut Tables<C>,
     alloc: Global,
@@ -60,7 +60,7 @@ fn identified<C: Alter>(
     }
 }
 
-/// Sets the key identifier that the issuer's CRLs have from the next one on, instead of the earlier one or the SHA-1 of its key.
+/// Sets the key identifier that the issuer's CRLs have from the next one on. It replaces the one set before, or else the SHA-1 of the issuer's key.
 pub(crate) fn set_key_identifier<C: Alter>(
     store: &mut Store<C>,
     alloc: Global,

@@ -12,8 +12,9 @@ ghost use Rattle.reg_office.specs.Shown.{SoundRun, AcceptedRevocation, IsShownEv
 use reg_crl::{CrlSigner, Signer};
 use sqlite::Alter;
 
-/// The main theorem, for any signer (RFC 5280 3.3, RFC 6960 2.2). A new register is sound, every list of commands keeps it sound, and the other
-/// clauses are about sound registers and runs. CRLs below some number may have the placeholder digest, from before the register had a key.
+/// The main theorem, for any signer (RFC 5280 3.3, RFC 6960 2.2). A new register is sound (its rows fit together: reg_core `Sound`), and runs
+/// (lists of commands) keep it sound. The other clauses are about sound registers and runs. CRLs below some number may have the placeholder digest,
+/// made while there was no key. Clause `since`: the other clauses hold for a later run that signs each new CRL.
 pub fn headline<S: Signer>()
     ensures created { SignedOrDigest S.Signer CreatedSound }
     ensures since { (signer : S) → RunsSince S.signs (S.identity signer) }
@@ -41,7 +42,7 @@ pub fn statuses_agree()
     ensures { OcspAgrees }
 {}
 
-/// Each pure decision of `reg_core` is the step of its command, over the rows that sound records have for it.
+/// Each pure decision of `reg_core`, over the rows that sound records have for a command, is the step that the model defines for the command.
 pub fn decisions_are_steps<S: Signer>()
     ensures subscribers { Signed S.Signer SubscribersAreSteps }
     ensures orders { Signed S.Signer OrdersAreSteps }
@@ -70,12 +71,12 @@ pub fn nothing_else_is_shown_as_revoked<S: Signer>()
     reg_core_laws::laws::revocations::<CrlSigner<S>>();
 }
 
-/// A register that is opened after a stop in a command shows the records before the command, or those after its acceptance. Both are sound.
+/// A register opened after a stop (a crash or power failure) in a command shows the records before it, or those after its acceptance: both are sound.
 pub fn a_register_opened_after_a_stop_stands_before_or_after<C: Alter, S: Signer>()
     ensures { OpensBeforeOrAfter C.Store S.signs }
 {}
 
-/// A register opened after a stop in a run shows the records after a prefix of the commands, with each one that was reported as accepted.
+/// A register opened after a stop in a run shows the records after a prefix of the commands. This prefix has each command reported as accepted.
 pub fn a_register_opened_after_a_stop_stands_after_a_prefix<C: Alter, S: Signer>()
     ensures { OpensAfterAPrefix C.Store S.signs }
 {}

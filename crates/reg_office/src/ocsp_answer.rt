@@ -27,8 +27,8 @@ use reg_store::Tables;
 use sqlite::Alter;
 use std::alloc::Global;
 
-/// The response (RFC 6960 4.2.1) to the bytes of a request at a moment. If it needs a signature, and the caller itself can request that from the
-/// signer's device (`Signer::public_key` is `Some`), a draft without one instead. A delegate's own signer signs, not `signer`. No table changes.
+/// The response (RFC 6960 4.2.1) to the bytes of a request at a moment. If it needs a signature, and `Signer::public_key` is `Some`, it is a draft:
+/// the caller requests the signature from the signer's device. A delegate's own signer signs, not `signer`. No table changes.
 /// [`Memory`] if out of memory.
 pub(crate) fn begin_ocsp<C: Alter, S: Signer>(
     alloc: Global,

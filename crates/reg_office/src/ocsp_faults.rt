@@ -7,7 +7,7 @@ use reg_core::{Memory, Refusal};
 use reg_store_tables::DatabaseFault;
 use std::alloc::AllocError;
 
-/// Why there is no ResponseData. `Clock`: the clock checks refuse the moment.
+/// Why there is no ResponseData. `Clock`: the moment is before the last accepted one, or not before `Moment::CLOCK_END` (in the year 9999).
 #[derive(Clone, Copy, PartialEq, Eq)]
 pub(crate) enum ResponseFault {
     Clock,

@@ -72,6 +72,8 @@ impl<C: Alter, S: Signer> Office<C, S> {
     }
 }
 
+// In the clauses, `OfficeLeads` relates the records before a call to those after it, `OfficeTells` says that they are the same, and `OfficeLooks`
+// also that the call changes no table and commits nothing. `OfficeStops` says which records a stop of the machine in the call leaves.
 impl<C: Alter, S: Signer> reg_office_api::Office for Office<C, S> {
     ghost use Rattle.std.specs.Prelude.{◌≤◌, ◌<◌, ◌↔◌, ◌^◌, Err, IsErrOf, OnOk, OnErr, IfOk, IfErr};
     ghost use Rattle.sqlite.specs.Held.{state};
@@ -160,7 +162,7 @@ impl<C: Alter, S: Signer> reg_office_api::Office for Office<C, S> {
                 Err(fault) => Err(Fault::from(fault)),
             },
             Err(fault) => {
-                // Rolls back; `end` returns no other error than the one passed.
+                // Rolls back. `end` returns only the error passed to it, which stands in for `fault`.
                 let _ = self.store.end(Err(DatabaseFault::Store));
                 Err(fault)
             }

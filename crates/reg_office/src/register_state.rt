@@ -37,6 +37,7 @@ pub(crate) fn summary_in<C: Alter>(tables: &mut Tables<C>) -> Result<RegisterSum
     })
 }
 
+/// How many rows each table has.
 fn table_rows<C: Alter>(tables: &mut Tables<C>) -> Result<Rows, DatabaseFault>
     ensures { Learns C.Store tables.old tables.new result (λ records rows. rows ≡ rows_in records) }
 {
@@ -54,6 +55,7 @@ fn table_rows<C: Alter>(tables: &mut Tables<C>) -> Result<Rows, DatabaseFault>
     })
 }
 
+/// The last accepted moment, the cap, how many requests there are, and how many for a serial number are open, counted up to `most`.
 #[tactic(auto, using(crate::proofs::Composing::answer_of_fault))]
 pub(crate) fn request_load_in<C: Alter>(
     tables: &mut Tables<C>,

@@ -1,4 +1,4 @@
-//! Decides the commands `request`, `decline` and `revoke`.
+//! Decides the commands `request`, `decline` and `revoke`. `id` is the id of a request for revocation; `late`: after its deadline.
 
 ghost use Rattle.std.specs.Prelude.{◌<◌};
 ghost use Rattle.reg_core.specs.Calendar.{clock_end};
@@ -15,7 +15,7 @@ use reg_core::{
 use reg_store::{DatabaseFault, Table, Tables};
 use sqlite::Alter;
 
-/// A request, with the certificate and the revocation of its serial number.
+/// A request, with the certificate and the revocation of its serial number; `None` for each that does not exist.
 #[derive(Clone, Copy)]
 pub(crate) struct Case {
     request: Option<RequestRow>,
@@ -23,7 +23,7 @@ pub(crate) struct Case {
     revocation: Option<RevocationRow>,
 }
 
-/// Decides the command `request`. `word` names the ground.
+/// Decides the command `request`. `word` names the ground: why to revoke. The deadline and the reasonCode follow from it.
 pub(crate) fn enter_request<C: Alter>(
     tables: &mut Tables<C>,
     now: Moment,
@@ -40,7 +40,6 @@ pub(crate) fn enter_request<C: Alter>(
     Ok((Reply::Request { id: row.id, due }, Change::Request(row)))
 }
 
-/// The request with an id, and the certificate and the revocation of its serial number.
 fn case_of<C: Alter>(tables: &mut Tables<C>, id: u64) -> Result<Case, DatabaseFault>
     ensures { Learns C.Store tables.old tables.new result (λ records found. IsCase records id found) }
 {
@@ -91,6 +90,7 @@ pub(crate) fn revoke<C: Alter>(
         found.revocation,
         latest,
     )?;
+    // `decide_revoke` does not check that there is a certificate. Without one, the rows are not a register's, which has one for each request.
     let not_after = found.certificate.ok_or(DatabaseFault::Store)?.not_after;
     Ok((Reply::Revoked { late }, Change::Revocation(row, not_after)))
 }

@@ -18,7 +18,7 @@ pub enum Responder<S> {
 /// The fields of a response that depend on its responder (RFC 6960 4.2.1).
 #[derive(Clone, Copy)]
 pub(crate) struct ResponderFields<'a> {
-    /// The key that names the responder in the ResponderID; `None` if it is the issuer's.
+    /// The bits of the subjectPublicKey whose SHA-1 is the ResponderID; `None` if the key is the issuer's.
     pub(crate) own_key: Option<&'a [u8]>,
     /// The certificate that the response includes, if any.
     pub(crate) certificate: Option<&'a [u8]>,
@@ -55,7 +55,7 @@ pub(crate) fn of_delegate(certificate: &Certificate) -> ResponderFields<'_>
     }
 }
 
-/// How many failures the signer of OCSP answers has counted; `crls` is the count of the signer of CRLs.
+/// How many of its failures the signer of OCSP responses has counted; `crls` is the count of the signer of CRLs, which may be the same.
 pub(crate) fn failures_in<S: Signer>(responder: &Responder<S>, crls: u64) -> u64
     ensures { result ≡ failures_of S.failure_count crls responder.now }
 {

@@ -62,7 +62,6 @@ pub(crate) fn request_at<C: Alter>(
     request.ok_or(DatabaseFault::Store)
 }
 
-/// The subscriber of the order with this id.
 fn subscriber_of<C: Alter>(tables: &mut Tables<C>, id: u64) -> Result<SubscriberRow, DatabaseFault>
     ensures { Learns C.Store tables.old tables.new result (λ records subscriber.
         Some subscriber ≡ subscriber_of_order records id) }
@@ -324,6 +323,7 @@ fn lateness_of(
     Ok(Some(until.secs().saturating_sub(due.secs())))
 }
 
+/// Until when a request that was not declined was open; `now` if it still is. `Unknown` does not occur: a request is for a registered certificate.
 fn open_until(now: Moment, certificate: &CertRow, status: &Status) -> Moment
     ensures { result ≡ open_until now certificate.now status.now }
 {

@@ -18,8 +18,8 @@ use sqlite::Alter;
 use std::alloc::Global;
 
 impl<C: Alter, S: Signer> Office<C, S> {
-    /// Runs commands in their order, each at its moment, and goes on after refusals and faults. One outcome for each command is
-    /// appended to `outcomes`. [`Memory`] if out of memory for the outcomes: then no command ran.
+    /// Runs commands in their order, each at its moment, and goes on after refusals and faults. Appends one outcome (the reply, refusal or fault) for
+    /// each command to `outcomes`. [`Memory`] if out of memory for the outcomes: then no command ran.
     pub fn run(
         &mut self,
         alloc: Global,
@@ -49,6 +49,7 @@ impl<C: Alter, S: Signer> Office<C, S> {
         };
         for (now, command) in commands {
             let outcome = self.run_one(alloc, *now, command);
+            // Can't fail: the capacity is reserved.
             let Ok(()) = outcomes.push(outcome) else {
                 return Err(Memory);
             };

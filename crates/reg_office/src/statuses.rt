@@ -1,4 +1,4 @@
-//! The statuses of CertIDs.
+//! The statuses of CertIDs and of serial numbers.
 
 ghost use Rattle.std.specs.Prelude.{◌≡◌, ◌⊎◌, map, IfOk, IfErr};
 ghost use Rattle.std.specs.List.{AllByRecursion};

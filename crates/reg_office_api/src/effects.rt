@@ -17,7 +17,6 @@ pub enum SignatureOutcome {
 /// The effect of an exchange or a line on the store: an accepted command or a schedule was written, the store failed, or neither.
 #[derive(Clone, Copy, PartialEq, Eq)]
 pub enum StoreEffect {
-    /// The exchange or line wrote no accepted command and no schedule, and the store did not fail.
     Unwritten,
     Written,
     Failed,
@@ -35,12 +34,12 @@ impl StoreEffect {
     }
 }
 
-/// The kind of the reply to a line. `Refused`: a refusal, or a word such as `bad-clock`.
+/// The kind of the reply to a line. `Accepted` also has answers to queries and OCSP requests; `Refused` also has words such as `bad-clock`.
 #[derive(Clone, Copy, PartialEq, Eq)]
 pub enum LineReply {
     Accepted,
     Refused,
-    /// The reply is a fault, or there is none because there was no memory for it.
+    /// The reply is a fault (F1 to F5: see `reg_core::Fault`), or there was no memory for a reply.
     Fault,
 }
 

@@ -9,8 +9,8 @@ use reg_io::ReadyOrUnsigned;
 use reg_ocsp::Draft;
 use std::alloc::Global;
 
-/// An office that keeps the records of a register, and its signers. A clause of each call but `failure_counts` relates the records before the
-/// call to those after it, provided that the disk has returned what was written to it ([`Leads`](crate::specs::Leads)).
+/// An office: the records of a register, and the signers of its CRLs and OCSP answers. A clause of each call but `failure_counts` relates the records
+/// before the call to those after it, provided that the disk has returned what was written to it ([`Leads`](crate::specs::Leads)).
 pub trait Office {
     ghost use Rattle.std.specs.Prelude.{◌≡◌, ◌≤◌, ◌<◌, ◌↔◌, ◌^◌, ℕ, List, IfErr, IfOk, IsErrOf};
     ghost use Rattle.reg_office_api.specs.CallSteps.{BatchStep, CommandStep, QueryStep, OcspStep, CrlStep};
@@ -84,11 +84,12 @@ pub trait Office {
         ensures { Leads is_clean stands (CrlStep number (items_of result)) self.old self.new };
 
     /// The DER of the TBSCertList (RFC 5280 5.1.2) of the CRL that would be issued at a moment. `None` if none would be issued then, if the signer
-    /// of CRLs has no public key (as with the placeholder digest), if out of memory, or if the store fails. Nothing is signed.
+    /// of CRLs has no public key (as with the placeholder digest), if out of memory, or if the store fails. A caller can request its signature
+    /// before the command `crl` runs.
     fn crl_message(&mut self, alloc: Global, now: Moment) -> Option<Vec<u8>>
         ensures { Leads is_clean stands (λ signers before after. after ≡ before) self.old self.new };
 
-    /// A page of a list from a cursor on, at a moment, over at most `most` rows of its table. Errors: `ClockEnd`, `ClockBack`; `Memory`, `Store`.
+    /// A page of a list from a cursor on, at a moment. Reads at most `most` rows of its table. Errors: `ClockEnd`, `ClockBack`; `Memory`, `Store`.
     fn page(&mut self, alloc: Global, now: Moment, from: Cursor, most: u64) -> Result<Page, Fault>
         ensures { Leads is_clean stands (PageStep now most from result) self.old self.new };
 
@@ -103,26 +104,25 @@ pub trait Office {
         ensures looks { Looks is_clean stands (λ records. HasSummary records result) self.old self.new }
         ensures faults { IfErr result IsOfStore };
 
-    /// The last accepted moment. Errors: `Memory`, `Store`.
+    /// The last accepted moment: that of the last accepted command, or [`Moment::EPOCH`] if there is none. Errors: `Memory`, `Store`.
     fn last(&mut self) -> Result<Moment, Fault>
         ensures looks { Looks is_clean stands (λ records. HasLastMoment records result) self.old self.new }
         ensures faults { IfErr result IsOfStore };
 
-    /// How many requests for revocation are open at a moment. The call goes through all requests. Errors: `Memory`, `Store`.
+    /// How many requests are open at a moment: not declined, and their certificates good. Goes through all requests. Errors: `Memory`, `Store`.
     fn open_count(&mut self, now: Moment) -> Result<u64, Fault>
         ensures looks { Looks is_clean stands (λ records. HasOpen records now result) self.old self.new }
         ensures faults { IfErr result IsOfStore };
 
     /// The last accepted moment, how full the requests table is, and how many requests for a serial number are open at a moment, counted up
-    /// to `most`. The call may go through all requests. Errors: `Memory`, `Store`.
+    /// to `most` (below 2^63, as SQL has no larger number). The call may go through all requests. Errors: `Memory`, `Store`.
     fn request_load(&mut self, now: Moment, serial: Serial, most: u64) -> Result<RequestLoad, Fault>
         requires { most < 2 ^ 63 }
         ensures looks { Looks is_clean stands (λ records. HasRequestLoad records now serial most result)
             self.old self.new }
         ensures faults { IfErr result IsOfStore };
 
-    /// The longest validity in days that an order and the policy allow for a notBefore; `None` if there is no order with this id.
-    /// Errors: `Memory`, `Store`.
+    /// The longest validity in days that an order and the policy allow for a notBefore; `None` if there is no such order. Errors: `Memory`, `Store`.
     fn longest(&mut self, order: u64, not_before: Moment) -> Result<Option<u64>, Fault>
         ensures looks { Looks is_clean stands
             (λ records. HasLongest records order not_before result) self.old self.new };
@@ -134,7 +134,7 @@ pub trait Office {
             self.old self.new }
         ensures faults { IfErr result IsOfStore };
 
-    /// Sets the key identifier that the issuer's CRLs have from the next one on (RFC 5280 5.2.1). This is no command: nothing else
+    /// Sets the key identifier (1 to 64 octets) that the issuer's CRLs have from the next one on (RFC 5280 5.2.1). This is no command: nothing else
     /// changes, and at an error nothing does. Errors: `Memory`, `Store`.
     fn set_key_identifier(&mut self, alloc: Global, octets: Label) -> Result<(), Fault>
         ensures sets { Leads is_clean stands (λ signers. SetsKeyIdentifier octets result)

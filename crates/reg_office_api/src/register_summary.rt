@@ -2,10 +2,9 @@
 
 use reg_core::{CrlRow, Moment};
 
-/// A summary of a register.
 #[derive(Clone, Copy, PartialEq, Eq)]
 pub struct RegisterSummary {
-    /// The last accepted moment.
+    /// The moment of the last accepted command; [`Moment::EPOCH`] if there is none.
     pub last: Moment,
     /// The CRL that was issued last, without its bytes; `None` if there is none.
     pub latest: Option<CrlRow>,
@@ -29,7 +28,7 @@ pub struct Rows {
 /// How full the requests table is, and how many requests for one serial number are open.
 #[derive(Clone, Copy, PartialEq, Eq)]
 pub struct RequestLoad {
-    /// The last accepted moment.
+    /// As in [`RegisterSummary`].
     pub last: Moment,
     /// The most rows of the requests table.
     pub cap: u64,

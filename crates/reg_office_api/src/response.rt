@@ -12,7 +12,7 @@ pub enum ResponseKind {
     Signed,
     /// malformedRequest: the bytes are no OCSP request that `IsOcspRequest` accepts (RFC 6960 4.1.1).
     Malformed,
-    /// tryLater: the moment is before the last accepted one, or not before `CLOCK_END`.
+    /// tryLater: the moment is before the last accepted one, or not before `Moment::CLOCK_END` (in the year 9999).
     TryLater,
     /// internalError: the store failed.
     StoreFailure,
@@ -28,7 +28,7 @@ pub struct OcspResponse {
 }
 
 impl ResponseKind {
-    /// Whether a signature was requested, and whether the signer made it.
+    /// Whether a signature was requested for the response, and whether the signer made it.
     pub fn signature(self) -> SignatureOutcome
         ensures { result ≡ signature_by self }
     {

@@ -1,4 +1,4 @@
-//! The changes of a register.
+//! The changes of a register, made by the functions of reg_store_changes. `now` is the moment of a change.
 
 ghost use Rattle.std.specs.Prelude.{◌≡◌, OnOk, not, true};
 ghost use Rattle.reg_core.specs.declared.change.Change.TheVariants.{Touch, Subscriber, Order, Certificate, Request, Decline, Revocation, Crl};
@@ -22,7 +22,7 @@ impl<S: Alter> Store<S> {
         reg_store_changes::begin(&mut self.tables.connection)
     }
 
-    /// Makes a change at a moment inside the transaction that is under way. Errors: those of [`reg_store_changes::enter`].
+    /// As [`Store::apply`], but inside the transaction that is under way. Errors: those of [`reg_store_changes::enter`].
     pub fn enter(&mut self, now: Moment, change: &Change<'_>) -> Result<(), DatabaseFault>
         ensures made { MakesWithin S.Store self.old self.new result (Enters now change.now) }
         ensures stepped { StepsWithin S.Store self.old self.new }
@@ -62,14 +62,12 @@ impl<S: Alter> Store<S> {
         self.apply(now, &Change::Touch)
     }
 
-    /// Adds a subscriber.
     pub fn add_subscriber(&mut self, now: Moment, row: SubscriberRow) -> Result<(), DatabaseFault>
         ensures { MakesChange S.Store self.old self.new now (Subscriber row) result }
     {
         self.apply(now, &Change::Subscriber(row))
     }
 
-    /// Adds an order.
     pub fn add_order(&mut self, now: Moment, row: OrderRow) -> Result<(), DatabaseFault>
         ensures { MakesChange S.Store self.old self.new now (Order row) result }
     {
@@ -83,7 +81,6 @@ impl<S: Alter> Store<S> {
         self.apply(now, &Change::Certificate(row))
     }
 
-    /// Adds a request for revocation.
     pub fn add_request(&mut self, now: Moment, row: RequestRow) -> Result<(), DatabaseFault>
         ensures { MakesChange S.Store self.old self.new now (Request row) result }
     {

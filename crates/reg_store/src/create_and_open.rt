@@ -40,7 +40,7 @@ impl<S: Alter> Store<S> {
         }
     }
 
-    /// Opens the register in a database. Tables of version 1 or 2 are migrated to the program's version in one transaction, and then
+    /// Opens the register in a database. Tables of version 1 or 2 are migrated to version 3, the program's, in one transaction, and then
     /// show the same records. Errors: those of [`reg_store_opening::open`].
     pub fn open(alloc: Global, connection: Connection<S>) -> Result<Store<S>, Unopened<S>>
         requires { connection.in_transaction ≡ false }

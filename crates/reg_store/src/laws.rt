@@ -1,7 +1,7 @@
 //! Laws. Each function here does nothing: its contract is the law, which `rt check` proves.
 //!
 //! In the laws, `IsOpenedAgain` says that the machine stopped and the database was opened again; `restart` in reg_desk_files ensures it (`again`)
-//! over any disk that may lose unsynced writes. `IsLive` says that an open one is well-formed; `Connection::schema` in sqlite ensures it (`live`).
+//! over any disk that may lose unsynced writes. `IsLive` says that open databases are well-formed; sqlite's `Connection::schema` ensures it (`live`).
 
 ghost use Rattle.reg_store.specs.OpenedAgain.{OpensEmptyOrMade, OpensWithAnIssuer, OpensWithASchedule, OpensWithTheSame};
 

@@ -7,7 +7,7 @@ use sqlite::{Alter, Connection};
 use std::marker::Model;
 use std::ops::{Deref, DerefMut};
 
-/// A register in an SQL database. Its look-ups are the methods of [`Tables`], to which it dereferences; its changes are methods of its own.
+/// A register in an SQL database that `S` keeps, as in a file. Look-ups are the methods of [`Tables`], to which it dereferences; changes are its own.
 ///
 /// Contracts see a store as its connection. So `Shows`, `ShowsKept` and other definitions for a connection apply to a store.
 #[derive(Drop)]

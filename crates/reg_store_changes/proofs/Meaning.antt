@@ -12,7 +12,7 @@ use Rattle.sqlite.specs.Values.{bound_value}
 use Rattle.sqlite.specs.Listing.{understood}
 use Rattle.sqlite_tied.specs.Compute.{everything}
 use Rattle.reg_store_tables.specs.Schema.{register_schema}
-use Rattle.reg_store_changes.specs.declared.sql.TheConstants.{EXPIRE_ENDED, MARK_REVOKED, SET_LAST, SET_NAME, PUT_SUBSCRIBER, PUT_ORDER, PUT_CERT, PUT_LETTER, PUT_REQUEST, SET_DECLINED, PUT_REVOCATION, PUT_LISTED, PUT_CRL, MARK_LISTED, CLEAR_STEPS}
+use Rattle.reg_store_changes.specs.declared.sql.TheConstants.{EXPIRE_ENDED, MARK_REVOKED, SET_LAST, SET_NAME, PUT_SUBSCRIBER, PUT_ORDER, PUT_CERT, PUT_LETTER, PUT_REQUEST, SET_DECLINED, PUT_REVOCATION, PUT_LISTED, PUT_CRL, SET_LAST_LISTED, CLEAR_STEPS}
 use Rattle.reg_store_tables.proofs.PublicLaws.{updates, inserts, deletes, IsWriting}
 
 abbrev pub equals : Term → Term → Term
@@ -80,7 +80,7 @@ pub put_crl_means : IsWriting PUT_CRL.now (inserts 6 (col 0 0 ∷ lit Null ∷ c
 unfolding understood everything register_schema
 put_crl_means = record { plain = (refl, refl); is = refl }
 
-pub mark_listed_means : IsWriting MARK_LISTED.now (updates 9 15 (op2 (Is Binary) (col 1 6) (lit Null) ∷ below (col 1 5) (col 0 1) ∷ []) (col 1 1 ∷ col 1 2 ∷ col 1 3 ∷ col 1 4 ∷ col 1 5 ∷ col 0 0 ∷ []))
+pub mark_listed_means : IsWriting SET_LAST_LISTED.now (updates 9 15 (op2 (Is Binary) (col 1 6) (lit Null) ∷ below (col 1 5) (col 0 1) ∷ []) (col 1 1 ∷ col 1 2 ∷ col 1 3 ∷ col 1 4 ∷ col 1 5 ∷ col 0 0 ∷ []))
 unfolding understood everything register_schema
 mark_listed_means = record { plain = (refl, refl); is = refl }
 

@@ -32,7 +32,7 @@ use Rattle.reg_store_tables.specs.Steps.{Turns, TurnsCounted}
 use Rattle.reg_store_changes.specs.ChangeSteps.{ReplacesIssuer}
 use Rattle.reg_der.specs.Issuers.{with_issuer}
 use Rattle.reg_store_changes.specs.DerivedEffects.{lettered, with_expired, count_ended_before, is_good_at, with_revoked_letter, good_at, has_passed, with_last_listing, with_last_listings}
-use Rattle.reg_store_changes.specs.declared.sql.TheConstants.{EXPIRE_ENDED, MARK_REVOKED, SET_LAST, SET_NAME, SET_DECLINED, MARK_LISTED}
+use Rattle.reg_store_changes.specs.declared.sql.TheConstants.{EXPIRE_ENDED, MARK_REVOKED, SET_LAST, SET_NAME, SET_DECLINED, SET_LAST_LISTED}
 use Rattle.reg_store_changes.proofs.Meaning.{equals, below, text, lends, sweep_means, mark_revoked_means, set_last_means, set_name_means, set_declined_means, mark_listed_means}
 use Rattle.reg_store_tables.proofs.PublicLaws as Edits
 
@@ -118,12 +118,12 @@ module _ (old new : State) (count : ℕ) where
       (equals (col 1 1) (col 0 0) ∷ equals (col 1 3) (text (codes "G")) ∷ []) (col 1 1 ∷ col 1 2 ∷ text (codes "R") ∷ []) (is_good_at serial) (lettered revoked) mark_revoked_means
       (λ id row its. mark_test serial id row in_range its) (λ id row. simp cast_int) (λ row its. its)
 
-  pub marks_listed : (n now : ℕ) {at moment : ValueRef} → Ran MARK_LISTED.now (lends at ∷ lends moment ∷ []) old new count → at ≡ lent.Int (pos n) → moment ≡ lent.Int (pos now) → Turns (λ records. records) (with_last_listings n now) old.now new.now
+  pub marks_listed : (n now : ℕ) {at moment : ValueRef} → Ran SET_LAST_LISTED.now (lends at ∷ lends moment ∷ []) old new count → at ≡ lent.Int (pos n) → moment ≡ lent.Int (pos now) → Turns (λ records. records) (with_last_listings n now) old.now new.now
   unfolding register_schema
   marks_listed n now given is0 is1 records columns both =
       let params = number n ∷ number now ∷ [] in
-      let ran = subst (λ params. Ran MARK_LISTED.now params old new count) (λ i. lends (is0 i) ∷ lends (is1 i) ∷ []) given in
-      let it = counted_turned MARK_LISTED.now params old new count ran both.shown.schema stored_listed (λ (row : Listed). row.serial) columns.listed (has_passed now) (with_last_listing n) 9 listed
+      let ran = subst (λ params. Ran SET_LAST_LISTED.now params old new count) (λ i. lends (is0 i) ∷ lends (is1 i) ∷ []) given in
+      let it = counted_turned SET_LAST_LISTED.now params old new count ran both.shown.schema stored_listed (λ (row : Listed). row.serial) columns.listed (has_passed now) (with_last_listing n) 9 listed
       (op2 (Is Binary) (col 1 6) (lit Null) ∷ below (col 1 5) (col 0 1) ∷ []) (col 1 1 ∷ col 1 2 ∷ col 1 3 ∷ col 1 4 ∷ col 1 5 ∷ col 0 0 ∷ []) refl mark_listed_means refl
       (λ id row its. passed_test n now id row) (λ id row. simp cast_int) (λ row its. its) both.kept.listed both.kept.listed_serials in
       both_after 15 old.now new.now records records columns (with_last_listings n now columns) both it.0.keeps_schema (turns_spares listed _ _ old.now.trees new.now count it.0)

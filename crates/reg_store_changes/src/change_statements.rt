@@ -54,7 +54,6 @@ fn revoked_and_added(change: &Change<'_>) -> (u64, u64)
     }
 }
 
-/// Sets the counts and the last accepted moment.
 fn set_counts_and_last<S: Alter>(
     conn: &mut Connection<S>,
     now: Moment,

@@ -1,4 +1,4 @@
-//! Replaces the stored Name of the issuer and the key identifiers after it: those that were set for its CRLs (RFC 5280 5.2.1) instead of SHA-1.
+//! Replaces the issuer's stored Name and the key identifiers after it, which its CRLs have instead of the SHA-1 of its key (RFC 5280 5.2.1).
 
 ghost use Rattle.reg_store_tables.specs.Stays.{Stepped};
 ghost use Rattle.reg_store_changes.specs.ChangeSteps.{ReplacesIssuer};

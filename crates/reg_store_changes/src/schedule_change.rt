@@ -1,4 +1,4 @@
-//! Replaces the schedule of longest validities. A step has a moment and the longest validity, in days, of a certificate from then on.
+//! Replaces the schedule of longest validities. A step has a notBefore, and the longest validity in days of certificates from this notBefore on.
 
 ghost use Rattle.reg_store_tables.specs.Stays.{Stepped};
 ghost use Rattle.reg_store_changes.specs.ChangeSteps.{ClearsSteps, WritesSchedule};
@@ -31,8 +31,8 @@ fn write_schedule<S: Alter>(
 }
 
 /// Sets the schedule, in a transaction of its own. The call is no command: other records, the derived tables, the last accepted moment and the
-/// column `days` of `office` (of the register's creation) don't change. Errors: `Memory`; `Store` if the database fails, or if a transaction is
-/// under way. An error changes nothing, unless the disk failed in the commit.
+/// column `days` of `office` (the longest validity at the register's creation) don't change. Errors: `Memory`; `Store` if the database fails, or
+/// if a transaction is under way. An error changes nothing, unless the disk failed in the commit.
 pub fn set_schedule<S: Alter>(
     conn: &mut Connection<S>,
     schedule: &Schedule,

@@ -1,5 +1,5 @@
 //! The SQL of the statements of a change, over the tables of reg_store_tables `schema.rt`. An UPDATE without a WHERE is of a table with one row. One
-//! with a WHERE finds its rows by a key or an index, except `MARK_LISTED`, which scans the table `listed`.
+//! with a WHERE finds its rows by a key or an index, except `SET_LAST_LISTED`, which scans the table `listed`.
 
 pub(crate) const BEGIN: &str = "BEGIN";
 
@@ -40,7 +40,7 @@ pub(crate) const PUT_LISTED: &str =
 
 pub(crate) const PUT_CRL: &str = "INSERT INTO crl (number, this_update, der) VALUES (?1, ?2, ?3)";
 
-pub(crate) const MARK_LISTED: &str =
+pub(crate) const SET_LAST_LISTED: &str =
     "UPDATE listed SET last_listed = ?1 WHERE last_listed IS NULL AND not_after < ?2";
 
 pub(crate) const CLEAR_STEPS: &str = "DELETE FROM longest";

@@ -55,7 +55,7 @@ pub(crate) fn set_last_listed<S: Alter>(
 {
     let number = sql_number(number)?;
     let this_update = sql_moment(this_update);
-    write(conn, sql::MARK_LISTED, &[number, this_update])?;
+    write(conn, sql::SET_LAST_LISTED, &[number, this_update])?;
     Ok(())
 }
 
@@ -74,7 +74,6 @@ pub(crate) fn set_counts<S: Alter>(
     Ok(())
 }
 
-/// Sets the moment of the last accepted command.
 pub(crate) fn set_last<S: Alter>(conn: &mut Connection<S>, now: Moment) -> Result<(), DatabaseFault>
     ensures made { MakesRowsWithin S.Store conn.old conn.new result (TurnsRecords (λ records. touched records now)) }
     ensures stepped { StepsWithin S.Store conn.old conn.new }

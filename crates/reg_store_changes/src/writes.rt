@@ -1,5 +1,5 @@
-//! Statements that write inside a transaction, on a connection that look-ups use as well. (The `Transaction` of the crate `sqlite` lends its
-//! connection to nobody.)
+//! Statements that write inside a transaction, on a connection that look-ups use as well. (A `Transaction` of the crate `sqlite` keeps its connection
+//! to itself, so they don't use one.)
 
 ghost use Rattle.std.specs.Prelude.{◌≡◌, IfOk, OnOk, true};
 ghost use Rattle.sqlite.specs.Held.{state};
@@ -42,9 +42,9 @@ pub fn begin<S: Alter>(conn: &mut Connection<S>) -> Result<(), DatabaseFault>
     Ok(())
 }
 
-/// Ends the transaction that is under way: commits it if `made` is `Ok`, or rolls it back and returns the error of `made`. If the commit fails, the
-/// transaction is rolled back, unless the disk failed. Errors of the commit: `Memory`; `Store` if the database fails, or if an earlier failure has
-/// ended the transaction.
+/// Ends the transaction that is under way: commits it if `made`, the result of its changes, is `Ok`, or rolls it back and returns that error. If the
+/// commit fails, the transaction is rolled back, unless the disk failed. Errors of the commit: `Memory`; `Store` if the database fails, or if
+/// an earlier failure has ended the transaction.
 pub fn end<S: Alter>(
     conn: &mut Connection<S>,
     made: Result<(), DatabaseFault>,

@@ -1,4 +1,4 @@
-//! Rebuilds the derived table `listed`.
+//! Rebuilds the derived table `listed`: each revocation's CRL entry, its certificate's notAfter, and the numbers of the first and last CRL with it.
 
 ghost use Rattle.std.specs.Prelude.{◌≡◌, ◌&&◌, nat_le, nat_lt, IfOk};
 ghost use Rattle.sqlite_value.specs.Value.{owned};
@@ -17,7 +17,7 @@ use reg_store_tables::write_statements::{sql_moment, sql_number, sql_reason, wri
 use sqlite::types::ValueRef;
 use sqlite::{Alter, Transaction};
 
-/// Whether the CRL's number is at least `first` and its thisUpdate is after `not_after`: no later CRL lists the revocation.
+/// Whether the CRL is not before number `first`, a revocation's first CRL, and is issued after its certificate's notAfter: no later CRL lists it.
 fn can_be_last_listing(crl: &CrlRow, first: u64, not_after: Moment) -> bool
     ensures { result ≡ (nat_le first crl.now.number && nat_lt not_after crl.now.this_update) }
 {
@@ -25,7 +25,7 @@ fn can_be_last_listing(crl: &CrlRow, first: u64, not_after: Moment) -> bool
 }
 
 /// The number of the last CRL that lists a revocation: the earliest, numbered `first` or more, with a thisUpdate after `not_after` (RFC 5280 3.3).
-/// `None` if it is not issued yet. Right only if the numbers rise and the thisUpdates do not fall, because it is a binary search.
+/// `None` if it is not issued yet. Right only if, over `crls`, the numbers rise and the thisUpdates do not fall, because it is a binary search.
 fn last_listing(crls: &[CrlRow], first: u64, not_after: Moment) -> Option<u64>
     ensures { AreIssued crls.now → result ≡ last_in crls.now first not_after }
 {
@@ -45,7 +45,6 @@ fn sql_number_or_null(number: Option<u64>) -> Result<ValueRef<'static>, Database
     }
 }
 
-/// Inserts a revocation's row into `listed`, given its certificate's notAfter.
 fn put_listing<S: Alter>(
     tx: &mut Transaction<'_, S>,
     row: RevocationRow,
@@ -95,7 +94,7 @@ fn rebuild_listed_rows<S: Alter>(
     Ok(())
 }
 
-/// Inserts each revocation's row into `listed`.
+/// Inserts each revocation's row into `listed`, which has no rows so far.
 pub(crate) fn rebuild_listed<S: Alter>(tx: &mut Transaction<'_, S>) -> Result<(), DatabaseFault>
     ensures made { ContinuesRows S.Store tx.old tx.new result Relists }
     ensures stepped { Stepped S.Store tx.old tx.new }

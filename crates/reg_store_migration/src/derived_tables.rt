@@ -20,7 +20,7 @@ fn fill_letters<S: Alter>(tx: &mut Transaction<'_, S>, last: Moment) -> Result<(
     Ok(())
 }
 
-/// Fills the derived tables, which have only counts of 0 before, as at the moment `last`.
+/// Fills the derived tables, which have only counts of 0 so far, as of the last accepted moment, `last`.
 pub(crate) fn rebuild_derived_tables<S: Alter>(
     tx: &mut Transaction<'_, S>,
     last: Moment,

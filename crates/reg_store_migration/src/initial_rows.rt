@@ -20,7 +20,7 @@ fn set_version<S: Alter>(tx: &mut Transaction<'_, S>) -> Result<(), DatabaseFaul
     Ok(())
 }
 
-/// Inserts the row of the table `kept`, with counts of 0. Errors: `Memory`; `Store` if the database fails or already has the row.
+/// Inserts the row of `kept` (the counts of the state letters), all 0. Errors: `Memory`; `Store` if the database fails or already has the row.
 pub fn put_counts<S: Alter>(tx: &mut Transaction<'_, S>) -> Result<(), DatabaseFault>
     ensures made { MakesRows S.Store tx.old tx.new result PutsCounts }
     ensures stepped { Stepped S.Store tx.old tx.new }
@@ -29,7 +29,7 @@ pub fn put_counts<S: Alter>(tx: &mut Transaction<'_, S>) -> Result<(), DatabaseF
     Ok(())
 }
 
-/// Makes the tables those of version 3: the schedule has one step, `days` from 1970 on, and the derived tables have only counts of 0.
+/// Makes the tables of version 3. The schedule has one step, a longest validity of `days` from 1970 on. Of the derived tables, only `kept` has a row.
 pub(crate) fn begin<S: Alter>(
     tx: &mut Transaction<'_, S>,
     version: OlderVersion,

@@ -27,10 +27,9 @@ fn migrate_tables<S: Alter>(
     rebuild_derived_tables(tx, last)
 }
 
-/// Migrates a register of an older version to the program's version, in one transaction: the records stay, and the derived tables
-/// are rebuilt. `days` is its longest validity in days, `last` its last accepted moment; the caller has checked both. Errors: `Memory`; `Store`
-/// if the database fails or already has a table or an index of a newer version; `Store` too if a row is missing or has an invalid value. An
-/// error changes nothing, unless the disk failed in the commit.
+/// Migrates a register of an older version to the program's version, in one transaction: the records stay, and the derived tables are rebuilt.
+/// `days` is its longest validity in days, `last` its last accepted moment; the caller has checked both. Errors: `Memory`; `Store` if the database
+/// fails or already has newer tables or indexes, or if a row is missing or invalid. An error changes nothing, unless the disk failed in the commit.
 pub fn migrate<S: Alter>(
     conn: &mut Connection<S>,
     version: OlderVersion,

@@ -21,7 +21,7 @@ pub fn define<S: Alter>(tx: &mut Transaction<'_, S>, sql: &str) -> Result<(), Da
     Ok(())
 }
 
-/// Makes the derived tables, without rows.
+/// Makes the derived tables, without rows: the certificates' state letters (`standing`), the counts of them (`kept`), the CRL entries (`listed`).
 pub fn make_derived_tables<S: Alter>(tx: &mut Transaction<'_, S>) -> Result<(), DatabaseFault>
     ensures made { Makes S.Store tx.old tx.new result AddsDerivedTables }
     ensures stepped { Stepped S.Store tx.old tx.new }
@@ -41,7 +41,7 @@ fn clear_derived_tables<S: Alter>(tx: &mut Transaction<'_, S>) -> Result<(), Dat
     Ok(())
 }
 
-/// Makes the derived tables (version 1), or deletes their rows (version 2).
+/// Makes the derived tables (version 1), or deletes their rows (version 2). Later steps of the migration fill them from the records.
 fn make_or_clear_derived_tables<S: Alter>(
     tx: &mut Transaction<'_, S>,
     version: OlderVersion,
@@ -55,7 +55,7 @@ fn make_or_clear_derived_tables<S: Alter>(
     }
 }
 
-/// Makes the table of the schedule, without rows, and the indexes `crl_at` and `standing_due`.
+/// Makes the table of the schedule (`longest`), without rows, and the indexes `crl_at` and `standing_due`.
 pub fn make_schedule_and_indexes<S: Alter>(tx: &mut Transaction<'_, S>) -> Result<(), DatabaseFault>
     ensures made { Makes S.Store tx.old tx.new result AddsSchedule }
     ensures stepped { Stepped S.Store tx.old tx.new }

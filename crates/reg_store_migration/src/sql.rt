@@ -11,8 +11,7 @@ pub const SET_VERSION: &str = "UPDATE office SET version = 3";
 pub const PUT_COUNTS: &str =
     "INSERT INTO kept (one, n_good, n_revoked, n_expired) VALUES (1, 0, 0, 0)";
 
-/// Inserts each certificate's state letter at the moment `?1`. The rows come in the order of serial numbers, so that the index on them grows only
-/// at its end.
+/// Inserts each certificate's state letter at the moment `?1`, in the order of serial numbers, so that the index of serial numbers grows at its end.
 pub const FILL_LETTERS: &str =
     "INSERT INTO standing (serial, not_after, state) SELECT serial, not_after, CASE WHEN EXISTS (SELECT 1 FROM revocation WHERE revocation.serial = cert.serial) THEN 'R' WHEN not_after < ?1 THEN 'X' ELSE 'G' END FROM cert ORDER BY serial";
 

@@ -1,4 +1,4 @@
-//! How many certificates have each state letter.
+//! How many certificates have each state letter in the table `standing`: `G` (good), `R` (revoked), `X` (expired).
 
 ghost use Rattle.std.specs.Prelude.{◌≡◌, ℕ, [], ◌∷◌, Bool, bytes_eq, IfOk};
 ghost use Rattle.reg_store_tables.specs.DerivedRows.{Letter, letter_counts, letter_text, with_letter};

@@ -35,7 +35,7 @@ fn make_register<S: Alter>(
     fill(tx, issuer, policy)
 }
 
-/// Makes the tables and their first rows, in one transaction.
+/// Makes (founds) a register: its tables and their first rows, in one transaction.
 fn found<S: Alter>(
     conn: &mut Connection<S>,
     issuer: &Issuer,
@@ -50,9 +50,8 @@ fn found<S: Alter>(
     commit(tx)
 }
 
-/// Makes the tables of a register with no records, with this issuer, this policy, and 1970-01-01T00:00:00Z as last accepted moment. Errors:
-/// `NotEmpty` if the database has a table, an index or a view; `Memory`; `Store` if the database fails. An error changes nothing, unless the
-/// disk failed in the commit.
+/// Creates a register with this issuer and policy, without records. Its last accepted moment is 1970-01-01T00:00:00Z. Errors: `NotEmpty` if the
+/// database has a table, an index or a view; `Memory`; `Store` if the database fails. An error changes nothing, unless the disk failed in the commit.
 pub fn create<S: Alter>(
     conn: &mut Connection<S>,
     issuer: &Issuer,

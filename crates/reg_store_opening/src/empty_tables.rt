@@ -1,4 +1,4 @@
-//! Makes the tables and indexes of a register, without rows.
+//! Makes the tables and indexes of a register, without rows. `schema` of reg_store_tables says what each has; `office` has the version and issuer.
 
 ghost use Rattle.reg_store_tables.specs.Schema.{no_schema, record_tables, register_schema};
 ghost use Rattle.reg_store_tables.specs.Stays.{Stepped};
@@ -9,7 +9,6 @@ use reg_store_migration::missing_tables::{define, make_derived_tables, make_sche
 use reg_store_tables::{DatabaseFault, schema};
 use sqlite::{Alter, Transaction};
 
-/// Makes the tables `office`, `subscriber`, `orders` and `cert`.
 fn make_entry_tables<S: Alter>(tx: &mut Transaction<'_, S>) -> Result<(), DatabaseFault>
     ensures made { Makes S.Store tx.old tx.new result (Grows no_schema entry_tables) }
     ensures stepped { Stepped S.Store tx.old tx.new }
@@ -29,7 +28,6 @@ fn make_revocation_tables<S: Alter>(tx: &mut Transaction<'_, S>) -> Result<(), D
     define(tx, schema::CRL)
 }
 
-/// Makes all tables and indexes, in a database that has none.
 pub(crate) fn make_empty_tables<S: Alter>(tx: &mut Transaction<'_, S>) -> Result<(), DatabaseFault>
     ensures made { Makes S.Store tx.old tx.new result (Grows no_schema register_schema) }
     ensures stepped { Stepped S.Store tx.old tx.new }

@@ -1,4 +1,4 @@
-//! The first rows of a register's tables.
+//! The first rows of a register's tables: one of `office`, one of `kept` (counts of 0), and the steps of the schedule.
 
 ghost use Rattle.reg_store_tables.specs.Schema.{register_schema};
 ghost use Rattle.reg_store_tables.specs.Stays.{Stepped};
@@ -14,6 +14,7 @@ use reg_store_tables::{DatabaseFault, put_schedule_steps};
 use sqlite::types::ValueRef;
 use sqlite::{Alter, Transaction};
 
+/// Inserts the one row of `office`: version 3, issuer, policy; of its schedule only `days`, the greatest longest validity. Lives are in seconds.
 fn put_office<S: Alter>(
     tx: &mut Transaction<'_, S>,
     issuer: &Issuer,

@@ -1,4 +1,4 @@
-//! Checks the row of the table `office` (issuer, policy, last accepted moment) and the steps of the schedule.
+//! Checks the row of the table `office` (issuer, policy, last accepted moment; columns as in `sql::OLDER_OFFICE`) and the steps of the schedule.
 
 ghost use Rattle.std.specs.Prelude.{◌≡◌, ◌≢◌, ◌⊎◌, ◌<◌, ◌≤◌, ℕ, List, [], ◌∷◌, IfOk, IfErr, Err, MatchOption, MatchResult};
 ghost use Rattle.sqlite_value.specs.Order.{Row as Cells, column};

@@ -1,4 +1,4 @@
-//! Runs statements that only read, over any tables, perhaps not a register's.
+//! Runs statements that only read, over any tables: those of a database that may not be a register.
 
 ghost use Rattle.std.specs.Prelude.{◌≡◌, ◌⊎◌, false, IsTrue, IfErr};
 ghost use Rattle.sqlite.specs.Held.{state};
@@ -12,8 +12,8 @@ ghost use Rattle.reg_store_tables.specs.Steps.{Asks, WhileOpen};
 use reg_store_tables::StoreFault;
 use sqlite::{Alter, Error, ErrorCode, Row, Transaction};
 
-/// The fault for a statement that failed: `Memory`; `Store` if the disk, a closed connection or the limit on steps is the cause; otherwise
-/// `NotARegister`.
+/// The fault for a failed statement: `Memory`; `Store` if the disk failed, the file is corrupt, the connection is closed, or the statement reached
+/// the limit on steps of the crate `sqlite`; else `NotARegister`, as for a table that does not exist.
 fn unread(error: Error) -> StoreFault
     ensures call { IsTrue (is_call_error error) → IsDatabaseFault result }
     ensures other { is_call_error error ≡ false → result ≡ StoreFault.NotARegister }

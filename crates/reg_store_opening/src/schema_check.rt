@@ -9,7 +9,7 @@ use reg_store_schema::{Version, version_of};
 use sqlite::{Alter, Connection};
 use std::alloc::{AllocError, Global};
 
-/// Whether `tables`, the version that has the schema, is `version`, which is `None` for the program's version.
+/// Whether `tables`, the version whose schema the database has (`None`: no version has it), is `version` (`None`: the program's version).
 pub(crate) fn is_same(tables: Option<Version>, version: Option<OlderVersion>) -> bool
     ensures { IsTrue result ↔ (tables ≡ Some (version_or_current version)) }
 {
@@ -20,8 +20,7 @@ pub(crate) fn is_same(tables: Option<Version>, version: Option<OlderVersion>) ->
     }
 }
 
-/// The version whose schema the database has; `None` if no version has it. No transaction is under way, so the schema is the one that
-/// was committed last. Error: out of memory.
+/// The version whose schema the database has, if any. No transaction is under way, so this is the schema that was committed last.
 pub(crate) fn schema_version<S: Alter>(
     alloc: Global,
     conn: &Connection<S>,
@@ -31,6 +30,7 @@ pub(crate) fn schema_version<S: Alter>(
     ensures settled { IsTrue (state S.Store conn.now).is_open
         → (state S.Store conn.now).now ≡ (state S.Store conn.now).committed }
 {
+    // Rattle's `debug_assert!`, proved before the program runs. The clause `settled` follows from it.
     prove!(conn.is_autocommit());
     version_of(alloc, conn.schema())
 }

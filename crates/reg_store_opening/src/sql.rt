@@ -9,6 +9,6 @@ pub const VERSION: &str = "SELECT version FROM office";
 /// The columns of the row of `office` that an opening checks after the version. In version 3 only an audit reads `days`.
 pub const OFFICE: &str = "SELECT name, pubkey, crl_life, ocsp_life, cap, last_at FROM office";
 
-/// The same columns in an older version, and `days`: the schedule is the one step of these days.
+/// The same columns in an older version, and `days`: its schedule is one step, this longest validity from 1970 on.
 pub const OLDER_OFFICE: &str =
     "SELECT name, pubkey, crl_life, ocsp_life, cap, last_at, days FROM office";

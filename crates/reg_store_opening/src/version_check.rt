@@ -1,4 +1,4 @@
-//! Checks the tables of an opened database before they are used, and migrates those of an older version.
+//! Checks an opened database, and migrates an older version. `office` has one row: version, issuer, policy (but its schedule), last accepted moment.
 
 ghost use Rattle.std.specs.Prelude.{◌≡◌, ◌≢◌, ◌⊎◌, Option, Some, false, IsTrue, MatchResult, OnOk, IfOk, IfErr};
 ghost use Rattle.sqlite.specs.Held.{state};
@@ -103,12 +103,9 @@ fn check_tables<S: Alter>(tx: &mut Transaction<'_, S>) -> Result<Option<OlderOff
     }
 }
 
-/// Checks the version, the row of `office` and the steps of the schedule, and returns the values of an older version; `None` if they
-/// are of the program's version. The call does not check the schema, and changes nothing.
-///
-/// # Errors
-/// `NotARegister` if the row of `office` or the schedule can't be read, or a value is out of range; `NewVersion` if the version
-/// is above 3; `Memory`; `Store` if the database fails.
+/// Checks the version, the row of `office` and the steps of the schedule. Returns the values of an older version; `None` for the program's. The call
+/// does not check the schema, and changes nothing. Errors: `NotARegister` if the row of `office` or the schedule can't be read, or a value is out of
+/// range; `NewVersion` if the version is above 3; `Memory`; `Store` if the database fails.
 pub fn examine<S: Alter>(conn: &mut Connection<S>) -> Result<Option<OlderOffice>, StoreFault>
     requires { conn.old.in_transaction ≡ false }
     ensures ok { HasCleanDisk (state S.Store conn.new)
@@ -142,6 +139,7 @@ fn version_in(found: Option<OlderOffice>) -> Option<OlderVersion>
     }
 }
 
+/// Checks that `tables`, the version whose schema the database has, is the version in the row of `office`, as [`check_tables`] `found` it.
 fn check_schema(tables: Option<Version>, found: Option<OlderOffice>) -> Result<(), StoreFault>
     ensures ok { OnOk result (tables ≡ Some (version_or_current (found_version found))) }
     ensures err { IfErr result (λ fault. (fault ≡ StoreFault.NotARegister)
@@ -154,12 +152,10 @@ fn check_schema(tables: Option<Version>, found: Option<OlderOffice>) -> Result<(
 }
 
 /// Checks that the schema, the row of `office` and the schedule are a register's. If the version is the program's, the call changes
-/// nothing. Tables of version 1 or 2 are migrated to the program's version in one transaction: the records stay, and the derived tables
-/// are rebuilt from them. The schema is read before the office, and nothing is written in between.
-///
-/// # Errors
-/// Those of [`examine`] and, for an older version, of [`migrate`]; `NotARegister` too if the schema (tables with their columns and keys,
-/// indexes, views) is not that of the version. An error changes nothing, unless the disk failed in the commit.
+/// nothing. Tables of version 1 or 2 are migrated to version 3, the program's, in one transaction: the records stay, and the
+/// derived tables are rebuilt from them. The schema is read before the row of `office`; nothing is written in between, so they belong together.
+/// Errors: those of [`examine`] and, for an older version, of [`migrate`]; `NotARegister` also if the schema (tables with columns and keys, indexes,
+/// views) is not that of the version. An error changes nothing, unless the disk failed in the commit.
 pub fn open<S: Alter>(alloc: Global, conn: &mut Connection<S>) -> Result<(), StoreFault>
     requires { conn.old.in_transaction ≡ false }
     ensures opens { OnOk result (Opens S.Store conn.old conn.new) }

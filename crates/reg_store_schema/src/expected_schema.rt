@@ -13,9 +13,9 @@ use sqlite_resolve::{define_index, define_table};
 use sqlite_schema::schema::{Index, Schema, Table};
 use std::alloc::{AllocError, Global};
 
-// Here only an allocation can fail: each statement is valid, and each name is UTF-8.
+// Here only an allocation can fail, because each statement is valid and each name is UTF-8. So each error becomes `AllocError`.
 
-/// Adds the automatic index of one UNIQUE of a table, that with index `at`.
+/// Adds the automatic index of one UNIQUE of a table, the one with index `at`, counted from 0.
 fn add_key(
     alloc: Global,
     indexes: &mut Items<Index>,
@@ -34,7 +34,7 @@ fn add_key(
     indexes.push(index)
 }
 
-/// Adds the automatic index of each UNIQUE of a table.
+/// Adds the automatic index of each UNIQUE of a table. The numbers of their B-trees follow the table's.
 fn add_keys(alloc: Global, indexes: &mut Items<Index>, table: &Table) -> Result<(), AllocError>
     ensures { OnOk result
         (indexes.new ≡ indexes.old ++ automatics table.now 0 (table.now.tree + 1) table.now.uniques) }
@@ -48,6 +48,7 @@ fn add_keys(alloc: Global, indexes: &mut Items<Index>, table: &Table) -> Result<
     Ok(())
 }
 
+/// The number of the next B-tree; tables and indexes are numbered in the order in which they are made.
 fn next_tree(made: &Schema) -> Result<u32, AllocError>
     ensures { IfOk result (λ tree. tree ≡ next_tree made.now) }
 {
@@ -85,7 +86,7 @@ fn add_index(alloc: Global, made: &mut Schema, at: usize, text: &str) -> Result<
     made.indexes.push(index)
 }
 
-/// Adds the tables of the office and the records to an empty schema.
+/// Adds to an empty schema the table `office` (one row: version, issuer, policy, last accepted moment) and the tables of the other records.
 pub(crate) fn add_records(alloc: Global, made: &mut Schema) -> Result<(), AllocError>
     ensures { made.old ≡ no_schema → OnOk result (made.new ≡ record_tables) }
 {
@@ -98,6 +99,8 @@ pub(crate) fn add_records(alloc: Global, made: &mut Schema) -> Result<(), AllocE
     add_table(alloc, made, schema::CRL)
 }
 
+/// Adds the tables derived from the records: each certificate's state letter (`standing`), the counts of the letters (`kept`), the CRL entries
+/// (`listed`).
 pub(crate) fn add_derived_tables(alloc: Global, made: &mut Schema) -> Result<(), AllocError>
     ensures { made.old ≡ record_tables → OnOk result (made.new ≡ with_derived_tables) }
 {
@@ -106,7 +109,7 @@ pub(crate) fn add_derived_tables(alloc: Global, made: &mut Schema) -> Result<(),
     add_table(alloc, made, schema::LISTED)
 }
 
-/// Adds the table of the schedule, and one index each of the tables `crl` and `standing`.
+/// Adds `longest`, which has the schedule's steps, an index of table 6 (`crl`) and one of table 7 (`standing`). Tables are counted from 0.
 pub(crate) fn add_schedule_and_indexes(alloc: Global, made: &mut Schema) -> Result<(), AllocError>
     ensures { made.old ≡ with_derived_tables → OnOk result (made.new ≡ register_schema) }
 {

@@ -1,4 +1,4 @@
-//! Finds the version that has a schema: the program's, an older one, or none.
+//! Recognizes the version of a register by its schema: the program's, an older one, or none.
 #![tactic(auto)]
 
 mod expected_schema;

@@ -62,6 +62,7 @@ impl Same for Bytes {
     }
 }
 
+// `digits` has three bits for each column: its collation, and whether it descends.
 impl Same for Order {
     fn is_same(&self, other: &Order) -> bool {
         self.digits == other.digits
@@ -90,6 +91,7 @@ impl Same for Reference {
     }
 }
 
+// The defaults that read the time, such as CURRENT_TIMESTAMP: the places of their columns, their terms, and the `strftime` formats in these.
 impl Same for Stamps {
     fn is_same(&self, other: &Stamps) -> bool {
         self.places.is_same(&other.places)
@@ -153,7 +155,8 @@ impl Same for Index {
     }
 }
 
-// A view, a trigger, or a table or an index that the crate `sqlite` keeps as it is (`foreign`, `binds`, `is_bound`).
+// A view, or what the crate `sqlite` only keeps as it is: a trigger or an index that it can't read (`binds`), a table with one of these (`is_bound`),
+// or a table that it can't read, and its indexes. `foreign` is the table's name. A register has none.
 impl Same for View {
     fn is_same(&self, other: &View) -> bool {
         self.name.is_same(&other.name)

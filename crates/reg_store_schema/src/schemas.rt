@@ -1,4 +1,4 @@
-//! Finds the version that has a schema.
+//! Recognizes the version of a register by its schema.
 
 ghost use Rattle.std.specs.Prelude.{◌≡◌, ◌↔◌, Some, IfOk, IsTrue};
 ghost use Rattle.reg_store_tables.specs.Schema.{register_schema};
@@ -11,10 +11,7 @@ use sqlite_schema::schema::Schema;
 use std::alloc::{AllocError, Global};
 
 /// The version that has exactly this schema: the same tables, with their columns, keys, CHECKs and references, and the same indexes, all
-/// made in the same order, and no view or trigger. `None` if no version has it.
-///
-/// # Errors
-/// Out of memory.
+/// made in the same order, and no view or trigger. `None` if no version has it. Each version adds to the one before, so `made` grows from 1 to 3.
 pub fn version_of(alloc: Global, schema: &Schema) -> Result<Option<Version>, AllocError>
     ensures { IfOk result
         (λ found. (version : Version) → (found ≡ Some version) ↔ (schema.now ≡ version_schema version)) }
@@ -45,9 +42,6 @@ fn is_third(version: Option<Version>) -> bool
 }
 
 /// Whether a schema is that of a register of the program's version.
-///
-/// # Errors
-/// Out of memory.
 pub fn is_register(alloc: Global, schema: &Schema) -> Result<bool, AllocError>
     ensures { IfOk result (λ is. IsTrue is ↔ (schema.now ≡ register_schema)) }
 {

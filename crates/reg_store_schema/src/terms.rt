@@ -10,7 +10,7 @@ use sqlite_schema::code::{Op, Terms, lend_value};
 use sqlite_value::order;
 use sqlite_value::value::Value;
 
-/// A term: the nodes, the depth to which they are read, and the index of its root.
+/// A term: the nodes, the depth to which they are read, so that a reading ends, and the index `at` of its root among them.
 #[derive(Clone, Copy)]
 struct TermRef<'a> {
     nodes: &'a [Op],
@@ -58,6 +58,7 @@ fn is_null(term: TermRef<'_>) -> bool
     }
 }
 
+/// Whether two terms are the same. `a`, `b` are operands on the left, `c`, `d` on the right. A column has a slot (a row in a statement) and an index.
 fn same_term(left: TermRef<'_>, right: TermRef<'_>) -> bool
     ensures { IsTrue result ↔ (term_to left.entry.nodes.now left.entry.depth left.entry.at
         ≡ term_to right.entry.nodes.now right.entry.depth right.entry.at) }
@@ -116,7 +117,7 @@ fn root(nodes: &[Op], at: usize) -> TermRef<'_>
     }
 }
 
-/// Whether the terms with these roots are the same, one by one.
+/// Whether the terms with the indexes `roots` in `left` are the same, one by one, as those with the indexes `others` in `right`.
 fn are_same(left: &[Op], roots: &[usize], right: &[Op], others: &[usize]) -> bool
     ensures { IsTrue result ↔ (terms_in left.now roots.entry.now ≡ terms_in right.now others.entry.now) }
 {

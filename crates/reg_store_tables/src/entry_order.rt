@@ -1,5 +1,5 @@
-//! Look-ups of the first rows after a number of rows, at most `most` of them, in the order of entry; and of declined requests. `Store` too for a
-//! number above 2^63 - 1.
+//! Reads a page of a table in the order of entry: at most `most` rows after the first `after` ones. Looks up declined requests. A number above
+//! 2^63 - 1 gives `DatabaseFault::Store`.
 
 ghost use Rattle.std.specs.Prelude.{◌≡◌, ◌<◌, ◌^◌, ◌&&◌, drop, filter, length, map, nat_le, nat_lt, take};
 ghost use Rattle.reg_core.specs.Sound.{SoundRows};
@@ -77,7 +77,7 @@ impl Entered for RevocationRow {
 }
 
 impl<S: Alter> Tables<S> {
-    /// The rows of a table after the first `after` ones.
+    /// The rows of a table after the first `after` ones, whose ids or rowids are 1 to `after`; at most `most` rows.
     pub fn entered_after<T: Entered>(
         &mut self,
         after: u64,
@@ -89,7 +89,7 @@ impl<S: Alter> Tables<S> {
         look_up_page::<S, T>(&mut self.connection, T::entered_sql(), after, most)
     }
 
-    /// The ids of the declined requests past an id, ascending. The call scans the table `request` from that id on.
+    /// The ids of the declined requests past the id `after`, ascending, at most `most` ids. The call scans the table `request` from that id on.
     pub fn declined_after(&mut self, after: u64, most: u64) -> Result<Vec<u64>, DatabaseFault>
         ensures { FindsIf (λ _. (after < 2 ^ 63) × (most < 2 ^ 63)) S.Store self.old self.new result
             (λ records found.

@@ -10,16 +10,14 @@ use std::alloc::{AllocError, AllocFailed};
 /// Why a call on an open register fails.
 #[derive(Clone, Copy, PartialEq, Eq)]
 pub enum DatabaseFault {
-    /// Out of memory.
     Memory,
-    /// The database failed, its rows are not those of a register, a change does not fit them, or a number is above 2^63 - 1 (SQL's INTEGER).
+    /// The database failed, its rows are not those of a register, a change does not fit them, or a number is above 2^63 - 1, SQL's greatest INTEGER.
     Store,
 }
 
 /// Why a register is not created or opened, or why a call on it fails.
 #[derive(Clone, Copy, PartialEq, Eq)]
 pub enum StoreFault {
-    /// Out of memory.
     Memory,
     /// As [`DatabaseFault::Store`].
     Store,
@@ -34,7 +32,6 @@ pub enum StoreFault {
 /// Why rows can't be read.
 #[derive(Clone, Copy, PartialEq, Eq)]
 pub enum RowFault {
-    /// Out of memory.
     Memory,
     /// The row with this index, from 0 on, has a column of another type or an invalid value.
     At(usize),

@@ -1,4 +1,4 @@
-//! The register in SQL tables: what they show, the look-ups, and statements that write inside a transaction.
+//! The register in SQL tables: their schema, how a row is read, the look-ups, and statements that write inside a transaction.
 #![tactic(auto)]
 
 mod certificates;

@@ -20,7 +20,7 @@ use crate::tables::Tables;
 use reg_core::{Entry, Listing, Serial};
 use sqlite::{Alter, Row, params};
 
-/// The most entries of a CRL.
+/// The most entries of a CRL, because no table has more rows.
 const MOST_ENTRIES: usize = 1_000_000;
 
 fn ascends(entries: &[Entry]) -> bool
@@ -29,7 +29,7 @@ fn ascends(entries: &[Entry]) -> bool
     entries.is_sorted_by(|earlier, later| earlier.serial < later.serial)
 }
 
-/// The entries in the rows. `Store` if there are over 1,000,000, or if their serial numbers don't ascend.
+/// The entries in the rows. `Store` for over 1,000,000, or for serial numbers that don't ascend: the rows of a register have neither.
 fn entries_of(rows: &Vec<Row>) -> Result<Vec<Entry>, DatabaseFault>
     ensures read { (shown : List Entry) → AllByRecursion (λ entry. IsSerial entry.serial) shown
         → rows.now.items ≡ map shown_entry shown → IfOk result (λ found. found.items ≡ shown) }
@@ -52,7 +52,7 @@ fn entries_of(rows: &Vec<Row>) -> Result<Vec<Entry>, DatabaseFault>
 
 impl<S: Alter> Tables<S> {
     /// The entries of an issued CRL or of the next one, by its number, in ascending order of serial number: at most 1,000,000.
-    /// `Store` too if there are more, and for a number above 2^63 - 1. The call scans the table `listed`.
+    /// More entries, or a number above 2^63 - 1, give `DatabaseFault::Store`. The call scans the table `listed`.
     pub fn entries(&mut self, number: u64) -> Result<Vec<Entry>, DatabaseFault>
         ensures finds { FindsIf (λ _. number < 2 ^ 63) S.Store self.old self.new result (λ records found.
             ShowsKeptNow (state S.Store self.old) records → found.items ≡ entries records number) }
@@ -64,8 +64,8 @@ impl<S: Alter> Tables<S> {
         entries_of(&found)
     }
 
-    /// The number of the first CRL that lists a revoked serial number, which may not be issued yet, and that of the last one, if that has been
-    /// issued. `None` if the serial number is not revoked.
+    /// Which CRLs list a revoked serial number: the number of the first one, which is perhaps not issued yet, and of the last one, if it is issued.
+    /// `None` if the serial number is not revoked.
     pub fn listing(&mut self, serial: Serial) -> Result<Option<Listing>, DatabaseFault>
         ensures { Finds S.Store self.old self.new result (λ records found.
             ShowsKeptNow (state S.Store self.old) records → found ≡ listing records serial) }

@@ -42,7 +42,7 @@ impl<S: Alter> Tables<S> {
         policy(&mut self.connection)
     }
 
-    /// The last accepted moment, the issuer, and the life of OCSP responses (thisUpdate to nextUpdate) in seconds, read by one statement.
+    /// For an OCSP response: the last accepted moment, the issuer, and the response's life (thisUpdate to nextUpdate) in seconds, by one statement.
     pub fn ocsp_head(&mut self) -> Result<(Moment, Issuer, u64), DatabaseFault>
         ensures finds { Finds S.Store self.old self.new result (λ records it.
             (it.0 ≡ records.last) × (it.1 ≡ records.issuer) × (it.2 ≡ records.policy.ocsp_life)) }
@@ -53,7 +53,7 @@ impl<S: Alter> Tables<S> {
     }
 }
 
-/// The issuer in the columns `at` and `at + 1`.
+/// The issuer in the columns `at` (name) and `at + 1` (key). The bound of `at` shows the prover that the sum does not overflow.
 fn issuer_in(alloc: Global, row: &Row, at: usize) -> Result<Issuer, DatabaseFault>
     requires { at < 10 }
     ensures read { (issuer : Kept) → column row.now at ≡ Blob issuer.name

@@ -1,5 +1,5 @@
-//! Look-ups of open and overdue requests. A request is open if it was not declined and its certificate is good; it is overdue if it is open
-//! past its deadline.
+//! Look-ups of open and overdue requests. A request is open if it was not declined and its certificate is good. It is overdue if it is open after
+//! its deadline: the moment of its receipt plus the limit of its ground.
 
 ghost use Rattle.std.specs.Prelude.{◌≡◌, ◌≤◌, ◌+◌, ◌^◌, ◌&&◌, ◌<◌, ◌==◌, ◌++◌, List, [], ◌∷◌, length, min, not, filter, nat_lt, IfOk, IsSome, OnErr};
 ghost use Rattle.reg_core.specs.Due.{deadline, is_open, overdue, overdue_report};
@@ -15,7 +15,7 @@ use crate::tables::Tables;
 use reg_core::{Moment, Overdue, RequestRow, Serial, Status, status_of};
 use sqlite::{Alter, Connection, params};
 
-/// The requests that are not declined, in the order of their ids. It scans the table `request`.
+/// The requests that are not declined, in the order of their ids. The call scans the table `request`.
 fn undeclined<S: Alter>(conn: &mut Connection<S>) -> Result<Vec<RequestRow>, DatabaseFault>
     ensures { Finds S.Store conn.old conn.new result (λ records found.
         found.items ≡ filter (λ row. not row.declined) records.requests) }
@@ -103,8 +103,7 @@ impl<S: Alter> Tables<S> {
         Ok(report)
     }
 
-    /// How many requests are open at a moment. The call scans the table `request`, and looks up the certificate and the revocation of each
-    /// request that is not declined.
+    /// How many requests are open at a moment. The call reads the same rows as [`Tables::open_past_due`].
     pub fn open_count(&mut self, now: Moment) -> Result<u64, DatabaseFault>
         ensures { Finds S.Store self.old self.new result (λ records count.
             count ≡ length (filter (is_open records now) records.requests)) }
@@ -120,7 +119,7 @@ impl<S: Alter> Tables<S> {
     }
 
     /// How many requests for a serial number are open at a moment, counted up to `most`. If the certificate is good, the call scans the table
-    /// `request` back from its last row, until `most` are found; then `Store` too for a `most` above 2^63 - 1.
+    /// `request` back from its last row, until `most` are found; in this case a `most` above 2^63 - 1 gives `DatabaseFault::Store`.
     pub fn open_of(&mut self, serial: Serial, now: Moment, most: u64) -> Result<u64, DatabaseFault>
         ensures { FindsIf (λ _. most < 2 ^ 63) S.Store self.old self.new result (λ records count.
             count ≡ min most (length

@@ -1,4 +1,4 @@
-//! Look-ups of the first rows past a key, at most `most` of them, in the order of keys. `Store` too for a `most` above 2^63 - 1.
+//! Look-ups of the first rows past a key, at most `most` of them, in the order of keys. A number above 2^63 - 1 gives `DatabaseFault::Store`.
 
 ghost use Rattle.std.specs.Prelude.{◌≡◌, ◌<◌, ◌^◌, map, take};
 ghost use Rattle.reg_core.specs.Crls.{row_of};
@@ -15,7 +15,7 @@ use crate::tables::Tables;
 use reg_core::{CertRow, CrlRow, RevocationRow, Serial};
 use sqlite::{Alter, params};
 
-/// The bytes of a serial number, or those of 0, which is below all of them.
+/// The bytes of a serial number; for `None` those of 0, which is below each serial number.
 #[tactic(auto, unfolding(reg_core::specs::Serial::serial_bytes))]
 fn bytes_of(after: Option<Serial>) -> [u8; 20]
     ensures bytes { result ≡ serial_bytes (key_of after) }
@@ -66,7 +66,7 @@ impl<S: Alter> Tables<S> {
         )
     }
 
-    /// The CRLs past a number, without their bytes, in ascending order. `Store` too for a number above 2^63 - 1.
+    /// The CRLs past a number, without their bytes, in ascending order.
     pub fn crls_after(&mut self, after: u64, most: u64) -> Result<Vec<CrlRow>, DatabaseFault>
         ensures { FindsIf (λ _. (after < 2 ^ 63) × (most < 2 ^ 63))
             S.Store self.old self.new result (λ records found.

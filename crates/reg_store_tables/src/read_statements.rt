@@ -76,7 +76,7 @@ pub(crate) fn look_up_all<S: Alter, T: RowKind>(
     Ok(rows_in::<T>(*rows.allocator(), &rows)?)
 }
 
-/// The page that a statement reads: at most `most` rows after the number `after`. `Store` too for a number above 2^63 - 1.
+/// The page that a statement reads: at most `most` rows past the id, rowid or CRL number `after`. A number above 2^63 - 1 gives `Store`.
 pub(crate) fn look_up_page<S: Alter, T: RowKind>(
     conn: &mut Connection<S>,
     sql: &str,

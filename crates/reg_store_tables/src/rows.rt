@@ -237,7 +237,7 @@ impl RowKind for Listing {
     }
 }
 
-/// A step of the schedule: a moment, and the longest validity in days from it on.
+/// A step of the schedule: a notBefore, and the longest validity in days from this notBefore on.
 pub struct Step;
 
 impl RowKind for Step {
@@ -276,7 +276,7 @@ impl RowKind for Number {
     }
 }
 
-/// A row of one moment, before the clock's end.
+/// A row of one moment, before [`Moment::CLOCK_END`].
 pub(crate) struct ClockMoment;
 
 impl RowKind for ClockMoment {
@@ -297,7 +297,7 @@ impl RowKind for ClockMoment {
     }
 }
 
-/// A row of the lives of CRLs and of OCSP responses in seconds, and the cap.
+/// A row of the lives of CRLs and of OCSP responses in seconds, and the cap (the most rows of a table).
 pub(crate) struct Terms;
 
 impl RowKind for Terms {

@@ -38,12 +38,11 @@ pub const STANDING: &str =
 pub const KEPT: &str =
     "CREATE TABLE kept (one INTEGER PRIMARY KEY CHECK (one = 1), n_good INTEGER NOT NULL, n_revoked INTEGER NOT NULL, n_expired INTEGER NOT NULL) STRICT";
 
-/// The CRL entry of each revocation, its certificate's notAfter, and the numbers of the first and the last CRL that list it; the last is NULL
-/// until that CRL is issued.
+/// The CRL entry of each revocation, its certificate's notAfter, and the numbers of the first and last CRL that list it (last: NULL if not issued).
 pub const LISTED: &str =
     "CREATE TABLE listed (serial BLOB NOT NULL PRIMARY KEY REFERENCES revocation (serial), at INTEGER NOT NULL, reason INTEGER NOT NULL, first_crl INTEGER NOT NULL, not_after INTEGER NOT NULL, last_listed INTEGER) STRICT";
 
-/// The steps of the schedule: a moment, and the longest validity in days from then on.
+/// The steps of the schedule: a notBefore, and the longest validity in days from this notBefore on.
 pub const LONGEST: &str =
     "CREATE TABLE longest (from_at INTEGER PRIMARY KEY, days INTEGER NOT NULL) STRICT";
 

@@ -1,4 +1,4 @@
-//! How many rows the tables of the records have: the number of the last row, since rows are numbered from 1 on.
+//! How many rows the tables of the records have: the number of the last row, since rows are numbered from 1 on and never deleted.
 
 ghost use Rattle.std.specs.Prelude.{◌≡◌, ◌<◌, ◌≤◌, ◌^◌, None, IsTrue, OnOk};
 ghost use Rattle.sqlite.specs.Held.{state};
@@ -14,7 +14,7 @@ use crate::sql::{LAST_CERT, LAST_CRL, LAST_ORDER, LAST_REQUEST, LAST_SUBSCRIBER}
 use crate::tables::Tables;
 use sqlite::{Alter, Connection};
 
-/// The tables whose rows are compared with the policy's cap. `revocation` is not among them: it has no more rows than `cert`.
+/// The tables whose rows are counted against the policy's cap, the most rows of a table. `revocation` isn't: it can't have more rows than `cert`.
 #[derive(Clone, Copy, PartialEq, Eq)]
 pub enum Table {
     Subscribers,
@@ -55,7 +55,8 @@ pub(crate) fn held<S: Alter>(conn: &mut Connection<S>, table: Table) -> Result<u
     Ok(last.unwrap_or(0))
 }
 
-/// The look-up of a number above 2^63 - 1, the greatest SQL INTEGER. It finds nothing, since the number of the last row is lower.
+/// The look-up of a number above 2^63 - 1, the greatest SQL INTEGER: `None`. It reads the number of the last row, so that a database that fails is
+/// reported here, too. The comparison shows the prover that no row has the number.
 pub(crate) fn none_above_range<S: Alter, T>(
     conn: &mut Connection<S>,
     table: Table,

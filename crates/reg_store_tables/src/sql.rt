@@ -71,7 +71,7 @@ pub(crate) const REVOCATIONS_AFTER: &str =
 /// The first CRLs past a number, without their bytes, at most `?2` of them. It reads the index `crl_at`.
 pub(crate) const CRLS_AFTER: &str =
     "SELECT number, this_update FROM crl WHERE number > ?1 ORDER BY number LIMIT ?2";
-/// The first rows past an id or a rowid, in the order of entry, at most `?2` of them. Each statement reads no others.
+/// The first rows past an id or a rowid, in the order of entry, at most `?2` of them. These five statements read no others.
 pub(crate) const SUBSCRIBERS_ENTERED_AFTER: &str =
     "SELECT id, name FROM subscriber WHERE id > ?1 ORDER BY id LIMIT ?2";
 

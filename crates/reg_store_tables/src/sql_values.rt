@@ -1,5 +1,5 @@
-//! Converts numbers to SQL INTEGERs, and reads the columns of a row, counted from 0, as values of the register; `None` for a column of another
-//! type or with an invalid value. Clause `read`: a value that a register writes is read back. Clause `told`: the column has the value that is read.
+//! Converts numbers to SQL INTEGERs, and reads column `at` of a row, counted from 0, as a value of the register; `None` for a column of another type
+//! or with an invalid value. Clause `read`: a value that a register writes is read back. Clause `told`: the column has the value that is read.
 
 ghost use Rattle.std.specs.Prelude.{◌≡◌, ◌≢◌, ◌<◌, ◌≤◌, ◌^◌, ℕ, Bool, List, Option, cond, length, Some, OnOk, IfOk, IfErr, IfSome, IsSomeAnd, MatchOption};
 ghost use Rattle.sqlite_value.specs.declared.value.Value.TheVariants.{Text, Blob};
@@ -25,7 +25,7 @@ pub(crate) fn sql_key(n: u64) -> Option<Value>
     }
 }
 
-/// The longest life of a CRL or an OCSP response, from thisUpdate to nextUpdate, in seconds: one second less than ten days.
+/// The longest life of a CRL or an OCSP response, from thisUpdate to nextUpdate, in seconds: ten days less a second, as in `reg_core::Policy`.
 const LONGEST_LIFE: u64 = 863_999;
 
 /// As [`sql_key`], with `Store` for `None`.
@@ -53,7 +53,7 @@ pub fn number_at(row: &Row, at: usize) -> Option<u64>
     }
 }
 
-/// The number in a column that may be NULL. `None` for a column beyond the row's end, which `column` in contracts has as NULL.
+/// The number in a column that may be NULL (`Some(None)`). `None` for a column beyond the row's end, which `column` in contracts has as NULL.
 pub fn number_or_null_at(row: &Row, at: usize) -> Option<Option<u64>>
     ensures read { (n : Option ℕ) → at < length row.now → column row.now at ≡ number_or_null n
         → result ≡ Some n }
@@ -76,7 +76,7 @@ pub fn moment_at(row: &Row, at: usize) -> Option<Moment>
     Moment::of_secs(number_at(row, at)?)
 }
 
-/// The moment in a column; `None` from [`Moment::CLOCK_END`] on.
+/// The moment in a column that has only accepted moments; `None` from [`Moment::CLOCK_END`] on, because no such moment is accepted.
 pub fn clock_moment_at(row: &Row, at: usize) -> Option<Moment>
     ensures read { (n : ℕ) → column row.now at ≡ number n
         → MatchOption result (clock_end ≤ n) (λ read. read ≡ n) }
@@ -105,7 +105,6 @@ pub(crate) fn life_at(row: &Row, at: usize) -> Option<u64>
     }
 }
 
-/// The serial number in a column.
 pub fn serial_at(row: &Row, at: usize) -> Option<Serial>
     ensures read { (serial : ℕ) → IsSerial serial → column row.now at ≡ serial_value serial
         → result ≡ Some serial }
@@ -131,7 +130,7 @@ pub fn label_at(row: &Row, at: usize) -> Option<Label>
     }
 }
 
-/// The ground in a column, stored as its index in the list of grounds, from 1 on.
+/// The ground (why to revoke) in a column, stored as its index in the list of grounds, from 1 on.
 pub fn ground_at(row: &Row, at: usize) -> Option<Ground>
     ensures read { (cause : Ground) → column row.now at ≡ number (ground_index cause) → result ≡ Some cause }
     ensures told { IfSome result (λ cause. column row.now at ≡ number (ground_index cause)) }
@@ -152,7 +151,6 @@ pub fn ground_at(row: &Row, at: usize) -> Option<Ground>
     }
 }
 
-/// The flag in a column, 0 or 1.
 pub fn flag_at(row: &Row, at: usize) -> Option<bool>
     ensures read { (flag : Bool) → column row.now at ≡ number (cond flag 1 0) → result ≡ Some flag }
     ensures told { IfSome result (λ flag. column row.now at ≡ number (cond flag 1 0)) }
@@ -175,7 +173,6 @@ pub fn reason_at(row: &Row, at: usize) -> Option<u8>
     }
 }
 
-/// The bytes in a column.
 pub fn bytes_at(row: &Row, at: usize) -> Option<&[u8]>
     ensures read { (bytes : List ℕ) → column row.now at ≡ Blob bytes
         → IsSomeAnd result (λ read. read.now ≡ bytes) }

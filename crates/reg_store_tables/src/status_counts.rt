@@ -1,4 +1,4 @@
-//! The counts of certificates by their status, from the derived tables `kept` and `standing`.
+//! The counts of certificates by their status, from the derived tables `standing` (a state letter for each) and `kept` (the counts of these).
 
 ghost use Rattle.std.specs.Prelude.{◌≡◌, ◌≤◌, length, filter, IsTrue};
 ghost use Rattle.sqlite.specs.Held.{state};
@@ -43,7 +43,7 @@ pub fn stored_counts_at_last<S: Alter>(conn: &mut Connection<S>) -> Result<Count
     look_up_one::<S, Counts>(conn, COUNTS, &[])
 }
 
-/// How many certificates with the letter `G` are past notAfter at a moment.
+/// How many certificates with the letter `G` are past notAfter at a moment. They were good (`G`) at the last accepted moment, and have expired since.
 fn ended_before<S: Alter>(conn: &mut Connection<S>, now: Moment) -> Result<u64, DatabaseFault>
     ensures { Finds S.Store conn.old conn.new result (λ records ended.
         (kept : DerivedRows) → ShowsBothNow (state S.Store conn.old) records kept

@@ -15,7 +15,7 @@ use sqlite::types::ValueRef;
 use sqlite::{Alter, params};
 
 impl<S: Alter> Tables<S> {
-    /// The subscriber with an id.
+    /// The subscriber with an id, if any; none has an id above SQL's greatest INTEGER.
     pub fn subscriber(&mut self, id: u64) -> Result<Option<SubscriberRow>, DatabaseFault>
         ensures { Finds S.Store self.old self.new result (λ records row.
             row ≡ subscriber_in records.subscribers id) }
@@ -26,7 +26,6 @@ impl<S: Alter> Tables<S> {
         look_up::<S, SubscriberRow>(&mut self.connection, SUBSCRIBER_BY_ID, params![&value])
     }
 
-    /// The subscriber with a name.
     pub fn subscriber_by_name(
         &mut self,
         name: &Label,

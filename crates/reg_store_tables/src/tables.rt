@@ -3,10 +3,8 @@
 use sqlite::{Alter, Connection};
 use std::marker::Model;
 
-/// The tables of a register in an SQL database. Its methods are the look-ups. Errors: `Memory`; `Store` if the database fails,
-/// a row has an invalid value, or the rows are not those of a register.
-///
-/// Contracts see the tables as their connection. So `Shows`, `ShowsKept` and other definitions for a connection apply to the tables.
+/// The tables of a register in an SQL database. The methods are the look-ups. Errors: `Memory`; `Store` if the database fails, a row has an invalid
+/// value, or the rows are not those of a register. In contracts a `Tables` is its connection, so that `Shows` and other definitions apply to it.
 #[derive(Drop)]
 pub struct Tables<S: Alter> {
     pub connection: Connection<S>,

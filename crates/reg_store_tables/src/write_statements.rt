@@ -16,7 +16,7 @@ use reg_core::{Counts, Ground, Moment};
 use sqlite::types::ValueRef;
 use sqlite::{Alter, Transaction};
 
-/// The number as an SQL INTEGER. `Store` above 2^63 - 1, the greatest one.
+/// The number as an SQL INTEGER, a parameter of [`write`]. `Store` above 2^63 - 1, the greatest INTEGER.
 pub fn sql_number(n: u64) -> Result<ValueRef<'static>, DatabaseFault>
     ensures value { IfOk result (λ value. value ≡ ValueRef.Int (pos n)) }
     ensures fits { OnOk result (n < 2 ^ 63) }
@@ -88,7 +88,7 @@ pub fn commit<S: Alter>(tx: Transaction<'_, S>) -> Result<(), DatabaseFault>
     Ok(tx.commit()?)
 }
 
-/// Sets the counts in the table `kept`. Errors: those of [`write`]; `Store` too for a count above 2^63 - 1.
+/// Sets the counts in the table `kept`. Errors: those of [`write`], and `Store` for a count above 2^63 - 1.
 pub fn set_counts<S: Alter>(
     tx: &mut Transaction<'_, S>,
     counts: Counts,

@@ -21,7 +21,7 @@ returns-clause-sound g c records columns shows clean =
     let signed = c.in_ok-check_crls.ensures.bytes records columns there (subst (λ all. AreRead records columns whole all (λ rows. rows.items)) (sym c.deref-2.ensures.value) are) judged.1 then_clean in
     let then = looked_both c.check_crls.ensures.looked records columns there in
     let more = subst (λ all. AreRead records columns other_queries all (λ rows. rows.items)) (sym c.deref-5.ensures.value) (c.in_ok-more.ensures.found records columns then clean) in
-    (record { rows = judged.0; signatures = signed }, judged.1, c.in_ok-check_days.ensures.allowed records columns more)
+    (record { rows = judged.0; signatures = signed }, judged.1, c.in_ok-check_longest_validity.ensures.allowed records columns more)
 
 pub returns-clause-shown : goal.returns-clause-shown
 returns-clause-shown g c db these are clean =
@@ -77,8 +77,8 @@ returns-in_err-check_complete-clause-broken g c records columns shows clean =
     let denied : IsDisproved c.in_err-check_complete.field-0.0 records columns = not_broken_denied records columns _ (c.in_err-check_complete.ensures.broken records columns all more) in
     search rules
 
-pub returns-in_err-check_days-clause-broken : goal.returns-in_err-check_days-clause-broken
-returns-in_err-check_days-clause-broken g c records columns shows clean =
+pub returns-in_err-check_longest_validity-clause-broken : goal.returns-in_err-check_longest_validity-clause-broken
+returns-in_err-check_longest_validity-clause-broken g c records columns shows clean =
     let old = c.args.conn.now in
     let mid = c.read_each.new.conn in
     let last = c.check_crls.new.conn in
@@ -87,7 +87,7 @@ returns-in_err-check_days-clause-broken g c records columns shows clean =
     let there = looked_both c.read_each.ensures.looked records columns shows in
     let then = looked_both c.check_crls.ensures.looked records columns there in
     let more = subst (λ all. AreRead records columns other_queries all (λ rows. rows.items)) (sym c.deref-5.ensures.value) (c.in_ok-more.ensures.found records columns then clean) in
-    let denied : IsDisproved c.in_err-check_days.field-0.0 records columns = days_denied records columns _ (c.in_err-check_days.ensures.broken records columns more) in
+    let denied : IsDisproved c.in_err-check_longest_validity.field-0.0 records columns = days_denied records columns _ (c.in_err-check_longest_validity.ensures.broken records columns more) in
     search rules
 
 pub returns-clause-looked : goal.returns-clause-looked
@@ -96,8 +96,8 @@ returns-clause-looked g c = looked_then (looked_then c.read_each.ensures.looked 
 pub returns-in_err-check_complete-clause-looked : goal.returns-in_err-check_complete-clause-looked
 returns-in_err-check_complete-clause-looked g c = looked_then (looked_then c.read_each.ensures.looked c.check_crls.ensures.looked) c.read_each-2.ensures.looked
 
-pub returns-in_err-check_days-clause-looked : goal.returns-in_err-check_days-clause-looked
-returns-in_err-check_days-clause-looked g c = looked_then (looked_then c.read_each.ensures.looked c.check_crls.ensures.looked) c.read_each-2.ensures.looked
+pub returns-in_err-check_longest_validity-clause-looked : goal.returns-in_err-check_longest_validity-clause-looked
+returns-in_err-check_longest_validity-clause-looked g c = looked_then (looked_then c.read_each.ensures.looked c.check_crls.ensures.looked) c.read_each-2.ensures.looked
 
 pub returns-in_err-more-clause-looked : goal.returns-in_err-more-clause-looked
 returns-in_err-more-clause-looked g c = looked_then (looked_then c.read_each.ensures.looked c.check_crls.ensures.looked) c.read_each-2.ensures.looked

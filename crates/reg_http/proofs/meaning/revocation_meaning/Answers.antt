@@ -2,7 +2,7 @@ use Rattle.std.proofs.Common.{sym, ap, ◌∙◌, Option, option_and_then}
 use Rattle.serde_json.specs.Data.{Data}
 use Rattle.reg_http.specs.RoutedRequests.{RoutedRequest, revocation_request, wanted_in}
 use Rattle.reg_http.proofs.JsonLemmas.{json_none, json_is}
-use Rattle.reg_http.proofs.meaning.request_part.Goals as goal
+use Rattle.reg_http.proofs.meaning.revocation_meaning.Goals as goal
 
 -- what a body with this value asks
 abbrev pub asks_of : Option Data → RoutedRequest

@@ -5,7 +5,7 @@ use Rattle.reg_audit.specs.ReadQueries.{other_queries}
 use Rattle.reg_audit.specs.ReadableValues.{HasAllowedDays}
 use Rattle.reg_audit.specs.declared.sql.AuditQuery.TheVariants.{Office}
 use Rattle.reg_audit.proofs.OfficeRows.{days_at, allowed_days}
-use Rattle.reg_audit.proofs.days.check_days.Goals as goal
+use Rattle.reg_audit.proofs.days.check_longest_validity.Goals as goal
 
 pub returns-then-are_allowed-clause-allowed : goal.returns-then-are_allowed-clause-allowed
 returns-then-are_allowed-clause-allowed c records columns more =
