@@ -144,7 +144,10 @@ def the_log_has_the_requests_and_the_times_of_lines_that_came_together(t):
     t.same([it.split()[0] for it in replies], ["request", "revoked", "request", "declined", "E18"], "the first words of the replies")
     named = [f" request 1 {1:040x} superseded", f" request 1 {1:040x}", f" request 2 {2:040x} misuse", f" request 2 {2:040x}", ""]
     wanted = [f" {len(reply) + 1} {7_000 * at}{end}" for at, (reply, end) in enumerate(zip(replies, named), 1)]
-    t.same([it.rsplit('"', 1)[1] for it in desk.end().err_lines], wanted, "the bytes, the microseconds and the request of each line in the log")
+    # 7, 14, 21, 28 and 35 milliseconds.
+    t.has(parted(desk.ask("GET", "/metrics"))[2].decode(), "\ndesk_exchange_seconds_sum 0.105000\n", "the metrics")
+    told = [it.rsplit('"', 1)[1] for it in desk.end().err_lines if " control " in it]
+    t.same(told, wanted, "the bytes, the microseconds and the request of each line in the log")
 
 
 @test(seconds=2)

@@ -9,6 +9,7 @@ import threading
 import time
 from concurrent.futures import ThreadPoolExecutor
 
+from lib import faults
 from lib.authority import until
 from lib.passing import Passing
 from lib.program import LONGEST, Control, is_read, parted, read_all
@@ -520,6 +521,40 @@ def lines_of_control_connections_are_answered_in_turn(t):
     t.same([busy.file.readline() for _ in range(1_000)], [b"unknown\n"] * 1_000)
     places = [at for at, line in enumerate(desk.end().err_lines) if "status 05" in line]
     t.true(len(places) == 2 and places[1] < 100, f"the lines of the other two are at {places} in the log")
+
+
+@test(seconds=2)
+def clients_that_come_together_are_accepted_64_at_a_time(t):
+    """Between them the desk polls for other events, so that those who are connected already need not wait for all of them."""
+    t.register()
+    desk = t.open(faults=faults.environment(count=t.room / "count"))
+    calls = lambda kind: faults.counted(t.room / "count")[kind]
+    accepts, polls = calls("accept"), calls("poll")
+    desk.process.send_signal(signal.SIGSTOP)
+    for _ in range(600):
+        peer(t, desk)
+    desk.process.send_signal(signal.SIGCONT)
+    until(lambda: calls("accept") >= accepts + 600, "the desk to accept six hundred clients")
+    t.true(calls("poll") - polls >= 8, f"{calls('poll') - polls} polls while six hundred clients were accepted")
+
+
+@test(seconds=2)
+def the_events_of_many_connections_are_taken_together(t):
+    """A hundred requests come at once. The desk answers all of them after a few calls of epoll_wait(2), and not after one for each."""
+    t.register()
+    desk = t.open(faults=faults.environment(count=t.room / "count"))
+    calls = lambda kind: faults.counted(t.room / "count")[kind]
+    accepts = calls("accept")
+    clients = [peer(t, desk, b"GET /counts") for _ in range(100)]
+    until(lambda: calls("accept") >= accepts + 100, "the desk to accept a hundred clients")
+    before = calls("poll")
+    desk.process.send_signal(signal.SIGSTOP)
+    for it in clients:
+        it.sendall(b" HTTP/1.1\r\n\r\n")
+    desk.process.send_signal(signal.SIGCONT)
+    t.same({parted(read_all(it))[0] for it in clients}, {200}, "the statuses")
+    polls = calls("poll") - before
+    t.true(polls < 50, f"{polls} polls for a hundred requests")
 
 
 @test(seconds=2)

@@ -77,6 +77,23 @@ def bytes_without_an_end_of_line(t, count, is_ended):
     t.same(t.done("at", "counter", given="status 05\n"), "good\n", "another control connection")
 
 
+@test
+def a_line_is_answered_before_requests_that_came_with_it(t):
+    """So a revocation is in the answer to a request that the desk found together with it."""
+    t.register()
+    desk = t.open("ca.db", "--log")
+    with Control(t.room / "counter") as control, desk.connect() as client:
+        control.ask("counts")
+        client.sendall(b"GET /counts")
+        authority.until(lambda: is_read(client), "the desk to accept the client")
+        desk.process.send_signal(signal.SIGSTOP)
+        client.sendall(b" HTTP/1.1\r\n\r\n")
+        control.peer.sendall(b"subscriber acme\n")
+        desk.process.send_signal(signal.SIGCONT)
+        t.same((control.file.readline(), parted(read_all(client))[0]), (b"subscriber 1\n", 200), "the reply and the status")
+    t.same([it.split('"')[1] for it in desk.end().err_lines], ["counts", "subscriber acme", "GET /counts HTTP/1.1"], "the order in the log")
+
+
 @test(seconds=2)
 def a_closed_control_connection_frees_its_slot(t):
     desk = opened(t)

@@ -100,6 +100,8 @@ def a_path_at_the_control_socket_is_of_the_desks_own_folder(t):
     copied(t, t.done("at", "counter", given=f"copy {t.room / 'with a blank.db'}\n"), "with a blank.db")
     # All that follows the first space is the path, with spaces at its ends.
     copied(t, t.done("at", "counter", given="copy  ends in blanks.db \n"), " ends in blanks.db ")
+    # A path of two thousand bytes.
+    copied(t, t.done("at", "counter", given=f"copy {'./' * 1_000}copy.db\n"))
 
 
 def a_file(path):
@@ -239,6 +241,16 @@ def a_call_that_fails_leaves_nothing(t, kind, cause):
         t.same(ran.err.decode(), f"F2 store\n{cause}", f"{kind} {at}") if cause else t.has(ran.err.decode(), "F2 store\n")
         t.same(left(t), [], f"files that are left if {kind} {at} fails")
     copied(t, t.done("copy", "ca.db", "copy.db"))
+
+
+@test
+def a_copy_whose_folder_can_not_be_synced_is_not_left(t):
+    """After a power failure, the copy could be missing, though the desk had reported it."""
+    t.register(lines=ENTERED)
+    (t.room / "copies").mkdir()
+    ran, count = faults.run(t, ["copy", "ca.db", "copies/copy.db"], fail="sync:1", only="copies")
+    t.same((ran.status, ran.out, ran.err, count["met"]), (1, b"", b"F2 store\n", 1), "status, output, standard error and syncs that failed")
+    t.same(list((t.room / "copies").iterdir()), [], "files that are left")
 
 
 @test(seconds=4)

@@ -956,6 +956,30 @@ def a_long_request_and_a_long_answer_take_few_system_calls(t):
     t.true(reads < 30 and writes < 10_000, f"{reads} reads of a request of 64 KiB, and {writes} writes of an answer of 12 MB")
 
 
+@test
+def an_import_takes_few_reads(t):
+    """Each one takes up to 4 KiB."""
+    t.register()
+    ran, count = faults.run(t, ["import", "ca.db", "--now", DAY], given=b"x" * 100_000 + b"\n", only="stdin")
+    t.same(ran.out, b"E22 syntax\n")
+    t.true(20 < count["read"] < 100, f"{count['read']} reads of 100 KB")
+
+
+@test(seconds=2)
+def a_long_request_and_a_long_answer_take_turns_with_others(t):
+    """Each call moves one byte. The desk polls for other clients after some calls, though this client has always sent more, and has read all."""
+    t.register(lines=f"{DAY} crl\n{DAY} crl\n")
+    t.sql("ca.db", "UPDATE crl SET der = zeroblob(20000) WHERE number = 1")
+    t.clock(DAY)
+    desk = t.open(faults=faults.environment(count=t.room / "count", only="socket", short=1))
+    for kind, most, asked in (("read", 40, ("POST", "/ocsp", bytes(20_000))), ("write", 8, ("GET", "/crl/1"))):
+        before = faults.counted(t.room / "count")
+        t.same(parted(desk.ask(*asked))[0], 200, f"status of {asked[1]}")
+        after = faults.counted(t.room / "count")
+        calls, polls = (after[it] - before[it] for it in (kind, "poll"))
+        t.true(20_000 < calls < most * polls, f"{calls} calls of {kind}, and {polls} polls")
+
+
 @test(seconds=3)
 def a_client_whose_request_took_29_seconds_gets_its_signature(t):
     ends = threading.Event()
@@ -1808,6 +1832,19 @@ def a_log_that_is_a_link_is_not_read(t):
 
 
 @test
+def each_log_has_salts_of_its_own(t):
+    """Without them, frames that an earlier log left behind could pass for those of a later one (SQLite's file format, 4.1)."""
+    salts = []
+    for name in ("ca", "other", "third"):
+        t.register(f"{name}.db")
+        desk = t.open(f"{name}.db", "--control", name)
+        t.same(t.control(name).ask("subscriber acme"), "subscriber 1")
+        salts.append((t.room / f"{name}.db-wal").read_bytes()[16:24].hex())
+        desk.end()
+    t.same(len(set(salts)), 3, f"different salts among {salts}")
+
+
+@test
 def a_job_leaves_nothing_in_the_log(t):
     """At its end, the job copies the log into the file."""
     t.register(lines=f"{DAY} subscriber acme\n{DAY} crl\n")
@@ -1845,15 +1882,15 @@ def a_register_whose_log_has_megabytes_is_read_with_all_of_it(t):
         t.same(t.done("list", name, "subscribers").count("\n"), count + 1, f"the lines of the list of {name}")
 
 
-@test
+@test(seconds=3)
 def a_large_file_is_read_once(t):
-    """SQLite's page cache has room for the whole file."""
+    """SQLite's page cache has room for the whole file, of 80 MB."""
     t.register(lines=f"{DAY} crl\n{DAY} crl\n")
-    t.sql("ca.db", "UPDATE crl SET der = zeroblob(12000000) WHERE number = 1")
+    t.sql("ca.db", "UPDATE crl SET der = zeroblob(80000000) WHERE number = 1")
     desk = t.open(faults=faults.environment(count=t.room / "count", only="ca.db"))
     reads = []
     for _ in range(2):
-        t.true(len(desk.ask("GET", "/crl/1")) > 12_000_000, "the answer is cut off")
+        t.true(len(desk.ask("GET", "/crl/1")) > 80_000_000, "the answer is cut off")
         reads.append(faults.counted(t.room / "count")["read"])
     t.true(reads[1] - reads[0] < reads[0] / 100, f"reads until each answer: {reads}")
 

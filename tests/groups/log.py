@@ -119,6 +119,18 @@ def within(desk, what):
 
 
 @test
+def the_client_of_a_signed_answer_is_in_the_log(t):
+    t.register(key=program.P256_KEY)
+    t.signer()
+    desk, request = t.open("ca.db", "--log", *SIGNING), bytes.fromhex(faults.OCSP_REQUEST)
+    with desk.connect() as peer:
+        port = peer.getsockname()[1]
+        peer.sendall(b"POST /ocsp HTTP/1.1\r\nContent-Length: %d\r\n\r\n" % len(request) + request)
+        t.true(ANY_SIGNATURE in program.read_all(peer), "the answer is not signed")
+    t.same([it.split()[1] for it in desk.end().err_lines], [f"127.0.0.1:{port}"], "the clients in the log")
+
+
+@test
 def a_client_that_resets_has_a_line_after_that_of_its_exchange(t):
     t.register()
     t.clock(DAY)
@@ -177,12 +189,36 @@ def each_line_is_one_write(t):
 
 @test
 def a_line_after_one_that_was_cut_off_is_whole(t):
-    """The disk is full once 20 octets of a line are written. The next line does not continue them: `desk replay` stops at the part."""
+    """The disk is full once 20 octets of a line are written. The next line does not continue them: `desk replay` stops at the part. Lines before
+    them stay."""
     t.register()
     t.clock(DAY)
+    (t.room / "ca.log").write_text("before\n")
     desk = t.open("ca.db", "--log-file", "ca.log", faults=faults.environment(only="ca.log", short=20, fail="write:2=ENOSPC"))
     for name in ("acme", "b"):
         t.desk("at", "counter", given=f"subscriber {name}\n")
     desk.end()
-    part, *rest = (t.room / "ca.log").read_text().splitlines()
-    t.same((part, [re.sub(r"\d+$", "N", it) for it in rest]), (DAY[:19], [f'{DAY} control "subscriber b" "subscriber 2" 13 N']))
+    *before, last = (t.room / "ca.log").read_text().splitlines()
+    t.same([*before, re.sub(r"\d+$", "N", last)], ["before", DAY[:19], f'{DAY} control "subscriber b" "subscriber 2" 13 N'])
+
+
+@test
+def each_route_and_each_line_is_logged(t):
+    """So are the requests of a monitoring program, and lines that change no record."""
+    routes = ("/crl", "/status/05", "/counts", "/list/orders", "/health", "/metrics", "/changes", "/nowhere")
+    lines = ["help", "why", "show 05", "show request 1", f"accept-clock {DAY}", "copy copy.db", "schedule 1970-01-01T00:00:00Z=100", "counts", "x"]
+    told = log_of(t, *(f"GET {it} HTTP/1.1\r\n\r\n".encode() for it in routes), lines=lines)
+    t.same([it.split('"')[1] for it in told], [*(f"GET {it} HTTP/1.1" for it in routes), *lines], "the requests and lines in the log")
+
+
+@test
+def requests_beyond_the_limits_are_logged(t):
+    """Three requests for revocation are open, so a fourth one is refused. Forty days later a fifth one is, as the clock is too far ahead."""
+    t.register(lines="".join(f"{DAY} {it}\n" for it in ("subscriber acme", "order 1 398", f"register 1 05 {DAY} 2026-12-31T00:00:00Z")))
+    t.clock(DAY)
+    desk = t.open("ca.db", "--log")
+    for moment in (DAY,) * 4 + ("2026-02-10T00:00:00Z",):
+        t.clock(moment)
+        desk.ask("POST", "/requests", '{"serial":"05","ground":"asked"}')
+    told = [it.split('"')[3].split()[1] for it in desk.end().err_lines]
+    t.same(told, ["200", "200", "200", "429", "503"], "the statuses in the log")

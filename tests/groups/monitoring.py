@@ -3,6 +3,7 @@
 import contextlib
 import json
 import re
+import signal
 import subprocess
 import threading
 import time
@@ -215,6 +216,34 @@ def lines_connections_and_seconds(t):
     t.same({it: value for it, value in by_route.items() if it.startswith("_count") and value},
            {'_count{route="/counts"}': 2, '_count{route="/metrics"}': 1, '_count{route="other"}': 1})
     t.same([it for it, value in by_route.items() if it.startswith("_sum") and not value], [f'_sum{{route="{it}"}}' for it in ROUTES if it not in ("/counts", "/metrics", "other")])
+
+
+@test
+def the_connection_of_a_scrape_is_counted(t):
+    """The connection and its request come together, while the desk is stopped."""
+    desk = opened(t)
+    desk.process.send_signal(signal.SIGSTOP)
+    with desk.connect() as peer:
+        peer.sendall(b"GET /metrics HTTP/1.1\r\n\r\n")
+        desk.process.send_signal(signal.SIGCONT)
+        lines = parted(program.read_all(peer))[2].decode().splitlines()
+    t.same([it for it in lines if it.startswith(("desk_connections{", "desk_connections_acc"))], [
+        'desk_connections{at="port"} 1', 'desk_connections{at="counter"} 0', "desk_connections_accepted_total 1",
+    ])
+
+
+@test
+def a_client_whose_line_waits_for_a_signature_is_counted(t):
+    release = threading.Event()
+    t.callback(release.set)
+    signers = t.enter_context(Signers(t.room / "ca.sign", lambda message: (release.wait(60), ANY_SIGNATURE)[1]))
+    desk = opened(t, *SIGNING, key=program.P256_KEY)
+    with ThreadPoolExecutor(1) as pool, t.control() as control:
+        waits = pool.submit(control.ask, "crl")
+        t.true(signers.until(1), "no signature is requested")
+        t.same(metrics(t, desk)['desk_connections{at="counter"}'], 1, "connections at the control socket")
+        release.set()
+        t.same(waits.result(), "crl 1 entries 0")
 
 
 @test(seconds=2)

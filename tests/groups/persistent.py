@@ -81,6 +81,14 @@ def is_own(response, serial):
     return names(part, serial) and signature == own_signature(part)
 
 
+def take_descriptors(t, desk):
+    """Leaves the desk no descriptor: clients at the control socket take all numbers below its highest one, and its limit is the next one."""
+    used = lambda: {int(it) for it in os.listdir(f"/proc/{desk.process.pid}/fd")}
+    while len(used()) <= max(used()):
+        t.same(t.control().ask("counts"), "good 0 revoked 0 expired 0")
+    t.tool("prlimit", "--pid", desk.process.pid, f"--nofile={max(used()) + 1}:4096")
+
+
 def opened(t):
     t.register(key=P256_KEY)
     return t.open("ca.db", *SIGNING)
@@ -448,11 +456,10 @@ def no_connection_with_a_message_is_closed_for_the_operator(t):
         authority.until(lambda: passing.files == before + 2, "two kept connections")
         waits = pool.submit(ocsp_answer, passing.desk, 0x2222)
         t.true(reply.held.wait(60), "the signer to get the message")
-        limit = lambda most: t.tool("prlimit", "--pid", passing.desk.process.pid, f"--nofile={most}:4096")
-        limit(before + 3)
+        take_descriptors(t, passing.desk)
         with Control(t.room / "counter", timeout=20) as control:
             t.same(control.ask("counts"), "good 0 revoked 0 expired 0", "a line at the control socket")
-        limit(1_024)
+        t.tool("prlimit", "--pid", passing.desk.process.pid, "--nofile=1024:4096")
         reply.release.set()
         futures.wait([waits], timeout=10 * program.PATIENCE)
         # Ends the wait for a connection that was closed.
@@ -477,8 +484,11 @@ def a_kept_connection_is_closed_for_a_client_at_the_port(t):
     with ThreadPoolExecutor(2) as pool:
         list(pool.map(lambda at: ocsp_answer(desk, 0x1100 + at), range(2)))
     authority.until(lambda: files(desk) == before + 2, "two kept connections")
-    t.tool("prlimit", "--pid", desk.process.pid, f"--nofile={before + 2}:4096")
-    t.same(program.parted(desk.ask("GET", "/counts"))[0], 200, "the status of the client's answer")
+    take_descriptors(t, desk)
+    full = files(desk)
+    t.same(program.parted(desk.ask("GET", "/counts", timeout=20))[0], 200, "the status of the client's answer")
+    authority.until(lambda: files(desk) < full, "the desk to close the client's connection")
+    t.same(files(desk), full - 1, "descriptors: only one of the kept connections was closed")
 
 
 @test(seconds=2)

@@ -483,6 +483,17 @@ def what_is_no_signature_is_f3_and_the_next_command_goes_on(t, algorithm, key, r
     t.same(authority.signed_part(crl)[2].hex().upper(), last.upper(), "the signature in the last CRL")
 
 
+@test
+def the_longest_signature_in_an_open_desk(t):
+    """The longest RSA key signs a CRL at the control socket, and an OCSP answer over HTTP."""
+    signature = b"\7" * 2037
+    t.register(key=LONGEST_RSA_KEY)
+    t.signer("ca.sign", lambda message, call: signature)
+    desk = t.open("ca.db", "--signer", "ca.sign", "--algorithm", "rsa-sha256")
+    t.same(t.control().ask("crl"), "crl 1 entries 0")
+    t.true(signature in desk.ask("POST", "/ocsp", bytes.fromhex(faults.OCSP_REQUEST)), "the OCSP answer is not signed")
+
+
 @each(ALGORITHMS, seconds=4)
 def a_signature_of_openssl_cut_short_or_made_longer(t, algorithm):
     it = Authority(t, algorithm)
