@@ -40,13 +40,13 @@ def free_port():
 
 def exchange(path, lines, window):
     """Sends the lines with at most `window` in flight; returns the seconds, and the last refusal, if any."""
-    with socket.socket(socket.AF_UNIX) as peer:
-        peer.connect(path)
-        replies, sent, refusal = peer.makefile("rb"), 0, None
+    with socket.socket(socket.AF_UNIX) as connection:
+        connection.connect(path)
+        replies, sent, refusal = connection.makefile("rb"), 0, None
         begun = time.monotonic()
         while sent < len(lines):
             piece = lines[sent:sent + window]
-            peer.sendall("".join(piece).encode())
+            connection.sendall("".join(piece).encode())
             for _ in piece:
                 reply = replies.readline()
                 refusal = reply if reply[:1] in (b"E", b"F", b"") else refusal

@@ -208,7 +208,7 @@ def lists(sizes):
                 closed[word] = told.count(b"\n") - 1, time.perf_counter() - began - opening
             with socket.create_server(("127.0.0.1", 0)) as free:
                 port = free.getsockname()[1]
-            words = [DESK, "open", path, "--port", str(port), "--control", f"{folder}/counter", "--unsigned"]
+            words = [DESK, "open", path, "--port", str(port), "--control", f"{folder}/control", "--unsigned"]
             with subprocess.Popen(words, stdout=subprocess.PIPE) as desk:
                 desk.stdout.readline()
                 for word in LISTS:

@@ -85,7 +85,7 @@ if command -v wrk >/dev/null; then
 else
     echo "no wrk: its part is left out" >&2
 fi
-python3 "$client" commands "$commands" counter "$desk" at ca.control
+python3 "$client" commands "$commands" control "$desk" at ca.control
 kill "$ours"
 wait "$ours" 2>/dev/null || true
 ours=''

@@ -42,18 +42,18 @@ def whole(request):
 
 def ask_one(address, request):
     """Sends a request on a new connection, and returns the connection."""
-    peer = socket.SocketType(socket.AF_INET, socket.SOCK_STREAM)
-    peer.connect(address)
-    peer.sendall(request)
-    return peer
+    client = socket.SocketType(socket.AF_INET, socket.SOCK_STREAM)
+    client.connect(address)
+    client.sendall(request)
+    return client
 
 
-def is_answered(peer, room, view):
+def is_answered(client, room, view):
     """Reads to the end, and returns whether a successful response came (RFC 6960 4.2.1)."""
     length = 0
-    while part := peer.recv_into(view[length:]):
+    while part := client.recv_into(view[length:]):
         length += part
-    peer.close()
+    client.close()
     body = room.find(b"\r\n\r\n", 0, length) + 4
     return room.find(b"\x0a\x01\x00", body, min(body + 12, length)) > 0
 
@@ -70,8 +70,8 @@ def one_client(port, requests, count, at_once, ready, told):
     began = now = time.perf_counter()
     for at in range(count + at_once):
         if at >= at_once:
-            peer, before = asked.popleft()
-            if not is_answered(peer, room, view):
+            client, before = asked.popleft()
+            if not is_answered(client, room, view):
                 raise SystemExit(f"no answer at {port}")
             now = time.perf_counter()
             took.append(now - before)
@@ -112,8 +112,8 @@ class Measure:
     def round(self, count):
         held = [socket.create_connection(("127.0.0.1", self.port)) for _ in range(self.silent)]
         rate, took = clients(self.port, self.requests, count, self.at_once)
-        for peer in held:
-            peer.close()
+        for client in held:
+            client.close()
         self.best = max(self.best, rate)
         self.took += took
 
@@ -135,7 +135,7 @@ def ask(count, theirs, ours, files):
     kinds = [
         ("", few, 0, (theirs, ours)),
         (f", {OTHERS:,} certificates", many, 0, (theirs, ours)),
-        (f", {SILENT} silent peers", few, SILENT, (ours,)),
+        (f", {SILENT} silent clients", few, SILENT, (ours,)),
     ]
     rows_of = [(f"{name}{beside}", [Measure(port, requests, at_once, silent) for port in ports])
                for beside, requests, silent, ports in kinds
@@ -149,8 +149,8 @@ def ask(count, theirs, ours, files):
     for name, measures in rows_of:
         base = {measures[0].at_once: measures[0].best} if len(measures) == 2 else first
         for measure in measures:
-            who = "`desk open`" if measure.port == ours else "`openssl ocsp -port`"
-            print(f"| {name} | {who} | {measure.texts()} | {measure.best / base[measure.at_once]:.2f} |")
+            server = "`desk open`" if measure.port == ours else "`openssl ocsp -port`"
+            print(f"| {name} | {server} | {measure.texts()} | {measure.best / base[measure.at_once]:.2f} |")
 
 
 def timed(lines, words):
@@ -165,7 +165,7 @@ def timed(lines, words):
 
 def commands(count, kind, words):
     """Prints the times of many commands to one program, and of one alone. A script has a moment before each command, the control socket none."""
-    moment = "" if kind == "counter" else time.strftime("%Y-%m-%dT%H:%M:%SZ ", time.gmtime())
+    moment = "" if kind == "control" else time.strftime("%Y-%m-%dT%H:%M:%SZ ", time.gmtime())
     many = timed([f"{moment}subscriber {kind}{at}\n" for at in range(count)], words)
     alone = min(timed([f"{moment}subscriber {kind}-{at}\n"], words) for at in range(ROUNDS))
     print(f"{kind}: {count} commands in {many:.2f} s, {count / many:,.0f} a second; one alone {alone * 1e3:.0f} ms")
@@ -175,15 +175,15 @@ def commands(count, kind, words):
 ANY_SIGNATURE = bytes.fromhex("3006020101020101")
 
 
-def sign_one(peer, millis):
+def sign_one(client, millis):
     """Reads a message, and returns bytes in the form of a signature so many milliseconds later; never, if the number is negative."""
-    with peer:
-        while peer.recv(65536):
+    with client:
+        while client.recv(65536):
             pass
         if millis < 0:
             threading.Event().wait()
         time.sleep(millis / 1000)
-        peer.sendall(ANY_SIGNATURE)
+        client.sendall(ANY_SIGNATURE)
 
 
 def sign(path, millis):
@@ -192,8 +192,8 @@ def sign(path, millis):
         server.bind(path)
         server.listen(128)
         while True:
-            peer, _ = server.accept()
-            threading.Thread(target=sign_one, args=(peer, millis), daemon=True).start()
+            client, _ = server.accept()
+            threading.Thread(target=sign_one, args=(client, millis), daemon=True).start()
 
 
 def slow(count, port, files):
@@ -203,25 +203,25 @@ def slow(count, port, files):
     print(f"a signer that takes 5 ms: {rates[0]:,.0f} answers a second in turn, {rates[1]:,.0f} at {AT_ONCE} at once, {rates[1] / rates[0]:.1f} times")
 
 
-def hung(port, counter, files):
+def hung(port, control, files):
     """Prints the longest wait of requests that need no signature, while OCSP answers wait for a signer that hangs."""
     few = [whole(open(name, "rb").read()) for name in files]
     waiting, took = [], {"GET /counts": [], "a line at the control socket": []}
     with socket.socket(socket.AF_UNIX) as teller:
-        teller.connect(counter)
+        teller.connect(control)
         for at in range(10 * ROUNDS):
             waiting.append(ask_one(("127.0.0.1", port), few[at % len(few)]))
             start = time.perf_counter()
-            with contextlib.closing(ask_one(("127.0.0.1", port), b"GET /counts HTTP/1.0\r\n\r\n")) as peer:
-                while peer.recv(65536):
+            with contextlib.closing(ask_one(("127.0.0.1", port), b"GET /counts HTTP/1.0\r\n\r\n")) as client:
+                while client.recv(65536):
                     pass
             took["GET /counts"].append(time.perf_counter() - start)
             start = time.perf_counter()
             teller.sendall(b"subscriber hung%d\n" % at)
             teller.recv(65536)
             took["a line at the control socket"].append(time.perf_counter() - start)
-    for peer in waiting:
-        peer.close()
+    for client in waiting:
+        client.close()
     told = ", ".join(f"{name} {max(times) * 1e3:.1f} ms at the longest" for name, times in took.items())
     print(f"a signer that hangs, and {len(waiting)} who wait for it: {told}")
 

@@ -122,8 +122,8 @@ def read_line(place, source, text):
         if not LOST.fullmatch(text):
             report(f"{source}: no line of a log")
         return None
-    moment, who, asked, answered, request, serial, ground = found.groups()
-    if who not in CONTROL and not ground:
+    moment, client, asked, answered, request, serial, ground = found.groups()
+    if client not in CONTROL and not ground:
         if asked.startswith("POST /requests") and answered.startswith("HTTP/1.1 200 "):
             report(f"{source}: left out: the log does not name the request")
         return None

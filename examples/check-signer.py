@@ -47,16 +47,16 @@ def test_message(key_hash):
 def signature_of(message, path):
     """The signature that the signer at a socket returns for a message within PATIENCE; empty if it closes without one."""
     deadline = time.monotonic() + PATIENCE
-    with socket.socket(socket.AF_UNIX) as peer:
-        peer.settimeout(PATIENCE)
-        peer.connect(path)
-        peer.sendall(message)
-        peer.shutdown(socket.SHUT_WR)
+    with socket.socket(socket.AF_UNIX) as connection:
+        connection.settimeout(PATIENCE)
+        connection.connect(path)
+        connection.sendall(message)
+        connection.shutdown(socket.SHUT_WR)
         answer = b""
         while len(answer) <= len(ANNOUNCEMENT) + LONGEST_SIGNATURE:
             # A read may not wait for 0 seconds: that would mean not to block.
-            peer.settimeout(max(deadline - time.monotonic(), 0.001))
-            if not (part := peer.recv(LONGEST_SIGNATURE)):
+            connection.settimeout(max(deadline - time.monotonic(), 0.001))
+            if not (part := connection.recv(LONGEST_SIGNATURE)):
                 break
             answer += part
         return answer.removeprefix(ANNOUNCEMENT)

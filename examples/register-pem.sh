@@ -28,6 +28,8 @@ shift $((OPTIND - 1))
 [ $# -gt 0 ] || usage "no CERTIFICATE is given"
 case ${control:+c}${name:+s}${order:+o}${subscriber:+n} in c | cs | on) ;; *) usage "give -c, or -o and -n" ;; esac
 case $order$subscriber in *[!0-9]*) usage "-o $order -n $subscriber: not numbers" ;; esac
+# The shell would read a number with leading zeros as octal.
+while case $order in 0?*) true ;; *) false ;; esac; do order=${order#0}; done
 
 refuse() { echo "$certificate: $1" >&2; worst=3; }
 

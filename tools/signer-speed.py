@@ -47,41 +47,41 @@ def answer_of(issuer):
 
 
 def asked(path, message):
-    peer = socket.socket(socket.AF_UNIX)
-    peer.connect(path)
-    peer.sendall(message)
-    peer.shutdown(socket.SHUT_WR)
-    return peer
+    connection = socket.socket(socket.AF_UNIX)
+    connection.connect(path)
+    connection.sendall(message)
+    connection.shutdown(socket.SHUT_WR)
+    return connection
 
 
 def signatures(path, message, count):
     """Requests `count` signatures, and only then reads the first. Returns the last one."""
-    for peer in [asked(path, message) for _ in range(count)]:
-        with peer:
+    for connection in [asked(path, message) for _ in range(count)]:
+        with connection:
             answer = b""
-            while part := peer.recv(4096):
+            while part := connection.recv(4096):
                 answer += part
             if not answer:
                 sys.exit(f"{path}: no signature")
     return answer
 
 
-def persistent_signatures(peers, message):
+def persistent_signatures(connections, message):
     """Requests a signature over each persistent connection, and only then reads the first."""
-    for peer in peers:
-        peer.sendall(message)
-    for peer in peers:
-        answer = peer.recv(8192)
+    for connection in connections:
+        connection.sendall(message)
+    for connection in connections:
+        answer = connection.recv(8192)
         while answer and len(answer) < 4 + int.from_bytes(answer[:4], "big"):
-            answer += peer.recv(8192)
+            answer += connection.recv(8192)
         if len(answer) < 5:
             sys.exit("no signature on a persistent connection")
 
 
 def connected(path, stack):
-    peer = stack.enter_context(socket.socket(socket.AF_UNIX))
-    peer.connect(path)
-    return peer
+    connection = stack.enter_context(socket.socket(socket.AF_UNIX))
+    connection.connect(path)
+    return connection
 
 
 def processor_time(process):
@@ -95,12 +95,12 @@ def measured(path, message, words, process=None):
     with contextlib.ExitStack() as stack:
         request = lambda: signatures(path, message, words.at_once)
         if request().startswith(ANNOUNCEMENT):
-            peers, framed = [], len(message).to_bytes(4, "big") + message
+            connections, framed = [], len(message).to_bytes(4, "big") + message
             for _ in range(words.at_once):
-                peers.append(connected(path, stack))
+                connections.append(connected(path, stack))
                 # The signer's processes share the connections evenly, if each one's first message comes before the next one.
-                persistent_signatures(peers[-1:], framed)
-            request = lambda: persistent_signatures(peers, framed)
+                persistent_signatures(connections[-1:], framed)
+            request = lambda: persistent_signatures(connections, framed)
         count, start, before = 0, time.perf_counter(), processor_time(process) if process else 0
         while time.perf_counter() - start < words.seconds:
             request()

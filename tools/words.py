@@ -1,14 +1,20 @@
 #!/usr/bin/env python3
-"""Finds the retired words of tools/words.txt: in names of files and identifiers of the crates, in their comments and texts (only the words of the
-part "everywhere"), and in pages. Prints FILE:LINE: WORD -> REPLACEMENT for each, and exits with 1 if there is one."""
+"""Finds the retired words of tools/words.txt: in names of files and identifiers of the crates, of the tests, tools, examples and benches, in comments
+and texts of the crates (only the words of the part "everywhere"), and in pages. Prints FILE:LINE: WORD -> REPLACEMENT for each, and exits with 1 if
+there is one."""
 import re
 import sys
+import tokenize
 from pathlib import Path
 
 TOP = Path(__file__).resolve().parent.parent
 PAGES = [*TOP.glob("*.md"), *TOP.glob("docs/*.md"), *TOP.glob("crates/*/README.md"), TOP / "tests/README.md"]
 CODE = [path for folder in ("src", "specs") for end in ("rt", "antt") for path in TOP.glob(f"crates/*/{folder}/**/*.{end}")]
 PROOFS = [path for folder in ("proofs", "edits", "must-fail") for path in TOP.glob(f"crates/*/{folder}/**/*") if path.is_file()]
+PYTHON = [*TOP.glob("tests/run"), *(path for folder in ("tests", "tools", "examples", "bench") for path in TOP.glob(f"{folder}/**/*.py"))]
+# Identifiers of Python's library, and words that are plain English in tests or that a program prints: examples/audit-report.py prints findings.
+LIBRARY = {"Counter", "perf_counter"}
+PLAIN = {"either", "findings"}
 # A comment or a text within code.
 PROSE = re.compile(r'(?://|--).*|b?"(?:[^"\\]|\\.)*"')
 found = []
@@ -37,13 +43,18 @@ def look_at(path, number, words, banned):
 
 parts = retired()
 names = parts["everywhere"] | parts["names"]
-for path in sorted([*CODE, *PROOFS]):
+for path in sorted([*CODE, *PROOFS, *PYTHON]):
     look_at(path, 1, words_of(path.stem), names)
 for path in sorted(CODE):
     for number, line in enumerate(path.read_text(encoding="utf-8").splitlines(), 1):
         identifiers = {part for it in re.findall(r"\w+", PROSE.sub(" ", line)) for part in words_of(it)}
         look_at(path, number, identifiers, names)
         look_at(path, number, {part for it in re.findall(r"\w+", line) for part in words_of(it)} - identifiers, parts["everywhere"])
+for path in sorted(PYTHON):
+    with tokenize.open(path) as file:
+        tokens = [it for it in tokenize.generate_tokens(file.readline) if it.type == tokenize.NAME and it.string not in LIBRARY]
+    for it in tokens:
+        look_at(path, it.start[0], words_of(it.string) - PLAIN, names)
 pages = parts["everywhere"] | parts["pages"]
 for path in sorted(PAGES):
     for number, line in enumerate(path.read_text(encoding="utf-8").splitlines(), 1):

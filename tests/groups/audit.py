@@ -509,7 +509,7 @@ def no_file_is_created_for_a_missing_register(t):
 
 
 @test(seconds=2)
-def a_user_who_may_only_read_can_audit(t):
+def a_user_without_write_permission_can_audit(t):
     """Neither the files nor their folder are writable. If root runs the tests, a user without rights runs the audit."""
     told = left_behind(t)
     for name in ("ca.db", "ca.db-wal"):

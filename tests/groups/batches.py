@@ -17,10 +17,10 @@ LATER = "2026-01-02T00:00:00Z"
 def send_together(desk, control, lines):
     """Sends lines to a desk that is stopped meanwhile, so that it finds all of them at once. Returns a reply for each, up to the end of the connection."""
     # A desk that leaves out a reply would keep the test waiting.
-    control.peer.settimeout(20 * program.PATIENCE)
+    control.stream.settimeout(20 * program.PATIENCE)
     os.kill(desk.process.pid, signal.SIGSTOP)
     try:
-        control.peer.sendall("".join(f"{line}\n" for line in lines).encode())
+        control.stream.sendall("".join(f"{line}\n" for line in lines).encode())
     finally:
         os.kill(desk.process.pid, signal.SIGCONT)
     return read_replies(control, len(lines))
@@ -176,16 +176,16 @@ def a_stop_leaves_all_of_them_or_none(t):
     for stop in range(1, 1000):
         faults.copy(base, t.room / "ca.db")
         env = faults.environment(count=t.room / "count", stop=stop, lose=stop)
-        with program.Opened(["open", "ca.db", "--control", "counter", "--unsigned"], cwd=t.room, faults=env, clock=DAY) as desk:
+        with program.Opened(["open", "ca.db", "--control", "control", "--unsigned"], cwd=t.room, faults=env, clock=DAY) as desk:
             replies = []
             if desk.listens:
-                with contextlib.suppress(ConnectionError, FileNotFoundError), Control(t.room / "counter") as control:
+                with contextlib.suppress(ConnectionError, FileNotFoundError), Control(t.room / "control") as control:
                     with contextlib.suppress(ProcessLookupError, BrokenPipeError):
                         replies = send_together(desk, control, subscribers(10))
             is_stopped = desk.process.poll() is not None or len(replies) < 10
             desk.process.kill()
         with contextlib.suppress(FileNotFoundError):
-            os.remove(t.room / "counter")
+            os.remove(t.room / "control")
         kept = len(t.done("list", "ca.db", "subscribers").splitlines()[1:])
         t.true(kept in (0, 10) and kept >= len(replies), f"step {stop}: {kept} subscribers are in the register after {len(replies)} replies")
         found.add((kept, len(replies)))

@@ -34,7 +34,7 @@ def opened(t, count=4, *words):
 
 def rows(t, text):
     (t.room / "rows.csv").write_text(text)
-    return t.desk("at", "counter", "--revoke", "rows.csv")
+    return t.desk("at", "control", "--revoke", "rows.csv")
 
 
 def ordering(subscriber=1, days=398):
@@ -43,11 +43,11 @@ def ordering(subscriber=1, days=398):
 
 def ordered(t, text, *terms):
     (t.room / "rows.csv").write_text(text)
-    return t.desk("at", "counter", *ordering(*terms))
+    return t.desk("at", "control", *ordering(*terms))
 
 
 def replies_to(t, *lines):
-    return t.done("at", "counter", given="".join(f"{it}\n" for it in lines)).splitlines()
+    return t.done("at", "control", given="".join(f"{it}\n" for it in lines)).splitlines()
 
 
 @test
@@ -72,7 +72,7 @@ def it_is_run_again_and_revokes_nothing_twice(t):
     before = f"E19 revoked-before {DAY}\n"
     t.same((ran.status, ran.out.decode(), ran.err), (0, f"{before}{before}revoked\n", b""))
     t.same(replies_to(t, "counts"), ["good 1 revoked 3 expired 0"])
-    t.same(t.desk("at", "counter", given="show request 4\n").out, b"E17 no-request\n", "request 4: only three certificates got a request")
+    t.same(t.desk("at", "control", given="show request 4\n").out, b"E17 no-request\n", "request 4: only three certificates got a request")
 
 
 @test
@@ -135,7 +135,7 @@ def a_last_row_without_its_end_is_not_sent(t, text, *wanted):
 
 @each({
     "no socket": ("none", "rows.csv", (1, b"F4 read\n")),
-    "no file": ("counter", "none.csv", (1, b"F4 read\n")),
+    "no file": ("control", "none.csv", (1, b"F4 read\n")),
 })
 def nobody_or_nothing_is_read(t, control, file, wanted):
     opened(t)
@@ -147,7 +147,7 @@ def nobody_or_nothing_is_read(t, control, file, wanted):
 
 @test
 def it_is_not_taken_beside_an_import(t):
-    ran = t.desk("at", "counter", "--import", "rows.csv", "--revoke", "rows.csv")
+    ran = t.desk("at", "control", "--import", "rows.csv", "--revoke", "rows.csv")
     t.same((ran.status, b"at takes --import or --revoke" in ran.err), (2, True), ran.err.decode())
 
 
@@ -166,7 +166,7 @@ UNREAD, PAGE = 900, 4_096
 def begun(t, words=("--revoke", "rows.csv")):
     """Starts `desk at`. Its output goes into a pipe of one page, so the program waits if the test does not read."""
     it = subprocess.Popen(
-        [program.program(), "at", "counter", *words], cwd=t.room, bufsize=0, stdout=subprocess.PIPE, stderr=subprocess.PIPE,
+        [program.program(), "at", "control", *words], cwd=t.room, bufsize=0, stdout=subprocess.PIPE, stderr=subprocess.PIPE,
         env=program.environment(t._clock),
     )
     fcntl.fcntl(it.stdout, fcntl.F_SETPIPE_SZ, PAGE)
@@ -192,12 +192,12 @@ def it_is_killed_and_resumed(t):
         it.kill()
         it.wait(program.LONGEST)
         kills += 1
-    ran = t.desk("at", "counter", "--revoke", "rows.csv")
+    ran = t.desk("at", "control", "--revoke", "rows.csv")
     t.same((ran.status, ran.err, len(ran.lines)), (0, b"", UNREAD))
     t.same({it.split()[0] for it in ran.lines}, {"E19", "revoked"}, "replies to the rows done before a kill, and to those done now")
     t.same(replies_to(t, "counts"), [f"good 0 revoked {UNREAD} expired 0"])
     # Each kill adds at most one request: if it comes between a row's request and its revocation, the next run enters another request.
-    t.same(t.desk("at", "counter", given=f"show request {UNREAD + kills + 1}\n").out, b"E17 no-request\n")
+    t.same(t.desk("at", "control", given=f"show request {UNREAD + kills + 1}\n").out, b"E17 no-request\n")
 
 
 @test(seconds=2)
@@ -210,26 +210,26 @@ def a_desk_that_is_lost_ends_it(t):
     it.stdout.read()
     t.same((it.wait(program.LONGEST), it.stderr.read() in (b"F4 read\n", b"F5 write\n")), (1, True))
     t.open("ca.db")
-    t.same(t.desk("at", "counter", "--revoke", "rows.csv").status, 0)
+    t.same(t.desk("at", "control", "--revoke", "rows.csv").status, 0)
     t.same(replies_to(t, "counts"), [f"good 0 revoked {UNREAD} expired 0"])
 
 
 def standing_in(path, replies, pause=0):
     """Answers each line at a socket with the next of these texts, after a pause. Returns the list of received lines, and the thread."""
-    heard, listener = [], socket.socket(socket.AF_UNIX)
+    received, listener = [], socket.socket(socket.AF_UNIX)
     listener.bind(str(path))
     listener.listen()
 
     def serve():
-        with listener, listener.accept()[0] as peer, peer.makefile("rb") as lines:
+        with listener, listener.accept()[0] as client, client.makefile("rb") as lines:
             for reply in replies:
-                heard.append(lines.readline().decode())
+                received.append(lines.readline().decode())
                 time.sleep(pause)
-                peer.sendall(reply.encode())
+                client.sendall(reply.encode())
 
     thread = threading.Thread(target=serve, daemon=True)
     thread.start()
-    return heard, thread
+    return received, thread
 
 
 @each({
@@ -238,28 +238,28 @@ def standing_in(path, replies, pause=0):
 })
 def a_reply_that_is_cut_off_is_not_printed(t, replies, lines):
     (t.room / "rows.csv").write_text("01,superseded\n02,superseded\n")
-    heard, thread = standing_in(t.room / "counter", replies)
-    ran = t.desk("at", "counter", "--revoke", "rows.csv")
+    received, thread = standing_in(t.room / "control", replies)
+    ran = t.desk("at", "control", "--revoke", "rows.csv")
     thread.join(program.LONGEST)
-    t.same((ran.status, ran.out, ran.err, heard), (1, b"", b"F4 read\n", lines))
+    t.same((ran.status, ran.out, ran.err, received), (1, b"", b"F4 read\n", lines))
 
 
 @test
 def a_refused_revocation_is_reported(t):
     (t.room / "rows.csv").write_text("01,superseded\n")
-    heard, _ = standing_in(t.room / "counter", ["request 7 due x\n", "E18 declined-before\n"])
-    ran = t.desk("at", "counter", "--revoke", "rows.csv")
+    received, _ = standing_in(t.room / "control", ["request 7 due x\n", "E18 declined-before\n"])
+    ran = t.desk("at", "control", "--revoke", "rows.csv")
     t.same((ran.status, ran.out, ran.err), (3, b"E18 declined-before\n", b"refused\n"))
-    t.same(heard[1], f"revoke 7 {1:040x}\n")
+    t.same(received[1], f"revoke 7 {1:040x}\n")
 
 
 @test(seconds=3)
 def it_shows_its_progress_on_a_terminal(t):
     (t.room / "rows.csv").write_text("01,superseded\n" * 4)
-    standing_in(t.room / "counter", ["E14 unknown-serial\n"] * 4, pause=0.6)
+    standing_in(t.room / "control", ["E14 unknown-serial\n"] * 4, pause=0.6)
     ours, theirs = pty.openpty()
     with open(t.room / "replies", "wb") as replies:
-        it = subprocess.Popen([program.program(), "at", "counter", "--revoke", "rows.csv"], cwd=t.room, stdout=replies, stderr=theirs, env=program.environment())
+        it = subprocess.Popen([program.program(), "at", "control", "--revoke", "rows.csv"], cwd=t.room, stdout=replies, stderr=theirs, env=program.environment())
     os.close(theirs)
     shown = b""
     # os.read fails once the program has ended, because its side of the terminal is closed.
@@ -275,10 +275,10 @@ def it_shows_its_progress_on_a_terminal(t):
 def ten_thousand_rows(t):
     opened(t, MANY)
     (t.room / "rows.csv").write_text("serial,ground\n" + "".join(f"{it:02x},superseded\n" for it in range(1, MANY + 1)))
-    ran = t.desk("at", "counter", "--revoke", "rows.csv", timeout=600)
+    ran = t.desk("at", "control", "--revoke", "rows.csv", timeout=600)
     t.same((ran.status, ran.err, ran.out), (0, b"", b"revoked\n" * MANY))
     t.same(replies_to(t, "counts"), [f"good 0 revoked {MANY} expired 0"])
-    again = t.desk("at", "counter", "--revoke", "rows.csv", timeout=600)
+    again = t.desk("at", "control", "--revoke", "rows.csv", timeout=600)
     t.same((again.status, again.out), (0, f"E19 revoked-before {DAY}\n".encode() * MANY), "the same rows again")
 
 
@@ -399,7 +399,7 @@ WANTED = b"error: at takes --import or --revoke, and not both; --orders needs --
     "twice": (("--import", "rows.csv", "--orders", "1", "1", "--orders", "1", "1"), b"--orders"),
 })
 def orders_are_two_numbers_of_an_import(t, words, part):
-    ran = t.desk("at", "counter", *words)
+    ran = t.desk("at", "control", *words)
     t.same((ran.status, ran.out, part in ran.err), (2, b"", True), ran.err.decode())
 
 
@@ -415,7 +415,7 @@ def an_import_is_killed_and_resumed(t):
         it.kill()
         it.wait(30)
         kills += 1
-    ran = t.desk("at", "counter", *ordering())
+    ran = t.desk("at", "control", *ordering())
     t.same((ran.status, ran.err, len(ran.lines)), (0, b"", 300))
     t.same(set(ran.lines), {"good", "registered"}, "replies to the rows done before a kill, and to those done now")
     t.same(replies_to(t, "counts"), ["good 301 revoked 0 expired 0"])
@@ -431,10 +431,10 @@ def an_import_is_killed_and_resumed(t):
 })
 def a_reply_to_a_row_of_an_import_that_is_cut_off_is_not_told(t, replies, lines):
     (t.room / "rows.csv").write_text(row("01") + row("02"))
-    heard, thread = standing_in(t.room / "counter", replies)
-    ran = t.desk("at", "counter", *ordering())
+    received, thread = standing_in(t.room / "control", replies)
+    ran = t.desk("at", "control", *ordering())
     thread.join(30)
-    t.same((ran.status, ran.out, ran.err, heard), (1, b"", b"F4 read\n", lines))
+    t.same((ran.status, ran.out, ran.err, received), (1, b"", b"F4 read\n", lines))
 
 
 @test(seconds=30)
@@ -443,7 +443,7 @@ def ten_thousand_registrations(t):
     (t.room / "rows.csv").write_text("serial,notBefore,notAfter\n" + "".join(row(f"{it:02x}") for it in range(1, MANY + 1)))
     for reply in ("registered", "good"):
         began = time.monotonic()
-        ran = t.desk("at", "counter", *ordering(), timeout=300)
+        ran = t.desk("at", "control", *ordering(), timeout=300)
         t.note(f"{MANY} rows, {reply}: {time.monotonic() - began:.1f} s")
         t.same((ran.status, ran.err, ran.out), (0, b"", f"{reply}\n".encode() * MANY))
     t.same(replies_to(t, "counts", "order 1 1"), [f"good {MANY} revoked 0 expired 0", f"order {MANY + 1}"])

@@ -541,8 +541,8 @@ def a_page_without_memory(t):
         """The counts of calls when the desk listens, and after the first answer; the first answer, and a second one."""
         faults.copy(base, t.room / "ca.db")
         env = faults.environment(count=t.room / "count", same=1, fail=fail)
-        words = ["open", "ca.db", "--control", "counter", "--unsigned"]
-        (t.room / "counter").unlink(missing_ok=True)
+        words = ["open", "ca.db", "--control", "control", "--unsigned"]
+        (t.room / "control").unlink(missing_ok=True)
         with program.Opened(words, cwd=t.room, clock=clock, faults=env) as desk:
             t.true(desk.listens, f"{what}: it does not listen")
             first = faults.counted(t.room / "count")

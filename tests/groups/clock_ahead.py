@@ -18,7 +18,7 @@ def opened(t, *words, **how):
     t.register(**how)
     t.clock(DAY)
     desk = t.open("ca.db", *words)
-    t.done("at", "counter", given="".join(f"{it}\n" for it in LINES))
+    t.done("at", "control", given="".join(f"{it}\n" for it in LINES))
     return desk
 
 
@@ -67,7 +67,7 @@ def an_accepted_clock_lasts_for_30_days_and_until_the_desk_is_closed(t):
         t.clock(moment_of(FIRST + 3 * MONTH - 5))
         t.same(health(desk)[1], None)
     desk.end()
-    (t.room / "counter").unlink(missing_ok=True)
+    (t.room / "control").unlink(missing_ok=True)
     t.open("ca.db")
     with t.control() as control:
         t.same(control.ask("order 1 30"), BAD, "opened again")
@@ -77,7 +77,7 @@ def an_accepted_clock_lasts_for_30_days_and_until_the_desk_is_closed(t):
 def desk_at_ends_with_status_3(t):
     opened(t)
     t.clock(moment_of(FIRST + MONTH + 1))
-    ran = t.desk("at", "counter", given="order 1 30\ncounts\n")
+    ran = t.desk("at", "control", given="order 1 30\ncounts\n")
     t.same((ran.status, ran.lines, ran.err), (3, [BAD, "good 2 revoked 0 expired 0"], b"refused\n"))
 
 
@@ -87,7 +87,7 @@ def a_new_register_has_no_moment_to_compare_with(t):
     t.clock("2099-01-01T00:00:00Z")
     desk = t.open("ca.db")
     t.same(health(desk)[1], None)
-    t.same(t.done("at", "counter", given="subscriber acme\n"), "subscriber 1\n")
+    t.same(t.done("at", "control", given="subscriber acme\n"), "subscriber 1\n")
 
 
 @test

@@ -36,7 +36,7 @@ def opened(t, *words, command="open"):
     return t.open("ca.db", *words, command=command)
 
 
-def peer(t, desk, sent=b""):
+def client(t, desk, sent=b""):
     made = t.enter_context(desk.connect())
     made.sendall(sent)
     return made
@@ -58,7 +58,7 @@ def a_request_is_answered_among_200_connections_at_all_stages(t):
     kinds = [b"", b"GET /cou", b"G", b"\0\xff\0\r\n\r\n", b"half closed", b"gone", CRL, COUNTS + b"more" * 1_000]
     for _ in range(25):
         for sent in kinds:
-            made = peer(t, desk, sent)
+            made = client(t, desk, sent)
             if sent == b"half closed":
                 made.shutdown(socket.SHUT_WR)
             elif sent == b"gone":
@@ -69,7 +69,7 @@ def a_request_is_answered_among_200_connections_at_all_stages(t):
             slow.sendall(bytes([it]))
             time.sleep(0.001)
         t.same(parted(read_all(slow))[0], 200, "a client that sends one byte at a time")
-    t.same(t.done("at", "counter", given="status 05\n"), "good\n", "a line at the control socket beside them")
+    t.same(t.done("at", "control", given="status 05\n"), "good\n", "a line at the control socket beside them")
 
 
 @test(seconds=4)
@@ -85,10 +85,10 @@ def each_of_32_at_once_gets_the_answer_to_its_own_request(t):
             if got != wanted:
                 wrong.append((target, got))
 
-    askers = [threading.Thread(target=ask, args=(number,)) for number in range(32)]
-    for it in askers:
+    requesters = [threading.Thread(target=ask, args=(number,)) for number in range(32)]
+    for it in requesters:
         it.start()
-    for it in askers:
+    for it in requesters:
         it.join()
     t.same(wrong, [], "targets that got another response")
 
@@ -98,11 +98,11 @@ def pieces_of_several_requests_are_not_mixed_up(t):
     """Three clients send the first pieces of their requests in turn, and the last pieces in reverse order."""
     desk = opened(t)
     wanted = {"/status/05": b'{"status":"good"}', "/status/06": b'{"status":"unknown"}', "/status/0": b'{"error":"E22 syntax"}'}
-    peers = {target: peer(t, desk, b"GET ") for target in wanted}
-    for target, it in peers.items():
+    clients = {target: client(t, desk, b"GET ") for target in wanted}
+    for target, it in clients.items():
         it.sendall(target.encode())
         time.sleep(0.02)
-    for target, it in reversed(peers.items()):
+    for target, it in reversed(clients.items()):
         it.sendall(b" HTTP/1.1\r\n\r\n")
         t.same(parted(read_all(it))[2], wanted[target], target)
 
@@ -114,8 +114,8 @@ def more_connections_than_slots(t):
         raise Skipped("the system has no descriptors for 1,100 connections: ulimit -n 2000")
     resource.setrlimit(resource.RLIMIT_NOFILE, (2_000, hard))
     desk = opened(t)
-    held = [peer(t, desk) for _ in range(1_100)]
-    at_once(t, desk, "1,100 silent peers")
+    held = [client(t, desk) for _ in range(1_100)]
+    at_once(t, desk, "1,100 silent clients")
     held[0].settimeout(20)
     t.same(read_all(held[0]), b"", "the response to the oldest connection, which the desk evicts")
     held[-1].sendall(COUNTS)
@@ -139,10 +139,10 @@ def control_connections_have_all_of_16_descriptors(t):
     lines = []
     while files() < 16:
         before = files()
-        lines.append(t.enter_context(Control(t.room / "counter")))
+        lines.append(t.enter_context(Control(t.room / "control")))
         until(lambda: files() == before + 1, f"control connection {len(lines)}")
     t.true(len(lines) <= 8, f"{len(lines)} control connections are open, more than the eight that the desk serves")
-    waiting = peer(t, desk, COUNTS)
+    waiting = client(t, desk, COUNTS)
     # If the lack of descriptors ended the desk, it would do so within this second.
     time.sleep(1)
     t.same(desk.process.poll(), None, "exit status of the desk, which must still run")
@@ -150,13 +150,13 @@ def control_connections_have_all_of_16_descriptors(t):
     t.same(lines[0].ask("counts"), "good 1 revoked 0 expired 0", "a control line meanwhile")
     last = lines.pop()
     last.file.close()
-    last.peer.close()
+    last.stream.close()
     t.same(parted(read_all(waiting))[0], 200, "the HTTP request, once a descriptor is free")
     until(lambda: files() == 15, "the end of the HTTP connection")
-    held = peer(t, desk, COUNTS[:9])
+    held = client(t, desk, COUNTS[:9])
     until(lambda: files() == 16, "an HTTP connection that has not sent all")
     line = t.control()
-    line.peer.sendall(b"counts\n")
+    line.stream.sendall(b"counts\n")
     t.true(busy(desk.process) < 20, "the desk is busy")
     held.sendall(COUNTS[9:])
     t.same(parted(read_all(held))[0], 200)
@@ -174,13 +174,13 @@ def the_control_socket_has_the_next_descriptor(t):
     before = files()
     t.tool("prlimit", "--pid", desk.process.pid, f"--nofile={before + 3}:{before + 3}")
     for at in range(3):
-        peer(t, desk)
+        client(t, desk)
         until(lambda: files() == before + at + 1, f"connection {at + 1}")
     desk.process.send_signal(signal.SIGSTOP)
     for _ in range(100):
-        peer(t, desk)
-    control = t.enter_context(Control(t.room / "counter", timeout=20))
-    control.peer.sendall(b"counts\n")
+        client(t, desk)
+    control = t.enter_context(Control(t.room / "control", timeout=20))
+    control.stream.sendall(b"counts\n")
     desk.process.send_signal(signal.SIGCONT)
     t.same(control.file.readline(), b"good 0 revoked 0 expired 0\n")
     told = [it.split()[1] for it in desk.end().err_lines if " lost crowded" in it or " control " in it]
@@ -196,7 +196,7 @@ def the_last_descriptor_evicts_no_connection(t):
     t.tool("prlimit", "--pid", desk.process.pid, f"--nofile={before + 3}:{before + 3}")
     held = []
     for at in range(3):
-        held.append(peer(t, desk, COUNTS[:9]))
+        held.append(client(t, desk, COUNTS[:9]))
         until(lambda: files() == before + at + 1, f"connection {at + 1}")
     time.sleep(0.5)
     for at, each in enumerate(held):
@@ -206,7 +206,7 @@ def the_last_descriptor_evicts_no_connection(t):
     until(lambda: files() == before, "the end of all three")
     held = []
     for at in range(3):
-        held.append(peer(t, desk, COUNTS[:9]))
+        held.append(client(t, desk, COUNTS[:9]))
         until(lambda: files() == before + at + 1, f"connection {at + 1} of three others")
     at_once(t, desk, "as many as there are descriptors for")
     held[0].settimeout(20)
@@ -219,7 +219,7 @@ def the_last_descriptor_evicts_no_connection(t):
 @test(seconds=3)
 def a_large_answer_is_sent_as_its_client_reads_it(t):
     desk = opened(t)
-    slow = peer(t, desk, CRL)
+    slow = client(t, desk, CRL)
     until(lambda: is_read(slow), "the desk to read the request")
     at_once(t, desk, "one that does not read")
     got = 0
@@ -231,7 +231,7 @@ def a_large_answer_is_sent_as_its_client_reads_it(t):
 @test(seconds=3)
 def a_reset_connection_is_in_the_log(t):
     desk = opened(t, "--log")
-    gone = peer(t, desk, CRL)
+    gone = client(t, desk, CRL)
     port = gone.getsockname()[1]
     t.same(gone.recv(1), b"H", "the first byte of its answer")
     # SO_LINGER with 0 seconds: close(2) sends a reset.
@@ -247,7 +247,7 @@ def a_reset_connection_is_in_the_log(t):
 def an_incomplete_request_is_closed_after_30_seconds(t):
     desk = opened(t, "--log")
     began = time.monotonic()
-    both = {sent: peer(t, desk, sent) for sent in (b"GET /coun", b"")}
+    both = {sent: client(t, desk, sent) for sent in (b"GET /coun", b"")}
     ports = {sent: late.getsockname()[1] for sent, late in both.items()}
     for sent, late in both.items():
         t.same(read_all(late), b"", f"the response to {sent!r}")
@@ -350,7 +350,7 @@ def an_answered_connection_is_evicted_before_the_oldest(t):
     t.tool("prlimit", "--pid", desk.desk.process.pid, f"--nofile={desk.before + 3}:{desk.before + 3}")
     oldest, has_it = desk.comes(COUNTS[:9]), desk.comes(COUNTS + b"more")
     t.same(parted(read_all(has_it))[0], 200)
-    newest = peer(t, desk.desk, COUNTS[:9])
+    newest = client(t, desk.desk, COUNTS[:9])
     until(lambda: desk.files == desk.before + 3, "three connections, which use all descriptors")
     at_once(t, desk.desk, "them")
     for it in (oldest, newest):
@@ -368,7 +368,7 @@ def answers_that_wait_hold_64_mib_together(t):
     desk = Passing(t)
 
     def asks(request):
-        it = peer(t, desk.desk, request)
+        it = client(t, desk.desk, request)
         t.same(it.recv(1), b"H", "the first byte of its answer")
         return it
 
@@ -389,12 +389,12 @@ def what_a_lost_client_did_not_take_waits_no_more(t):
     size = 33_000_000
     entered(t, size)
     desk = Passing(t)
-    later, earlier = gone = [peer(t, desk.desk, CRL) for _ in range(2)][::-1]
+    later, earlier = gone = [client(t, desk.desk, CRL) for _ in range(2)][::-1]
     for it in gone:
         t.same(it.recv(1), b"H", "the first byte of its answer")
     desk.advance(30_000)
     desk.loses(later, earlier, why="late")
-    others = [peer(t, desk.desk, CRL) for _ in range(2)]
+    others = [client(t, desk.desk, CRL) for _ in range(2)]
     for it in others:
         t.same(it.recv(1), b"H", "the first byte of its answer")
     desk.loses(later, earlier, why="late")
@@ -414,7 +414,7 @@ def serve_answers_the_given_number_of_requests(t):
 def half_a_request_counts_as_one(t):
     """`serve --requests` counts half a request. The client ended its side, so the log has no lost connection."""
     desk = opened(t, "--requests", 2, "--log", command="serve")
-    half = peer(t, desk, b"GET /status/05 HTTP/1.1\r\n")
+    half = client(t, desk, b"GET /status/05 HTTP/1.1\r\n")
     half.shutdown(socket.SHUT_WR)
     t.same(read_all(half), b"", "the response to half a request")
     t.same(desk.process.poll(), None, "exit status of the desk, which must still run")
@@ -427,40 +427,40 @@ def half_a_request_counts_as_one(t):
 def eight_control_connections_are_served_and_the_ninth_waits(t):
     desk = opened(t)
     first, second = t.control(), t.control()
-    first.peer.sendall(b"status 7f")
+    first.stream.sendall(b"status 7f")
     t.same(second.ask("status 05"), "good", "while another connection has sent half a line")
-    first.peer.sendall(b"f\nstatus x\nstat")
+    first.stream.sendall(b"f\nstatus x\nstat")
     t.same([first.file.readline(), first.file.readline()], [b"unknown\n", b"E22 syntax\n"], "replies, in order")
     idle = [t.control() for _ in range(6)]
     ninth = t.control()
-    ninth.peer.sendall(b"status 05\n")
+    ninth.stream.sendall(b"status 05\n")
     t.same([it.ask("status 06") for it in (second, *idle)], ["unknown"] * 7, "the seven others of eight connections")
-    ninth.peer.settimeout(0.5)
+    ninth.stream.settimeout(0.5)
     try:
-        t.same(ninth.peer.recv(10), None, "the ninth is answered while all eight are open")
+        t.same(ninth.stream.recv(10), None, "the ninth is answered while all eight are open")
     except TimeoutError:
         pass
     first.file.close()
-    first.peer.close()
-    ninth.peer.settimeout(LONGEST)
-    t.same(ninth.peer.recv(10), b"good\n", "the ninth, once another is closed")
+    first.stream.close()
+    ninth.stream.settimeout(LONGEST)
+    t.same(ninth.stream.recv(10), b"good\n", "the ninth, once another is closed")
     t.true(desk.process.poll() is None, "the desk ended")
 
 
 @test(seconds=2)
 def a_line_that_is_not_whole_is_never_run(t):
     desk = opened(t)
-    with Control(t.room / "counter") as control:
+    with Control(t.room / "control") as control:
         control.ask("request 05 asked")
-        control.peer.sendall(b"revoke 1")
-        control.peer.shutdown(socket.SHUT_WR)
+        control.stream.sendall(b"revoke 1")
+        control.stream.shutdown(socket.SHUT_WR)
         t.same(control.file.read(), b"", "the reply to a line with no LF")
-    with Control(t.room / "counter") as control:
-        control.peer.sendall(b"revoke 1")
+    with Control(t.room / "control") as control:
+        control.stream.sendall(b"revoke 1")
     # If the desk ran this line, it would do so within this time.
     time.sleep(0.2)
-    t.same(t.done("at", "counter", given="status 05\n"), "good\n")
-    at_once(t, desk, "a counter that was cut off")
+    t.same(t.done("at", "control", given="status 05\n"), "good\n")
+    at_once(t, desk, "a control connection that was cut off")
 
 
 @test(seconds=3)
@@ -468,15 +468,15 @@ def a_control_connection_that_does_not_read_is_held(t):
     """A client sends lines and reads no reply. The desk runs a line only once the socket has accepted the reply to the line before."""
     desk = opened(t, "--log")
     unread = t.control()
-    unread.peer.settimeout(1)
+    unread.stream.settimeout(1)
     try:
         for _ in range(100_000):
-            unread.peer.sendall(b"status 7b\n")
+            unread.stream.sendall(b"status 7b\n")
     except TimeoutError:
         pass
-    t.same(t.done("at", "counter", given="status 05\n"), "good\n", "another control connection")
+    t.same(t.done("at", "control", given="status 05\n"), "good\n", "another control connection")
     told = sum('control "status 7b"' in it for it in desk.end().err_lines)
-    replies = read_all(unread.peer).count(b"unknown\n")
+    replies = read_all(unread.stream).count(b"unknown\n")
     t.true(0 < replies <= told <= replies + 1, f"the log has {told} lines, and the socket has {replies} replies")
 
 
@@ -489,8 +489,8 @@ def a_control_connection_of_many_lines_holds_up_nobody(t):
 
     def sends():
         while not ends.is_set():
-            busy.peer.sendall(b"status 7b\n" * 1_000)
-        busy.peer.shutdown(socket.SHUT_WR)
+            busy.stream.sendall(b"status 7b\n" * 1_000)
+        busy.stream.shutdown(socket.SHUT_WR)
 
     with ThreadPoolExecutor(2) as pool:
         pool.submit(sends)
@@ -498,7 +498,7 @@ def a_control_connection_of_many_lines_holds_up_nobody(t):
         try:
             for _ in range(3):
                 t.same(other.ask("status 05"), "good", "another control connection")
-                at_once(t, desk, "a counter of many lines")
+                at_once(t, desk, "a control connection with many lines")
         finally:
             ends.set()
         t.same(replies.result(), {b"unknown\n"}, "the replies to the many lines")
@@ -513,9 +513,9 @@ def lines_of_control_connections_are_answered_in_turn(t):
     before, busy, after = (t.control() for _ in range(3))
     t.same([it.ask("counts") for it in (before, busy, after)], ["good 1 revoked 0 expired 0"] * 3)
     desk.process.send_signal(signal.SIGSTOP)
-    busy.peer.sendall(b"status 7b\n" * 1_000)
+    busy.stream.sendall(b"status 7b\n" * 1_000)
     for it in (before, after):
-        it.peer.sendall(b"status 05\n")
+        it.stream.sendall(b"status 05\n")
     desk.process.send_signal(signal.SIGCONT)
     t.same([it.file.readline() for it in (before, after)], [b"good\n"] * 2)
     t.same([busy.file.readline() for _ in range(1_000)], [b"unknown\n"] * 1_000)
@@ -532,7 +532,7 @@ def clients_that_come_together_are_accepted_64_at_a_time(t):
     accepts, polls = calls("accept"), calls("poll")
     desk.process.send_signal(signal.SIGSTOP)
     for _ in range(600):
-        peer(t, desk)
+        client(t, desk)
     desk.process.send_signal(signal.SIGCONT)
     until(lambda: calls("accept") >= accepts + 600, "the desk to accept six hundred clients")
     t.true(calls("poll") - polls >= 8, f"{calls('poll') - polls} polls while six hundred clients were accepted")
@@ -545,7 +545,7 @@ def the_events_of_many_connections_are_taken_together(t):
     desk = t.open(faults=faults.environment(count=t.room / "count"))
     calls = lambda kind: faults.counted(t.room / "count")[kind]
     accepts = calls("accept")
-    clients = [peer(t, desk, b"GET /counts") for _ in range(100)]
+    clients = [client(t, desk, b"GET /counts") for _ in range(100)]
     until(lambda: calls("accept") >= accepts + 100, "the desk to accept a hundred clients")
     before = calls("poll")
     desk.process.send_signal(signal.SIGSTOP)
@@ -560,6 +560,6 @@ def the_events_of_many_connections_are_taken_together(t):
 @test(seconds=2)
 def a_revocation_is_in_the_very_next_answers(t):
     desk = opened(t)
-    t.same(t.done("at", "counter", given="request 05 key-compromise\nrevoke 1\n").splitlines()[1], "revoked")
+    t.same(t.done("at", "control", given="request 05 key-compromise\nrevoke 1\n").splitlines()[1], "revoked")
     t.same(parted(desk.ask("GET", "/status/05"))[2], b'{"at":"2026-01-01T00:00:00Z","reason":1,"status":"revoked"}')
     t.same(parted(desk.ask("GET", "/counts"))[2], b'{"expired":0,"good":0,"revoked":1}')

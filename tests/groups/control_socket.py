@@ -25,7 +25,7 @@ def opened(t):
 
 def closed(control):
     control.file.close()
-    control.peer.close()
+    control.stream.close()
 
 
 @test
@@ -33,7 +33,7 @@ def a_line_is_answered_beside_a_slow_client(t):
     desk = opened(t)
     with desk.connect() as slow:
         slow.sendall(b"GET /status/05 HT")
-        t.same(t.done("at", "counter", given="request 05 superseded\nrevoke 1\n"), "request 1 due 2026-01-02T00:00:00Z\nrevoked\n")
+        t.same(t.done("at", "control", given="request 05 superseded\nrevoke 1\n"), "request 1 due 2026-01-02T00:00:00Z\nrevoked\n")
         # The slow client completes its request after the revocation, so the answer has it.
         slow.sendall(b"TP/1.1\r\n\r\n")
         t.same(parted(read_all(slow))[2], b'{"at":"2026-01-01T00:00:00Z","reason":4,"status":"revoked"}')
@@ -50,7 +50,7 @@ def lines_in_pieces_of_one_byte_are_answered_each_on_its_connection(t):
         for at in range(longest):
             for control, line, _ in controls:
                 if piece := f"{line}\n".encode()[at : at + 1]:
-                    control.peer.sendall(piece)
+                    control.stream.sendall(piece)
         for control, line, reply in controls:
             t.same(control.file.readline().decode(), f"{reply}\n", f"the reply to {line!r}")
 
@@ -59,22 +59,22 @@ def lines_in_pieces_of_one_byte_are_answered_each_on_its_connection(t):
 def an_end_of_line_with_a_cr_is_the_same(t):
     opened(t)
     control = t.control()
-    control.peer.sendall(b"status 05\r\nstatus 05\r\r\nstatus\r 05\n")
+    control.stream.sendall(b"status 05\r\nstatus 05\r\r\nstatus\r 05\n")
     t.same([control.file.readline() for _ in range(3)], [b"good\n", b"E22 syntax\n", b"E22 syntax\n"], "replies: only one CR is dropped")
 
 
 @each({"as many as are held": (HELD, True), "one fewer": (HELD - 1, False)})
 def bytes_without_an_end_of_line(t, count, is_ended):
     opened(t)
-    with Control(t.room / "counter") as control:
-        control.peer.sendall(b"x" * count)
+    with Control(t.room / "control") as control:
+        control.stream.sendall(b"x" * count)
         if is_ended:
             t.same(control.file.read(), b"", "replies before the desk closed the connection")
         else:
-            authority.until(lambda: is_read(control.peer), "the desk to read the bytes")
+            authority.until(lambda: is_read(control.stream), "the desk to read the bytes")
             t.same(control.ask(""), "F4 read", "the reply to this line, which is too long")
             t.same(control.ask("status 05"), "good", "the next line of the same connection")
-    t.same(t.done("at", "counter", given="status 05\n"), "good\n", "another control connection")
+    t.same(t.done("at", "control", given="status 05\n"), "good\n", "another control connection")
 
 
 @test
@@ -82,13 +82,13 @@ def a_line_is_answered_before_requests_that_came_with_it(t):
     """So a revocation is in the answer to a request that the desk found together with it."""
     t.register()
     desk = t.open("ca.db", "--log")
-    with Control(t.room / "counter") as control, desk.connect() as client:
+    with Control(t.room / "control") as control, desk.connect() as client:
         control.ask("counts")
         client.sendall(b"GET /counts")
         authority.until(lambda: is_read(client), "the desk to accept the client")
         desk.process.send_signal(signal.SIGSTOP)
         client.sendall(b" HTTP/1.1\r\n\r\n")
-        control.peer.sendall(b"subscriber acme\n")
+        control.stream.sendall(b"subscriber acme\n")
         desk.process.send_signal(signal.SIGCONT)
         t.same((control.file.readline(), parted(read_all(client))[0]), (b"subscriber 1\n", 200), "the reply and the status")
     t.same([it.split('"')[1] for it in desk.end().err_lines], ["counts", "subscriber acme", "GET /counts HTTP/1.1"], "the order in the log")
@@ -98,14 +98,14 @@ def a_line_is_answered_before_requests_that_came_with_it(t):
 def a_closed_control_connection_frees_its_slot(t):
     desk = opened(t)
     for number in range(5 * PLACES):
-        control = Control(t.room / "counter")
+        control = Control(t.room / "control")
         if number % 4 == 1:
-            control.peer.sendall(b"status 0")
+            control.stream.sendall(b"status 0")
         elif number % 4 == 2:
             t.same(control.ask("status 05"), "good")
         elif number % 4 == 3:
             # The client closes without having read its replies.
-            control.peer.sendall(b"counts\n" * 3)
+            control.stream.sendall(b"counts\n" * 3)
         closed(control)
     together = [t.control() for _ in range(PLACES)]
     t.same([it.ask("status 05") for it in together], ["good"] * PLACES, "a connection in each slot, afterwards")
@@ -118,9 +118,9 @@ def a_control_connection_that_breaks_before_its_reply_is_sent_frees_its_slot(t):
     t.register()
     t.open(faults=faults.environment(count=t.room / "count", fail=f"write:1-{PLACES}=EPIPE", only="socket"))
     for number in range(PLACES):
-        with Control(t.room / "counter", timeout=20) as control:
+        with Control(t.room / "control", timeout=20) as control:
             t.same(control.ask("counts"), "", f"what client {number} receives")
-    with Control(t.room / "counter", timeout=20) as control:
+    with Control(t.room / "control", timeout=20) as control:
         t.same(control.ask("counts"), "good 0 revoked 0 expired 0", "the next client")
     t.same(faults.counted(t.room / "count")["met"], PLACES, "replies that were not sent")
 
@@ -132,7 +132,7 @@ def waiting_control_connections_are_answered_as_others_close(t):
     t.same([it.ask("counts") for it in first], ["good 1 revoked 0 expired 0"] * PLACES)
     waiting = [t.control() for _ in range(3)]
     for number, it in enumerate(waiting):
-        it.peer.sendall(f"subscriber s{number}\nstatus 05\n".encode())
+        it.stream.sendall(f"subscriber s{number}\nstatus 05\n".encode())
     # If the desk ran their lines too early, it would do so within this time.
     time.sleep(0.3)
     # The desk ran none of their lines: the next subscriber number is still free.
@@ -150,13 +150,13 @@ def a_waiting_control_connection_is_accepted_once_another_had_its_last_reply(t):
     first = [t.control() for _ in range(PLACES)]
     t.same([it.ask("counts") for it in first], ["good 1 revoked 0 expired 0"] * PLACES)
     waiting = t.control()
-    waiting.peer.sendall(b"status 05\n")
+    waiting.stream.sendall(b"status 05\n")
     desk.process.send_signal(signal.SIGSTOP)
-    first[0].peer.sendall(b"status 06\n")
-    first[0].peer.shutdown(socket.SHUT_WR)
+    first[0].stream.sendall(b"status 06\n")
+    first[0].stream.shutdown(socket.SHUT_WR)
     desk.process.send_signal(signal.SIGCONT)
     t.same(first[0].file.read(), b"unknown\n", "the last reply")
-    waiting.peer.settimeout(20)
+    waiting.stream.settimeout(20)
     t.same(waiting.file.readline(), b"good\n", "the reply to the waiting connection")
 
 
@@ -164,19 +164,19 @@ def a_waiting_control_connection_is_accepted_once_another_had_its_last_reply(t):
 def replies_that_were_not_read_come_in_order_once_they_are(t):
     opened(t)
     unread = t.control()
-    unread.peer.settimeout(1)
+    unread.stream.settimeout(1)
     lines = b"".join(b"status %x\n" % number for number in range(1, 200_001))
     sent = 0
     try:
         while sent < len(lines):
-            sent += unread.peer.send(lines[sent : sent + 4_096])
+            sent += unread.stream.send(lines[sent : sent + 4_096])
     except TimeoutError:
         pass
     t.true(sent < len(lines), "the desk read all lines of a client that reads no reply")
-    t.same(t.done("at", "counter", given="status 05\n"), "good\n", "another control connection meanwhile")
+    t.same(t.done("at", "control", given="status 05\n"), "good\n", "another control connection meanwhile")
     whole = lines[:sent].count(b"\n")
-    unread.peer.settimeout(LONGEST)
-    unread.peer.shutdown(socket.SHUT_WR)
+    unread.stream.settimeout(LONGEST)
+    unread.stream.shutdown(socket.SHUT_WR)
     wanted = b"".join(b"good\n" if number == 5 else b"unknown\n" for number in range(1, whole + 1))
     t.true(unread.file.read() == wanted, f"the replies to {whole} lines are wrong, incomplete or out of order")
 
@@ -194,17 +194,17 @@ def without_room_for_a_log(t, *words):
 
 
 def status_of_05(port):
-    with socket.create_connection(("127.0.0.1", port), LONGEST) as peer:
-        peer.sendall(b"GET /status/05 HTTP/1.1\r\n\r\n")
-        return parted(read_all(peer))[2]
+    with socket.create_connection(("127.0.0.1", port), LONGEST) as client:
+        client.sendall(b"GET /status/05 HTTP/1.1\r\n\r\n")
+        return parted(read_all(client))[2]
 
 
 @test
 def a_log_that_can_t_be_written_disturbs_no_client(t):
     t.register(lines=ENTERED)
-    desk, port = without_room_for_a_log(t, "open", "ca.db", "--control", "counter", "--unsigned")
+    desk, port = without_room_for_a_log(t, "open", "ca.db", "--control", "control", "--unsigned")
     for _ in range(3):
-        t.same(t.done("at", "counter", given="status 05\n"), "good\n", "a control line")
+        t.same(t.done("at", "control", given="status 05\n"), "good\n", "a control line")
         t.same(status_of_05(port), b'{"status":"good"}', "an HTTP request")
     t.same(desk.poll(), None, "exit status of the desk, which must still run")
     desk.terminate()

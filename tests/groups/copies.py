@@ -62,21 +62,21 @@ def an_open_register_is_copied_while_it_answers(t):
     stop, wrong = threading.Event(), []
 
     def asks():
-        with Control(t.room / "counter") as it:
+        with Control(t.room / "control") as it:
             while not stop.is_set():
                 if it.ask("status 05") != "good" or parted(desk.ask("GET", "/status/06"))[2] != b'{"status":"good"}':
                     wrong.append("another answer")
 
-    asker = threading.Thread(target=asks)
-    asker.start()
+    requester = threading.Thread(target=asks)
+    requester.start()
     try:
-        with Control(t.room / "counter") as it:
+        with Control(t.room / "control") as it:
             for at in range(20):
                 t.same(it.ask(f"subscriber s{at}"), f"subscriber {at + 2}")
                 copied(t, it.ask(f"copy copy{at}.db"), f"copy{at}.db")
     finally:
         stop.set()
-        asker.join()
+        requester.join()
     t.same(wrong, [], "wrong answers while the desk copied")
     # A copy has the entries made before it, also those that are only in the -wal, and none made after it.
     for at in (0, 19):
@@ -94,14 +94,14 @@ def a_path_at_the_control_socket_is_of_the_desks_own_folder(t):
     t.clock(NEXT)
     t.open()
     (t.room / "elsewhere").mkdir()
-    with Control(t.room / "counter") as it:
-        it.peer.sendall(b"copy elsewhere/copy.db\r\n")
+    with Control(t.room / "control") as it:
+        it.stream.sendall(b"copy elsewhere/copy.db\r\n")
         copied(t, it.file.readline().decode(), "elsewhere/copy.db")
-    copied(t, t.done("at", "counter", given=f"copy {t.room / 'with a blank.db'}\n"), "with a blank.db")
+    copied(t, t.done("at", "control", given=f"copy {t.room / 'with a blank.db'}\n"), "with a blank.db")
     # All that follows the first space is the path, with spaces at its ends.
-    copied(t, t.done("at", "counter", given="copy  ends in blanks.db \n"), " ends in blanks.db ")
+    copied(t, t.done("at", "control", given="copy  ends in blanks.db \n"), " ends in blanks.db ")
     # A path of two thousand bytes.
-    copied(t, t.done("at", "counter", given=f"copy {'./' * 1_000}copy.db\n"))
+    copied(t, t.done("at", "control", given=f"copy {'./' * 1_000}copy.db\n"))
 
 
 def a_file(path):
@@ -123,16 +123,16 @@ IN_THE_WAY = {
 
 
 @each(IN_THE_WAY)
-def never_over_an_existing_file(t, lay, end):
+def never_over_an_existing_file(t, create, end):
     t.register(lines=ENTERED)
-    lay(t.room / f"copy.db{end}")
+    create(t.room / f"copy.db{end}")
     before = sorted((it.name, os.readlink(it) if it.is_symlink() else it.is_file() and it.read_bytes()) for it in t.room.iterdir())
     ran = t.desk("copy", "ca.db", "copy.db", "--why")
     t.same((ran.status, ran.out, ran.err.decode()), (1, b"", f"F2 store\n  {TAKEN}\n"))
     found = sorted((it.name, os.readlink(it) if it.is_symlink() else it.is_file() and it.read_bytes()) for it in t.room.iterdir())
     t.same(found, before, "the files of the folder")
     t.open()
-    refused(t, "counter", "copy.db", TAKEN)
+    refused(t, "control", "copy.db", TAKEN)
 
 
 @test(seconds=2)
@@ -178,15 +178,15 @@ def no_copy_by_desk_copy(t, before, file, told):
 def no_copy_at_the_control_socket(t):
     t.register(lines=ENTERED)
     t.open()
-    refused(t, "counter", "nowhere/copy.db", "no such file")
-    refused(t, "counter", "", "no such file")
-    with Control(t.room / "counter") as it:
-        it.peer.sendall(b"copy \xff\nwhy\ncopy\n")
+    refused(t, "control", "nowhere/copy.db", "no such file")
+    refused(t, "control", "", "no such file")
+    with Control(t.room / "control") as it:
+        it.stream.sendall(b"copy \xff\nwhy\ncopy\n")
         t.same([it.file.readline() for _ in range(3)], [b"F2 store\n", b"why F2 store\n", b"E22 syntax\n"], "replies: not UTF-8, `why`, no path")
     # The open register is moved, and another file is at its path.
     os.rename(t.room / "ca.db", t.room / "moved.db")
     shutil.copy(t.room / "moved.db", t.room / "ca.db")
-    refused(t, "counter", "copy.db", "no such file")
+    refused(t, "control", "copy.db", "no such file")
     t.same([it.name for it in t.room.iterdir() if it.name.startswith("copy")], [], "files that are left")
 
 
@@ -196,7 +196,7 @@ def an_open_register_whose_files_were_emptied_is_damaged(t):
     t.open()
     for name in ("ca.db", "ca.db-wal"):
         os.truncate(t.room / name, 0)
-    refused(t, "counter", "copy.db", "damaged, or not a database: check the path and the disk")
+    refused(t, "control", "copy.db", "damaged, or not a database: check the path and the disk")
     t.same(left(t), [], "files that are left")
 
 
@@ -258,15 +258,15 @@ def a_full_disk_at_the_control_socket(t):
     t.register(lines=ENTERED)
     t.clock(NEXT)
     t.open(faults=faults.environment(fail="write:1+", only="copy.db.part"))
-    refused(t, "counter", "copy.db", "disk full")
+    refused(t, "control", "copy.db", "disk full")
     t.same(left(t), [], "files that are left")
-    t.same(t.done("at", "counter", given="subscriber beta\n"), "subscriber 2\n", "a command after the failed copy")
+    t.same(t.done("at", "control", given="subscriber beta\n"), "subscriber 2\n", "a command after the failed copy")
 
 
-LOSSES = {"nothing is lost": {}, "what was not synced is lost": {"lose": 1}, "the write is torn": {"torn": 1}}
+LOST_WRITES = {"nothing is lost": {}, "what was not synced is lost": {"lose": 1}, "the write is torn": {"torn": 1}}
 
 
-@each(LOSSES, seconds=6)
+@each(LOST_WRITES, seconds=6)
 def a_stop_leaves_a_whole_one_or_none(t, told):
     t.register(lines=ENTERED)
     words = ("copy", "ca.db", "copy.db")
@@ -292,7 +292,7 @@ def a_desk_that_is_killed_while_it_copies(t):
     """The register of a killed desk stays sound. The partial copy blocks the next one until it is deleted."""
     t.register(lines=ENTERED)
     desk = t.open(faults=faults.environment(stop=3, only=COPY_FILES))
-    with Control(t.room / "counter") as it:
+    with Control(t.room / "control") as it:
         t.same(it.ask("copy copy.db"), "", "the reply of the killed desk")
     t.same(desk.wait().status, -9)
     t.same(left(t), ["copy.db.part"])

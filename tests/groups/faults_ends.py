@@ -51,7 +51,7 @@ def an_input_of_no_bytes_writes_nothing(t):
 OUTPUTS = {
     "help": ["--help"],
     "a schedule": ["schedule", "ca.db", "1970-01-01T00:00:00Z=200"],
-    "an open desk": ["open", "ca.db", "--control", "counter", "--port", "0", "--unsigned"],
+    "an open desk": ["open", "ca.db", "--control", "control", "--port", "0", "--unsigned"],
     "a desk that serves": ["serve", "ca.db", "--requests", "1", "--port", "0"],
 }
 
@@ -170,8 +170,8 @@ def the_client_of_a_control_socket_fails(t, only, fail, told):
     t.register(lines=ENTERED)
     t.clock(DAY_2)
     opened = t.open()
-    ran, count = faults.run(t, ["at", "counter"], "counts\n", only=only, fail=fail)
+    ran, count = faults.run(t, ["at", "control"], "counts\n", only=only, fail=fail)
     t.same((ran.status, ran.err, count["met"]), (1, told, 1))
     t.true(ran.out in (b"", b"good 1 revoked 0 expired 0\n"), f"the standard output of `desk at` is {ran.out!r}")
-    t.same(t.done("at", "counter", given="counts\n"), "good 1 revoked 0 expired 0\n", "the reply to the next client")
+    t.same(t.done("at", "control", given="counts\n"), "good 1 revoked 0 expired 0\n", "the reply to the next client")
     t.same(opened.end().err, b"", "standard error of the desk")

@@ -28,19 +28,19 @@ def ended_while_fed(t, words, lines, ended, how, after, is_answering):
     """Writes lines to a program. After a while, counted from its start or its first reply, a signal ends the process `ended`, by default the program.
     Returns the id in the last reply, or 0 without a reply."""
     with tempfile.TemporaryFile(dir=t.room) as replies:
-        asker = subprocess.Popen(
+        client = subprocess.Popen(
             [program.program(), *words], cwd=t.room, stdin=subprocess.PIPE, stdout=replies, stderr=subprocess.DEVNULL, env=program.environment()
         )
-        feeder = threading.Thread(target=feed, args=(asker, lines))
+        feeder = threading.Thread(target=feed, args=(client, lines))
         feeder.start()
         if is_answering:
             authority.until(lambda: os.fstat(replies.fileno()).st_size, "a reply")
         time.sleep(after)
-        ended = ended or asker
+        ended = ended or client
         ended.send_signal(how)
         ended.wait(program.LONGEST)
         # The client of the control socket ends by itself when the desk has ended.
-        asker.wait(program.LONGEST)
+        client.wait(program.LONGEST)
         feeder.join()
         replies.seek(0)
         whole = replies.read().decode().split("\n")[:-1]
@@ -64,10 +64,10 @@ def what_was_answered_stands(t, command, how):
             lines = [f"{now} subscriber n{number}-{at}\n" for at in range(LINES)]
             last = ended_while_fed(t, ["script", "ca.db"], lines, None, how, after, number % 2)
         else:
-            (t.room / "counter").unlink(missing_ok=True)
-            with program.Opened(["open", "ca.db", "--control", "counter", "--unsigned"], cwd=t.room) as desk:
+            (t.room / "control").unlink(missing_ok=True)
+            with program.Opened(["open", "ca.db", "--control", "control", "--unsigned"], cwd=t.room) as desk:
                 lines = [f"subscriber n{number}-{at}\n" for at in range(LINES)]
-                last = ended_while_fed(t, ["at", "counter"], lines, desk.process, how, after, number % 2)
+                last = ended_while_fed(t, ["at", "control"], lines, desk.process, how, after, number % 2)
         again = t.done("script", "ca.db", given=f"{program.moment_of(time.time())} subscriber after-{number}\n")
         following = int(again.split()[1])
         t.true(following > last, f"round {number}: subscriber {last} was answered and is lost: the next subscriber is {following}")

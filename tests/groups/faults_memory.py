@@ -145,9 +145,9 @@ def an_open_desk_goes_on_after_a_refusal(t, part):
     last, done = 0, 0
     for at in faults.places(12_000, 0, 41, 1 + part * 10):
         faults.copy(base, t.room / "ca.db")
-        (t.room / "counter").unlink(missing_ok=True)
+        (t.room / "control").unlink(missing_ok=True)
         env = faults.environment(count=t.room / "count", same=1, fail=f"alloc:{at}")
-        with program.Opened(["open", "ca.db", "--control", "counter", "--unsigned"], cwd=t.room, clock=clock, faults=env) as desk:
+        with program.Opened(["open", "ca.db", "--control", "control", "--unsigned"], cwd=t.room, clock=clock, faults=env) as desk:
             if desk.listens:
                 asked_of(t, desk, at)
             else:
@@ -167,7 +167,7 @@ def asked_of(t, desk, at):
     for method, target, body, status, wanted in ASKED:
         response = desk.ask(method, target, body)
         t.true(fits(response, status, wanted), f"allocation {at}: {method} {target}: {response!r}")
-    with program.Control(t.room / "counter") as control:
+    with program.Control(t.room / "control") as control:
         for line, wanted in (("revoke 1", ("revoked", "E17 no-request")), ("counts", ("good 0 revoked 1 expired 0", "good 1 revoked 0 expired 0"))):
             try:
                 reply = control.ask(line)

@@ -51,7 +51,7 @@ COUNTED = (
 )
 STATUS = b"GET /status/05 HTTP/1.1\r\n\r\n"
 KNOWN = [(200, b'{"status":"good"}'), (200, b'{"expired":0,"good":1,"revoked":0}')]
-UNTOLD = [(500, b'{"error":"F2 store"}')] * 2
+STORE_FAILED = [(500, b'{"error":"F2 store"}')] * 2
 REFUSED = b'POST /requests HTTP/1.1\r\nContent-Length: 37\r\n\r\n{"serial":"06","ground":"superseded"}'
 UNKNOWN = (
     b"HTTP/1.1 409 Conflict\r\nDate: Fri, 02 Jan 2026 00:00:00 GMT\r\nContent-Type: application/json\r\nContent-Length: 30\r\nConnection: close\r\n\r\n"
@@ -135,7 +135,7 @@ def a_change_by_http_that_is_not_stored_is_reported(t):
             at += 1
             faults.copy(base, t.room / "ca.db")
             env = faults.environment(count=t.room / "count", same=1, only=FILES, fail=f"{kind}:{at}")
-            with program.Opened(["open", "ca.db", "--control", "counter", "--unsigned"], cwd=t.room, clock=t.room / "clock", faults=env) as desk:
+            with program.Opened(["open", "ca.db", "--control", "control", "--unsigned"], cwd=t.room, clock=t.room / "clock", faults=env) as desk:
                 if desk.listens:
                     status, _, body = parted(desk.send(REQUEST))
                     met = faults.counted(t.room / "count")["met"]
@@ -145,9 +145,9 @@ def a_change_by_http_that_is_not_stored_is_reported(t):
                     t.true(stood == 1 or status == 500, f"{kind} {at}: the register lacks the answered request")
                     # If the disk may or may not have the change, the desk answers no query until the register is opened again.
                     behind = [parted(desk.send(it))[::2] for it in (STATUS, COUNTS)]
-                    t.true(behind in (KNOWN, UNTOLD if status == 500 else KNOWN), f"{kind} {at}: the next responses are {behind}")
+                    t.true(behind in (KNOWN, STORE_FAILED if status == 500 else KNOWN), f"{kind} {at}: the next responses are {behind}")
                 desk.end()
-            (t.room / "counter").unlink(missing_ok=True)
+            (t.room / "control").unlink(missing_ok=True)
             again = faults.sound_run(t, ["script", "ca.db"], f"{DAY_2} request 05 superseded\n")
             if desk.listens:
                 t.same(again.out, b"request %d due 2026-01-03T00:00:00Z\n" % (stood + 1), f"{kind} {at}: the request after reopening")
@@ -167,7 +167,7 @@ def an_interrupted_call_is_repeated(t, fail):
 
 
 @test(seconds=3)
-def a_connection_that_the_kernel_does_not_watch_counts_as_a_request(t):
+def a_connection_that_the_kernel_does_not_poll_counts_as_a_request(t):
     """`serve` accepts no more connections than requests. So a connection for which epoll_ctl fails counts as one, or `serve` would wait for ever."""
     base = t.register("base.db", text(REGISTERED))
     for at in range(1, 20):
@@ -191,7 +191,7 @@ def a_connection_that_the_kernel_does_not_watch_counts_as_a_request(t):
 @each({"a socket": "socket:1", "the port": "bind:1", "listening": "listen:1"}, seconds=1)
 def where_it_can_not_listen_nothing_is_written(t, fail):
     base = t.register("base.db", text(REGISTERED))
-    for words in (["open", "ca.db", "--control", "counter", "--unsigned"], ["serve", "ca.db", "--requests", "1"]):
+    for words in (["open", "ca.db", "--control", "control", "--unsigned"], ["serve", "ca.db", "--requests", "1"]):
         faults.copy(base, t.room / "ca.db")
         ran, count = faults.run(t, [*words, "--port", str(program.free_port())], fail=fail)
         t.same((ran.status, ran.out, ran.err, count["met"]), (1, b"", b"F4 read\n", 1), f"{words[0]}, {fail}")
@@ -206,12 +206,12 @@ def a_clock_that_can_not_be_read_ends_an_open_desk(t):
     seen = set()
     for at in range(1, 12):
         faults.copy(base, t.room / "ca.db")
-        (t.room / "counter").unlink(missing_ok=True)
+        (t.room / "control").unlink(missing_ok=True)
         env = faults.environment(count=t.room / "count", same=1, fail=f"clock:{at}+")
-        with program.Opened(["open", "ca.db", "--control", "counter", "--unsigned", "--why"], cwd=t.room, clock=t.room / "clock", faults=env) as desk:
+        with program.Opened(["open", "ca.db", "--control", "control", "--unsigned", "--why"], cwd=t.room, clock=t.room / "clock", faults=env) as desk:
             got = []
             if desk.listens:
-                with program.Control(t.room / "counter") as control, contextlib.suppress(OSError):
+                with program.Control(t.room / "control") as control, contextlib.suppress(OSError):
                     for it in asked:
                         got += [reply for reply in [control.ask(it)] if reply]
             met = faults.counted(t.room / "count")["met"]

@@ -74,7 +74,7 @@ def last_of(t, course, kind, **told):
     return last
 
 
-LOSSES = {
+LOST_WRITES = {
     "nothing is lost": {},
     "what was not synced is lost": {"lose": 1},
     "some of what was not synced is lost": {"lose": 7},
@@ -84,7 +84,7 @@ LOSSES = {
 }
 
 
-@each({f"version {version}, {name}": (version, told) for version in VERSIONS for name, told in LOSSES.items()}, seconds=5)
+@each({f"version {version}, {name}": (version, told) for version in VERSIONS for name, told in LOST_WRITES.items()}, seconds=5)
 def it_stops(t, version, told):
     course = course_of(t, version)
     for at in range(1, last_of(t, course, "steps", only=FILES) + 1):

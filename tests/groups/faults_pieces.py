@@ -10,7 +10,7 @@ from lib.trial import each, test
 DAY = "2026-01-01T00:00:00Z"
 LATER = "2026-01-02T00:00:00Z"
 # The register's files are left out, because a short read or write of them is a failure of the store (below).
-WIRES = "stdin,stdout,socket"
+STREAMS = "stdin,stdout,socket"
 SCRIPT = "".join(f"{asked}\n" for asked, _ in LIFE)
 REPLIES = "".join(f"{reply}\n" for _, reply in LIFE)
 ROWS = f"order,serial,notBefore,notAfter\n1,05,{DAY},2026-01-10T00:00:00Z\n1,05,{DAY},2026-01-10T00:00:00Z\n2,06\n"
@@ -19,22 +19,22 @@ ROWS = f"order,serial,notBefore,notAfter\n1,05,{DAY},2026-01-10T00:00:00Z\n1,05,
 @each({"one byte": 1, "seven bytes": 7, "4,095 bytes": 4_095}, seconds=2)
 def a_script_in_pieces(t, size):
     t.register()
-    ran, _ = faults.run(t, ["script", "ca.db"], SCRIPT, only=WIRES, short=size)
+    ran, _ = faults.run(t, ["script", "ca.db"], SCRIPT, only=STREAMS, short=size)
     t.same((ran.status, ran.out.decode(), ran.err), (0, REPLIES, b""))
     faults.audited(t, "ca.db", (1, 1, 3), "in pieces")
 
 
 @each({"one byte": 1, "seven bytes": 7}, seconds=2)
 def jobs_in_pieces(t, size):
-    ran, _ = faults.run(t, ["init", "ca.db", "--name", program.NAME, "--key", program.KEY], only=WIRES, short=size)
+    ran, _ = faults.run(t, ["init", "ca.db", "--name", program.NAME, "--key", program.KEY], only=STREAMS, short=size)
     t.same((ran.status, ran.out), (0, b"created\n"))
     t.done("script", "ca.db", given=f"{DAY} subscriber acme\n{DAY} order 1 398\n")
-    ran, _ = faults.run(t, ["import", "ca.db", "--now", DAY], ROWS, only=WIRES, short=size)
+    ran, _ = faults.run(t, ["import", "ca.db", "--now", DAY], ROWS, only=STREAMS, short=size)
     t.same((ran.status, ran.lines), (0, ["registered", "same", "E22 syntax"]))
     t.done("script", "ca.db", given=f"{DAY} crl\n")
-    ran, _ = faults.run(t, ["crl", "ca.db"], only=WIRES, short=size)
+    ran, _ = faults.run(t, ["crl", "ca.db"], only=STREAMS, short=size)
     t.same((ran.status, ran.out), (0, t.desk("crl", "ca.db").out), "the CRL's bytes")
-    ran, _ = faults.run(t, ["audit", "ca.db"], only=WIRES, short=size)
+    ran, _ = faults.run(t, ["audit", "ca.db"], only=STREAMS, short=size)
     t.same((ran.status, ran.lines), (0, ["sound, 1 certificates, 0 revoked, 1 CRLs"]))
 
 
@@ -46,9 +46,9 @@ def an_open_desk_in_pieces(t, size):
     asked = [("GET", "/status/05", None), ("POST", "/ocsp", bytes.fromhex(faults.OCSP_REQUEST)), ("GET", "/crl", None), ("POST", "/ocsp", bytes(9_000))]
     wanted = [whole.ask(*it) for it in asked]
     whole.end()
-    opened = t.open(faults=faults.environment(only=WIRES, short=size))
+    opened = t.open(faults=faults.environment(only=STREAMS, short=size))
     t.same([opened.ask(*it) for it in asked], wanted, "HTTP in pieces")
-    ran = t.desk("at", "counter", given="status 05\nrequest 05 asked\nrevoke 1\nstatus 05\n", faults=faults.environment(only=WIRES, short=size))
+    ran = t.desk("at", "control", given="status 05\nrequest 05 asked\nrevoke 1\nstatus 05\n", faults=faults.environment(only=STREAMS, short=size))
     t.same(ran.lines, ["good", "request 1 due 2026-01-03T00:00:00Z", "revoked", f"revoked {LATER} reason 0"], "the control socket in pieces")
 
 
@@ -59,7 +59,7 @@ def an_import_at_the_control_socket_in_pieces(t, size):
     t.clock(DAY)
     t.open()
     (t.room / "rows").write_text(f"1,05,{DAY},2026-01-10T00:00:00Z\n" * 300)
-    ran = t.desk("at", "counter", "--import", "rows", faults=faults.environment(only=WIRES, short=size))
+    ran = t.desk("at", "control", "--import", "rows", faults=faults.environment(only=STREAMS, short=size))
     t.same((ran.status, ran.out, ran.err), (0, b"registered\n" + b"same\n" * 299, b""))
 
 
@@ -77,7 +77,7 @@ def a_log_in_pieces(t, only, words):
 @each({"one byte": 1, "two bytes": 2}, seconds=2)
 def a_control_line_is_answered_however_many_reads_it_takes(t, size):
     t.register()
-    t.open(faults=faults.environment(only=WIRES, short=size))
+    t.open(faults=faults.environment(only=STREAMS, short=size))
     with t.control() as control:
         for length in range(40):
             t.same(control.ask("x" * length), "E22 syntax", f"a line of {length} bytes")

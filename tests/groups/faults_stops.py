@@ -6,7 +6,7 @@ from lib.faults import CHANGES, LIFE, REGISTERED, Course
 from lib.trial import Failed, each
 
 FILES = "ca.db,ca.db-wal"
-LOSSES = {
+LOST_WRITES = {
     "nothing is lost": {},
     "what was not synced is lost": {"lose": 1},
     "some of what was not synced is lost": {"lose": 7},
@@ -33,17 +33,17 @@ def stopped_at_each_step(t, base, lines, sound, told):
         course.round(None, 1, f"stopped at step {at}", only=FILES, stop=at, **told)
 
 
-@each(LOSSES, seconds=10)
+@each(LOST_WRITES, seconds=10)
 def a_script_is_stopped(t, told):
     stopped_at_each_step(t, t.register("base.db"), LIFE, (1, 1, 3), told)
 
 
-@each(LOSSES, seconds=10)
+@each(LOST_WRITES, seconds=10)
 def a_script_of_the_other_commands_is_stopped(t, told):
     stopped_at_each_step(t, t.register("base.db", script(REGISTERED)), CHANGES, (1, 0, 0), told)
 
 
-@each(LOSSES, seconds=10)
+@each(LOST_WRITES, seconds=10)
 def a_register_that_is_made_is_stopped(t, told):
     words = ["init", "ca.db", "--name", program.NAME, "--key", program.KEY]
     faults.copy(None, t.room / "ca.db")
@@ -60,7 +60,7 @@ def a_register_that_is_made_is_stopped(t, told):
         faults.audited(t, "ca.db", (0, 0, 0), f"stopped at step {at}")
 
 
-@each(LOSSES, seconds=10)
+@each(LOST_WRITES, seconds=10)
 def an_import_is_stopped(t, told):
     base, words = t.register("base.db", ORDERS), ["import", "ca.db", "--now", DAY]
     faults.copy(base, t.room / "ca.db")
@@ -82,7 +82,7 @@ def an_import_is_stopped(t, told):
 SET = {"a schedule": (["schedule", "ca.db", *STEPS], b"schedule set\n"), "a key identifier": (["key-id", "ca.db", "0102"], b"key-id set\n")}
 
 
-@each({f"{name}, {loss}": (*SET[name], LOSSES[loss]) for name in SET for loss in LOSSES}, seconds=5)
+@each({f"{name}, {loss}": (*SET[name], LOST_WRITES[loss]) for name in SET for loss in LOST_WRITES}, seconds=5)
 def what_is_set_is_stopped(t, words, done, told):
     base = t.register("base.db", script(REGISTERED))
     faults.copy(base, t.room / "ca.db")
@@ -119,7 +119,7 @@ def a_machine_stops_after_an_answered_command(t, seed):
     faults.audited(t, "ca.db", (4, 0, 1), "in the end")
 
 
-@each(LOSSES, seconds=15)
+@each(LOST_WRITES, seconds=15)
 def an_open_desk_is_stopped(t, told):
     base = t.register("base.db")
     course = Course(t, base, LIFE, (1, 1, 3))
@@ -127,10 +127,10 @@ def an_open_desk_is_stopped(t, told):
     while True:
         at += 1
         faults.copy(base, t.room / "ca.db")
-        (t.room / "counter").unlink(missing_ok=True)
+        (t.room / "control").unlink(missing_ok=True)
         clock.write_text(str(program.seconds_of(DAY)))
         env = faults.environment(count=t.room / "count", same=1, only=FILES, stop=at, **told)
-        with program.Opened(["open", "ca.db", "--control", "counter", "--unsigned"], cwd=t.room, clock=clock, faults=env) as desk:
+        with program.Opened(["open", "ca.db", "--control", "control", "--unsigned"], cwd=t.room, clock=clock, faults=env) as desk:
             place = answered(t, desk, clock) if desk.listens else 0
             desk.end()
         met = faults.counted(t.room / "count")["met"]
@@ -143,7 +143,7 @@ def an_open_desk_is_stopped(t, told):
 def answered(t, desk, clock):
     """Sends the lines to the control socket, each under the clock of its moment, until the desk is killed. Returns how many were answered."""
     try:
-        with program.Control(t.room / "counter") as control:
+        with program.Control(t.room / "control") as control:
             for place, (asked, wanted) in enumerate(LIFE):
                 moment, line = asked.split(" ", 1)
                 clock.write_text(str(program.seconds_of(moment)))

@@ -282,7 +282,7 @@ def subscribers_have_the_names_of_register_pem(t):
     t.open()
     for at, _ in enumerate(holders):
         t.tool("openssl", "x509", "-req", "-in", f"{at}.csr", "-CA", it.pem, "-CAkey", it.key, "-set_serial", 5 + at, "-days", "30", "-out", "next.pem")
-        told = t.tool("env", f"DESK={program.program()}", "sh", EXAMPLES / "register-pem.sh", "-c", "counter", "next.pem").decode()
+        told = t.tool("env", f"DESK={program.program()}", "sh", EXAMPLES / "register-pem.sh", "-c", "control", "next.pem").decode()
         t.has(told, f"of subscriber {at + 1}\n")
 
 

@@ -109,6 +109,9 @@ FOUND = {
     "crates/reg_a/specs/Told.antt": ("x : Nat -- a hub\n", ["1: told -> reported"]),
     "crates/reg_a/proofs/one/Hub.antt": ("told hub\n", ["1: hub -> event loop"]),
     "crates/reg_a/edits/told__twice.edit": ("told\n", ["1: told -> reported"]),
+    "tests/run": ("#!/usr/bin/env python3\nhubs = 1\n", []),
+    "tests/groups/talks.py": ("# told\nold_hub = perf_counter('hub')\n", ["2: hub -> event loop"]),
+    "bench/hub.py": ("\n", ["1: hub -> event loop"]),
 }
 
 

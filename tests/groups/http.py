@@ -219,10 +219,10 @@ def no_prefix_of_a_request_is_answered(t):
     desk = opened(t)
     whole = b'POST /requests HTTP/1.1\r\nContent-Length: 37\r\n\r\n{"serial":"05","ground":"superseded"}'
     for end in range(len(whole)):
-        with desk.connect() as peer:
-            peer.sendall(whole[:end])
-            peer.shutdown(1)
-            t.same(peer.recv(100), b"", f"the response to the first {end} bytes of a request")
+        with desk.connect() as client:
+            client.sendall(whole[:end])
+            client.shutdown(1)
+            t.same(client.recv(100), b"", f"the response to the first {end} bytes of a request")
     t.same(parted(desk.send(whole))[2], b'{"due":"2026-01-03T00:00:00Z","request":2}', "the whole request, number 2 as no prefix was entered")
 
 
@@ -231,13 +231,13 @@ def a_request_in_pieces_has_the_same_answer(t, size):
     desk = opened(t)
     request = b"POST /ocsp HTTP/1.1\r\nX: " + b"y" * 500 + b"\r\nContent-Length: 600\r\n\r\n" + bytes(600)
     whole = desk.send(request)
-    with desk.connect() as peer:
-        peer.setsockopt(6, 1, 1)
+    with desk.connect() as client:
+        client.setsockopt(6, 1, 1)
         for at in range(0, len(request), size):
-            peer.sendall(request[at : at + size])
+            client.sendall(request[at : at + size])
             time.sleep(0.0005)
         got = b""
-        while piece := peer.recv(65_536):
+        while piece := client.recv(65_536):
             got += piece
     t.same(got, whole)
 
@@ -245,12 +245,12 @@ def a_request_in_pieces_has_the_same_answer(t, size):
 @test(seconds=4)
 def a_body_of_65536_bytes_comes_one_at_a_time(t):
     desk = opened(t)
-    with desk.connect() as peer:
-        peer.setsockopt(6, 1, 1)
-        peer.sendall(b"POST /ocsp HTTP/1.1\r\nContent-Length: 65536\r\n\r\n")
+    with desk.connect() as client:
+        client.setsockopt(6, 1, 1)
+        client.sendall(b"POST /ocsp HTTP/1.1\r\nContent-Length: 65536\r\n\r\n")
         for _ in range(65_536):
-            peer.sendall(b"x")
-        status, _, body = parted(read_all(peer))
+            client.sendall(b"x")
+        status, _, body = parted(read_all(client))
     t.same((status, body), (200, MALFORMED))
 
 

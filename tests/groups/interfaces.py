@@ -62,7 +62,7 @@ def a_log_in_the_place_of_a_register(t, log):
     t.register(lines=ENTERED)
     (t.room / "link").symlink_to("ca.db")
     before = (t.room / "ca.db").read_bytes()
-    for command in (["open", "ca.db", "--unsigned", "--control", "counter"], ["serve", "ca.db", "--requests", "1"]):
+    for command in (["open", "ca.db", "--unsigned", "--control", "control"], ["serve", "ca.db", "--requests", "1"]):
         ran = t.desk(*command, "--port", free_port(), "--log-file", log, "--why")
         t.same((ran.status, ran.out, ran.err), (1, b"", b"F5 write\n  the path already exists: give another one (--log-file)\n"))
     t.same((t.room / "ca.db").read_bytes(), before)
@@ -75,7 +75,7 @@ def a_log_in_the_place_of_that_of_a_register_behind_a_link(t):
     (t.room / "registers").mkdir()
     t.register("registers/ca.db", lines=ENTERED)
     (t.room / "ca.db").symlink_to("registers/ca.db")
-    ran = t.desk("open", "ca.db", "--unsigned", "--control", "counter", "--port", free_port(), "--log-file", "registers/ca.db-wal", "--why")
+    ran = t.desk("open", "ca.db", "--unsigned", "--control", "control", "--port", free_port(), "--log-file", "registers/ca.db-wal", "--why")
     t.same((ran.status, ran.out, ran.err), (1, b"", b"F5 write\n  the path already exists: give another one (--log-file)\n"))
 
 
@@ -96,7 +96,7 @@ def a_log_on_another_file_system_is_no_file_of_the_register(t):
     if number != other:
         raise Skipped(f"the first files of two file systems have other numbers here: {number}, {other}")
     desk = t.open("registers/ca.db", "--log-file", "logs/ca.log")
-    t.same(t.done("at", "counter", given="counts\n"), "good 0 revoked 0 expired 0\n")
+    t.same(t.done("at", "control", given="counts\n"), "good 0 revoked 0 expired 0\n")
     desk.end()
     t.has((t.room / "logs/ca.log").read_text(), '"counts"', "the log")
 
@@ -112,7 +112,7 @@ def the_control_socket_by_its_older_name(t):
 def only_its_owner_can_use_the_control_socket(t):
     t.register()
     t.open()
-    mode = os.stat(t.room / "counter").st_mode
+    mode = os.stat(t.room / "control").st_mode
     t.same((stat.S_ISSOCK(mode), oct(stat.S_IMODE(mode))), (True, "0o600"), "the control socket")
     t.same(oct(stat.S_IMODE(os.stat(t.room / "ca.db").st_mode)), "0o600", "the register")
 
@@ -122,18 +122,18 @@ def a_live_control_socket_is_not_taken_over(t):
     t.register(lines=ENTERED)
     t.register("other.db")
     t.open()
-    ran = t.desk("open", "other.db", "--port", free_port(), "--control", "counter", "--unsigned")
+    ran = t.desk("open", "other.db", "--port", free_port(), "--control", "control", "--unsigned")
     t.same((ran.status, ran.out, ran.err), (1, b"", b"F4 read\n"), "the second desk at the same control socket")
-    t.same(t.done("at", "counter", given="status 05\n"), "good\n", "the first desk")
+    t.same(t.done("at", "control", given="status 05\n"), "good\n", "the first desk")
 
 
 @test
 def a_stale_socket_is_taken_over_and_a_file_is_not(t):
     t.register(lines=ENTERED)
     t.open().end()
-    t.true((t.room / "counter").is_socket(), "a desk that was ended has removed its socket")
+    t.true((t.room / "control").is_socket(), "a desk that was ended has removed its socket")
     opened = t.open()
-    t.same(t.done("at", "counter", given="status 05\n"), "good\n")
+    t.same(t.done("at", "control", given="status 05\n"), "good\n")
     opened.end()
     (t.room / "file").write_text("no socket")
     ran = t.desk("open", "ca.db", "--port", free_port(), "--control", "file", "--unsigned")
@@ -171,9 +171,9 @@ def the_lock_of_the_folder_of_a_control_socket(t):
     fcntl.flock(folder, fcntl.LOCK_EX)
     tried = lambda: (t.room / "count").exists() and faults.counted(t.room / "count")["lock"]
     with ThreadPoolExecutor(1) as pool:
-        opening = pool.submit(t.open, "ca.db", "--control", "sockets/counter", faults=faults.environment(count=t.room / "count", only="sockets"))
+        opening = pool.submit(t.open, "ca.db", "--control", "sockets/control", faults=faults.environment(count=t.room / "count", only="sockets"))
         until(tried, "a desk that tries to lock the folder", seconds=20)
-        t.same((t.room / "sockets/counter").exists(), False, "whether there is a socket")
+        t.same((t.room / "sockets/control").exists(), False, "whether there is a socket")
         fcntl.flock(folder, fcntl.LOCK_UN)
         opening.result()
     fcntl.flock(folder, fcntl.LOCK_EX | fcntl.LOCK_NB)
@@ -189,7 +189,7 @@ def no_connection_gets_the_number_of_a_closed_standard_stream(t, closed, told, l
     """Otherwise `desk at` would send the replies to the desk, or read lines from it."""
     t.register()
     t.open()
-    words = ["bash", "-c", f'exec "$@" {closed}', "-", program(), "at", "counter"]
+    words = ["bash", "-c", f'exec "$@" {closed}', "-", program(), "at", "control"]
     ran = t.tried(*words, given="subscriber acme\nsubscriber beta\n", timeout=60, env=environment())
     t.same((ran.returncode, ran.stderr), (1, told))
     t.same(t.control().ask("subscriber last"), f"subscriber {lines + 1}", "the reply to a later line")
@@ -200,7 +200,7 @@ def no_file_of_a_register_gets_the_number_of_closed_standard_error(t):
     """Otherwise the desk would write its log into that file."""
     t.register()
     port = free_port()
-    words = ["open", "ca.db", "--port", str(port), "--control", "counter", "--unsigned", "--log"]
+    words = ["open", "ca.db", "--port", str(port), "--control", "control", "--unsigned", "--log"]
     it = subprocess.Popen(
         ["bash", "-c", 'exec "$@" 2>&-', "-", program(), *words], cwd=t.room, stdin=subprocess.DEVNULL, stdout=subprocess.PIPE, env=environment()
     )
@@ -237,9 +237,9 @@ def a_clock_that_is_set_is_that_of_answers_and_commands(t):
     t.clock("2026-02-28T23:59:59Z")
     opened = t.open()
     t.same([it for it in parted(opened.ask("GET", "/counts"))[1] if it.startswith("Date")], ["Date: Sat, 28 Feb 2026 23:59:59 GMT"])
-    t.same(t.done("at", "counter", given="accept-clock 2026-02-28T23:59:59Z\nrequest 05 asked\n"), "clock accepted\nrequest 1 due 2026-03-01T23:59:59Z\n")
+    t.same(t.done("at", "control", given="accept-clock 2026-02-28T23:59:59Z\nrequest 05 asked\n"), "clock accepted\nrequest 1 due 2026-03-01T23:59:59Z\n")
     t.clock("2026-03-01T00:00:00Z")
-    t.same(t.done("at", "counter", given="revoke 1\nstatus 05\n"), "revoked\nrevoked 2026-03-01T00:00:00Z reason 0\n")
+    t.same(t.done("at", "control", given="revoke 1\nstatus 05\n"), "revoked\nrevoked 2026-03-01T00:00:00Z reason 0\n")
 
 
 @test
@@ -247,13 +247,13 @@ def at_prints_each_reply_in_order(t):
     t.register(lines=ENTERED)
     t.clock(DAY)
     t.open()
-    ran = t.desk("at", "counter", given="counts\nstatus 05\nstatus 06\nnext-crl\n")
+    ran = t.desk("at", "control", given="counts\nstatus 05\nstatus 06\nnext-crl\n")
     t.same((ran.status, ran.out, ran.err), (0, b"good 1 revoked 0 expired 0\ngood\nunknown\nnext-crl at-once\n", b""))
-    ran = t.desk("at", "counter", given="counts\nrevoke 7\nstatus 05\n")
+    ran = t.desk("at", "control", given="counts\nrevoke 7\nstatus 05\n")
     t.same((ran.status, ran.out, ran.err), (3, b"good 1 revoked 0 expired 0\nE17 no-request\ngood\n", b"refused\n"))
-    ran = t.desk("at", "counter", given="counts\nrevoke 7")
+    ran = t.desk("at", "control", given="counts\nrevoke 7")
     t.same((ran.status, ran.out, ran.err), (3, b"good 1 revoked 0 expired 0\n", b"no-line-end\n"), "a last line without its end")
-    ran = t.desk("at", "counter", given="")
+    ran = t.desk("at", "control", given="")
     t.same((ran.status, ran.out, ran.err), (0, b"", b""), "no line")
     ran = t.desk("at", "nobody", given="counts\n")
     t.same((ran.status, ran.out, ran.err), (1, b"", b"F4 read\n"), "a socket that is not there")
@@ -262,10 +262,10 @@ def at_prints_each_reply_in_order(t):
 REGISTERS = f"register 1 05 {DAY} 2026-12-31T00:00:00Z"
 # The words of a job, its lines or rows, the first of two lines that it sends, and the reply to that.
 JOBS_OF_AT = {
-    "at": (["at", "counter"], "counts\nstatus 05\n", "counts", "good 0 revoked 0 expired 0"),
-    "at --import": (["at", "counter", "--import", "rows"], f"1,05,{DAY},2026-12-31T00:00:00Z\n" * 2, REGISTERS, "E08 no-order"),
-    "at --revoke": (["at", "counter", "--revoke", "rows"], "05,superseded\n06,asked\n", f"request {5:040} superseded", "E14 unknown-serial"),
-    "replay": (["replay", "counter", "rows"], f'{DAY} control "crl" "crl 1 entries 0" 16 9\n' * 2, "crl", "crl 1 entries 0"),
+    "at": (["at", "control"], "counts\nstatus 05\n", "counts", "good 0 revoked 0 expired 0"),
+    "at --import": (["at", "control", "--import", "rows"], f"1,05,{DAY},2026-12-31T00:00:00Z\n" * 2, REGISTERS, "E08 no-order"),
+    "at --revoke": (["at", "control", "--revoke", "rows"], "05,superseded\n06,asked\n", f"request {5:040} superseded", "E14 unknown-serial"),
+    "replay": (["replay", "control", "rows"], f'{DAY} control "crl" "crl 1 entries 0" 16 9\n' * 2, "crl", "crl 1 entries 0"),
 }
 
 
@@ -274,18 +274,18 @@ def a_reply_is_printed_before_the_next_one_comes(t, words, given, line, reply):
     """The job prints the first reply although its standard input stays open and no second reply has come."""
     (t.room / "rows").write_text(given)
     with socket.socket(socket.AF_UNIX) as server:
-        server.bind(str(t.room / "counter"))
+        server.bind(str(t.room / "control"))
         server.listen(1)
         it = subprocess.Popen([program(), *words], cwd=t.room, stdin=subprocess.PIPE, stdout=subprocess.PIPE, stderr=subprocess.DEVNULL, env=environment())
         t.callback(it.wait, LONGEST)
         t.callback(it.kill)
         it.stdin.write(given.encode())
         it.stdin.flush()
-        peer, _ = server.accept()
-        with peer, peer.makefile("rb") as lines:
-            peer.settimeout(20)
+        client, _ = server.accept()
+        with client, client.makefile("rb") as lines:
+            client.settimeout(20)
             t.same(lines.readline().decode(), f"{line}\n", "the first line that it sends")
-            peer.sendall(f"{reply}\n".encode())
+            client.sendall(f"{reply}\n".encode())
             t.true(lines.readline(), "it does not send a second line")
             t.true(select.select([it.stdout], [], [], 20)[0], "it prints nothing")
             t.same(it.stdout.readline().decode(), f"{reply}\n", "what it prints")
@@ -301,22 +301,22 @@ IN_FLIGHT = 256
 def sending(t, words):
     """The job `at` with these words, and its connection to a control socket at which the test answers."""
     with socket.socket(socket.AF_UNIX) as server:
-        server.bind(str(t.room / "counter"))
+        server.bind(str(t.room / "control"))
         server.listen(1)
         it = subprocess.Popen([program(), *words], cwd=t.room, stdin=subprocess.PIPE, stdout=subprocess.PIPE, stderr=subprocess.PIPE, env=environment())
         t.callback(it.wait, LONGEST)
         t.callback(it.kill)
-        peer, _ = server.accept()
-        with peer:
-            peer.settimeout(20)
-            yield it, peer
+        client, _ = server.accept()
+        with client:
+            client.settimeout(20)
+            yield it, client
 
 
-def lines_from(peer, count):
+def lines_from(client, count):
     """The next `count` lines of a connection, and what came behind them, if anything did."""
     text = b""
     while text.count(b"\n") < count:
-        more = peer.recv(65_536)
+        more = client.recv(65_536)
         if not more:
             break
         text += more
@@ -330,20 +330,20 @@ def an_import_sends_256_lines_before_it_reads_their_replies(t, count, pieces):
     (t.room / "rows").write_text("".join(f"{at},{at:x},{DAY},2026-12-31T00:00:00Z\n" for at in range(1, count + 1)))
     expected = [f"register {at} {at:x} {DAY} 2026-12-31T00:00:00Z" for at in range(1, count + 1)]
     replies = [("registered", "E08 no-order")[at % 2] for at in range(count)]
-    with sending(t, ["at", "counter", "--import", "rows"]) as (it, peer):
+    with sending(t, ["at", "control", "--import", "rows"]) as (it, client):
         sent = 0
         for size in pieces:
-            lines, behind = lines_from(peer, size)
+            lines, behind = lines_from(client, size)
             t.same((lines, behind), (expected[sent:sent + size], b""), f"the lines of a piece after {sent}")
             piece = [f"{reply}\n".encode() for reply in replies[sent:sent + size]]
             for reply in piece[:-1]:
-                peer.sendall(reply)
+                client.sendall(reply)
                 t.same(it.stdout.readline(), reply, "a reply that is printed before the next one comes")
-            t.same(select.select([peer], [], [], 0.2)[0], [], f"lines that come before the last reply to the piece after {sent}")
-            peer.sendall(piece[-1])
+            t.same(select.select([client], [], [], 0.2)[0], [], f"lines that come before the last reply to the piece after {sent}")
+            client.sendall(piece[-1])
             t.same(it.stdout.readline(), piece[-1], "the last reply")
             sent += size
-        t.same(peer.recv(1), b"", "what comes after the last line")
+        t.same(client.recv(1), b"", "what comes after the last line")
         out, err = it.communicate(timeout=LONGEST)
     t.same((it.returncode, out, err), (0 if count == 1 else 3, b"", b"" if count == 1 else b"refused\n"))
 
@@ -351,22 +351,22 @@ def an_import_sends_256_lines_before_it_reads_their_replies(t, count, pieces):
 @each({"all lines are read": 65_536, "lines are unread": 10})
 def an_import_writes_the_replies_that_came_before_the_connection_ended(t, most):
     (t.room / "rows").write_text(f"1,05,{DAY},2026-12-31T00:00:00Z\n" * 300)
-    with sending(t, ["at", "counter", "--import", "rows"]) as (it, peer):
-        t.same(peer.recv(most)[:10], b"register 1", "what it sends")
-        peer.sendall(b"registered\nsame\nsa")
+    with sending(t, ["at", "control", "--import", "rows"]) as (it, client):
+        t.same(client.recv(most)[:10], b"register 1", "what it sends")
+        client.sendall(b"registered\nsame\nsa")
     out, err = it.communicate(timeout=LONGEST)
     t.same((it.returncode, out, err), (1, b"registered\nsame\n", b"F4 read\n"))
 
 
 @test
 def at_sends_each_line_of_its_input_once_the_reply_to_the_line_before_came(t):
-    with sending(t, ["at", "counter"]) as (it, peer):
+    with sending(t, ["at", "control"]) as (it, client):
         it.stdin.write(b"counts\n" * 3)
         it.stdin.flush()
         for at in range(3):
-            t.same(lines_from(peer, 1), (["counts"], b""), f"line {at}")
-            t.same(select.select([peer], [], [], 0.2)[0], [], "another line before the reply")
-            peer.sendall(b"good\n")
+            t.same(lines_from(client, 1), (["counts"], b""), f"line {at}")
+            t.same(select.select([client], [], [], 0.2)[0], [], "another line before the reply")
+            client.sendall(b"good\n")
             t.same(it.stdout.readline(), b"good\n", "a reply, while standard input stays open")
 
 
@@ -376,19 +376,19 @@ def many_lines_in_one_write_are_all_answered_in_order(t):
     t.clock(DAY)
     t.open()
     lines = [f"status {serial:x}" for serial in range(1, 20_001)]
-    with Control(t.room / "counter") as control:
+    with Control(t.room / "control") as control:
         sent = 0
         text = "".join(f"{it}\n" for it in lines).encode()
-        control.peer.setblocking(False)
-        replies, heard = b"", time.monotonic()
+        control.stream.setblocking(False)
+        replies, last_reply = b"", time.monotonic()
         while replies.count(b"\n") < len(lines):
             with contextlib.suppress(BlockingIOError):
-                sent += control.peer.send(text[sent:]) if sent < len(text) else 0
+                sent += control.stream.send(text[sent:]) if sent < len(text) else 0
             with contextlib.suppress(BlockingIOError):
-                got = control.peer.recv(65_536)
+                got = control.stream.recv(65_536)
                 t.true(got, f"the control connection ended after {replies.count(10)} of {len(lines)} replies")
-                replies, heard = replies + got, time.monotonic()
-            t.true(time.monotonic() - heard < 60, f"no reply came for 60 s, after {replies.count(10)} of {len(lines)}")
+                replies, last_reply = replies + got, time.monotonic()
+            t.true(time.monotonic() - last_reply < 60, f"no reply came for 60 s, after {replies.count(10)} of {len(lines)}")
             time.sleep(0.0002)
     wanted = b"".join(b"good\n" if serial == 5 else b"unknown\n" for serial in range(1, 20_001))
     t.true(replies == wanted, "a reply is wrong, or in the wrong place")
@@ -403,7 +403,7 @@ def a_long_line_is_answered_and_a_longer_one_ends_the_connection(t):
         t.same(control.ask("status " + "0" * 8_100), "E22 syntax")
         t.same(control.ask("counts"), "good 0 revoked 0 expired 0")
     with t.control() as control:
-        control.peer.sendall(b"x" * 9_000)
+        control.stream.sendall(b"x" * 9_000)
         t.same(control.file.read(), b"", "what a client receives that sent 9,000 bytes without a line end")
 
 
@@ -414,7 +414,7 @@ def the_log_has_each_exchange_also_revocations_and_refusals(t):
     opened = t.open("ca.db", "--log")
     opened.ask("POST", "/requests", '{"serial":"05","ground":"superseded"}')
     opened.ask("GET", "/nowhere")
-    t.desk("at", "counter", given="revoke 1\nrevoke 1\nnonsense\n")
+    t.desk("at", "control", given="revoke 1\nrevoke 1\nnonsense\n")
     opened.ask("GET", "/status/05")
     told = opened.end().err_lines
     bare = [re.sub(r"127\.0\.0\.1:\d+", "PEER", re.sub(r'" \d+ \d+', '"', it)) for it in told]
@@ -438,7 +438,7 @@ def without_log_nothing_is_logged(t):
     t.register(lines=ENTERED)
     opened = t.open()
     opened.ask("GET", "/counts")
-    t.desk("at", "counter", given="revoke 1\n")
+    t.desk("at", "control", given="revoke 1\n")
     t.same(opened.end().err, b"", "standard error")
 
 
@@ -515,12 +515,12 @@ def long_requests_are_answered(t):
     status, _, body = parted(opened.ask("GET", "/status/05", headers=[f"X-Long: {'x' * 8_000}"]))
     t.same((status, body), (200, b'{"status":"good"}'), "a head of 8,000 bytes")
     body = bytes(65_536)
-    with opened.connect() as peer:
-        peer.sendall(b"POST /ocsp HTTP/1.1\r\nContent-Length: 65536\r\n\r\n" + body[:30_000])
+    with opened.connect() as client:
+        client.sendall(b"POST /ocsp HTTP/1.1\r\nContent-Length: 65536\r\n\r\n" + body[:30_000])
         time.sleep(0.1)
-        peer.sendall(body[30_000:])
+        client.sendall(body[30_000:])
         got = b""
-        while piece := peer.recv(65_536):
+        while piece := client.recv(65_536):
             got += piece
     t.same((parted(got)[0], parted(got)[2].hex()), (200, "30030a0101"), "a body of 65,536 bytes in two pieces")
 

@@ -58,7 +58,7 @@ def only_its_owner_can_use_the_control_socket(t):
         t.open()
     finally:
         os.umask(before)
-    t.same("%o" % (os.stat(t.room / "counter").st_mode & 0o7777), "600")
+    t.same("%o" % (os.stat(t.room / "control").st_mode & 0o7777), "600")
 
 
 @test
@@ -68,7 +68,7 @@ def a_live_control_socket_is_not_taken_over(t):
     (t.room / "plain").write_text("left as it is")
     opened = t.open()
     t.same(t.control().ask("subscriber acme"), "subscriber 1")
-    for path in ("counter", "plain"):
+    for path in ("control", "plain"):
         ran = t.desk("open", "other.db", "--port", program.free_port(), "--control", path, "--unsigned")
         t.same((ran.status, ran.out, ran.err), (1, b"", b"F4 read\n"), f"a second desk at {path}")
     t.same((t.room / "plain").read_text(), "left as it is")
@@ -88,7 +88,7 @@ def lines_in_one_piece_are_answered_in_order(t):
     control = t.control()
     given = b"".join(b"subscriber n%d\n" % it for it in range(1, LINES + 1))
     # The desk reads no more lines while its replies are unread. So a thread sends lines while the test reads replies.
-    writer = threading.Thread(target=control.peer.sendall, args=(given,))
+    writer = threading.Thread(target=control.stream.sendall, args=(given,))
     writer.start()
     got = [control.file.readline() for _ in range(LINES)]
     writer.join(30)
@@ -101,7 +101,7 @@ def bytes_past_a_read_are_not_lost(t, size):
     t.open()
     control = t.control()
     count = size // 7 + 1
-    control.peer.sendall(b"counts\n" * count)
+    control.stream.sendall(b"counts\n" * count)
     t.same([control.file.readline() for _ in range(count)], [b"good 0 revoked 0 expired 0\n"] * count)
 
 
@@ -112,7 +112,7 @@ def at_gets_all_replies_where_its_input_ended_at_once(t):
     t.open()
     lines = [f"subscriber n{it}" for it in range(1, 3_001)] + ["revoke 9", "counts"]
     wanted = [f"subscriber {it}" for it in range(1, 3_001)] + ["E17 no-request", "good 0 revoked 0 expired 0"]
-    ran = t.desk("at", "counter", given="\n".join(lines) + "\n")
+    ran = t.desk("at", "control", given="\n".join(lines) + "\n")
     t.same((ran.status, ran.err), (3, b"refused\n"), "status and standard error")
     t.same(ran.lines, wanted)
 
@@ -122,19 +122,19 @@ def at_ends_with_1_where_the_desk_ends_meanwhile(t):
     t.register()
     opened = t.open()
     pipes = {it: subprocess.PIPE for it in ("stdin", "stdout", "stderr")}
-    peer = subprocess.Popen([program.program(), "at", "counter"], cwd=t.room, env=program.environment(), **pipes)
-    with peer:
-        peer.stdin.write(b"counts\n")
-        peer.stdin.flush()
+    client = subprocess.Popen([program.program(), "at", "control"], cwd=t.room, env=program.environment(), **pipes)
+    with client:
+        client.stdin.write(b"counts\n")
+        client.stdin.flush()
         # `desk at` prints a reply although its input has not ended.
-        t.same(peer.stdout.readline(), b"good 0 revoked 0 expired 0\n")
+        t.same(client.stdout.readline(), b"good 0 revoked 0 expired 0\n")
         opened.end()
         with contextlib.suppress(BrokenPipeError):
-            peer.stdin.write(b"counts\n")
-            peer.stdin.flush()
-        out, told = peer.communicate(timeout=program.LONGEST)
+            client.stdin.write(b"counts\n")
+            client.stdin.flush()
+        out, told = client.communicate(timeout=program.LONGEST)
     # Its write or its read fails first, depending on the machine.
-    t.same((peer.returncode, out), (1, b""), f"status and standard output, with {told!r} on standard error")
+    t.same((client.returncode, out), (1, b""), f"status and standard output, with {told!r} on standard error")
     t.true(told in (b"F4 read\n", b"F5 write\n"), f"standard error has {told!r}")
 
 
@@ -154,7 +154,7 @@ def the_moment_is_now(t):
     date = next(it for it in lines if it.startswith("Date: "))
     near(t, time.mktime(time.strptime(date, "Date: %a, %d %b %Y %H:%M:%S GMT")) - time.timezone, "the moment of a response")
     opened.end()
-    near(t, t.sql("ca.db", "SELECT last_at FROM office")[0][0], "the moment of a command at the counter")
+    near(t, t.sql("ca.db", "SELECT last_at FROM office")[0][0], "the moment of a command at the control socket")
 
 
 @test
@@ -168,11 +168,11 @@ def a_clocked_script_runs_now(t):
 
 def in_two(t, opened, given, at):
     """Sends a request in two pieces, the second after the first was read."""
-    with opened.connect() as peer:
-        peer.sendall(given[:at])
-        authority.until(lambda: program.is_read(peer), "the desk to read the first piece")
-        peer.sendall(given[at:])
-        return program.parted(program.read_all(peer))
+    with opened.connect() as client:
+        client.sendall(given[:at])
+        authority.until(lambda: program.is_read(client), "the desk to read the first piece")
+        client.sendall(given[at:])
+        return program.parted(program.read_all(client))
 
 
 def head_of(size, first="GET /counts HTTP/1.1"):

@@ -50,21 +50,21 @@ def asks(count):
 def a_control_socket_with_a_full_queue_is_not_taken_over(t):
     t.register()
     with socket.socket(socket.AF_UNIX) as other, contextlib.ExitStack() as clients:
-        other.bind(str(t.room / "counter"))
+        other.bind(str(t.room / "control"))
         other.listen(0)
         for _ in range(16):
             client = clients.enter_context(socket.socket(socket.AF_UNIX))
             client.setblocking(False)
             try:
-                client.connect(str(t.room / "counter"))
+                client.connect(str(t.room / "control"))
             except BlockingIOError:
                 break
         else:
             t.true(False, "the queue is not full")
-        before = (t.room / "counter").stat().st_ino
-        ran = t.desk("open", "ca.db", "--port", free_port(), "--control", "counter", "--unsigned")
+        before = (t.room / "control").stat().st_ino
+        ran = t.desk("open", "ca.db", "--port", free_port(), "--control", "control", "--unsigned")
         t.same((ran.status, ran.out, ran.err), (1, b"", b"F4 read\n"), "the second program at the socket")
-        t.same((t.room / "counter").stat().st_ino, before, "the inode of the socket")
+        t.same((t.room / "control").stat().st_ino, before, "the inode of the socket")
 
 
 @test(seconds=4)
@@ -72,12 +72,12 @@ def clients_that_connect_before_the_mode_is_set_are_disconnected(t):
     t.register()
     with ThreadPoolExecutor(1) as pool, contextlib.ExitStack() as clients:
         opening = pool.submit(t.open, faults=faults.environment(slow_chmod=t.room / "connected"))
-        authority.until(lambda: (t.room / "counter").is_socket(), "the socket")
-        early = [clients.enter_context(Control(t.room / "counter")) for _ in range(20)]
-        t.true(oct((t.room / "counter").stat().st_mode & 0o777) != "0o600", "the mode was set before the clients connected")
+        authority.until(lambda: (t.room / "control").is_socket(), "the socket")
+        early = [clients.enter_context(Control(t.room / "control")) for _ in range(20)]
+        t.true(oct((t.room / "control").stat().st_mode & 0o777) != "0o600", "the mode was set before the clients connected")
         for it in early:
             with contextlib.suppress(BrokenPipeError):
-                it.peer.sendall(b"subscriber mallory\n")
+                it.stream.sendall(b"subscriber mallory\n")
         (t.room / "connected").touch()
         opening.result()
         for at, it in enumerate(early):
@@ -95,16 +95,16 @@ def all_clients_that_connect_before_the_mode_is_set_are_disconnected(t):
     t.register()
     with ThreadPoolExecutor(1) as pool, contextlib.ExitStack() as clients:
         opening, early = pool.submit(t.open, faults=faults.environment(slow_chmod=t.room / "connected")), collections.deque()
-        authority.until(lambda: (t.room / "counter").is_socket(), "the socket")
+        authority.until(lambda: (t.room / "control").is_socket(), "the socket")
         with contextlib.suppress(BlockingIOError):
             while True:
                 client = clients.enter_context(socket.socket(socket.AF_UNIX))
                 client.setblocking(False)
-                client.connect(str(t.room / "counter"))
+                client.connect(str(t.room / "control"))
                 early.append(client)
                 if len(early) > 100:
                     early.popleft().close()
-        t.true(oct((t.room / "counter").stat().st_mode & 0o777) != "0o600", "the mode was set before the clients connected")
+        t.true(oct((t.room / "control").stat().st_mode & 0o777) != "0o600", "the mode was set before the clients connected")
         (t.room / "connected").touch()
         opening.result()
         for it in reversed(early):
@@ -116,7 +116,7 @@ def all_clients_that_connect_before_the_mode_is_set_are_disconnected(t):
 def early_clients_that_cannot_be_disconnected_keep_the_desk_from_opening(t, error):
     """Without a descriptor, accept(2) doesn't take a client from the queue, who could send commands later. The next desk takes the socket over."""
     t.register()
-    words = ["open", "ca.db", "--port", free_port(), "--control", "counter", "--unsigned"]
+    words = ["open", "ca.db", "--port", free_port(), "--control", "control", "--unsigned"]
     ran, counts = faults.run(t, words, fail=f"accept:1={error}")
     t.same((ran.status, ran.out, ran.err, counts["met"]), (1, b"", b"F4 read\n", 1), "status, output, standard error, injected faults")
     t.open()
@@ -128,11 +128,11 @@ def early_clients_that_cannot_be_disconnected_keep_the_desk_from_opening(t, erro
 def a_link_to_a_socket_is_not_taken_over(t):
     t.register()
     t.open().end()
-    os.rename(t.room / "counter", t.room / "stale")
-    os.symlink("stale", t.room / "counter")
-    ran = t.desk("open", "ca.db", "--port", free_port(), "--control", "counter", "--unsigned")
+    os.rename(t.room / "control", t.room / "stale")
+    os.symlink("stale", t.room / "control")
+    ran = t.desk("open", "ca.db", "--port", free_port(), "--control", "control", "--unsigned")
     t.same((ran.status, ran.out, ran.err), (1, b"", b"F4 read\n"), "a desk whose control socket is at a link")
-    t.same((os.readlink(t.room / "counter"), (t.room / "stale").is_socket()), ("stale", True), "the link and the socket")
+    t.same((os.readlink(t.room / "control"), (t.room / "stale").is_socket()), ("stale", True), "the link and the socket")
 
 
 @test
@@ -141,13 +141,13 @@ def a_control_socket_that_may_not_be_used_is_not_taken_over(t):
     t.register()
     t.register("other.db")
     t.open()
-    before = (t.room / "counter").stat().st_ino
-    words = ["open", "other.db", "--control", "counter", "--unsigned"]
+    before = (t.room / "control").stat().st_ino
+    words = ["open", "other.db", "--control", "control", "--unsigned"]
     desk = t.enter_context(program.Opened(words, cwd=t.room, faults=faults.environment(count=t.room / "count", fail="connect:1=EACCES")))
     t.same(desk.listens, False, "whether the second desk listens")
     ended = desk.wait()
     t.same((ended.status, ended.err, faults.counted(t.room / "count")["met"]), (1, b"F4 read\n", 1), "the second desk")
-    t.same((t.room / "counter").stat().st_ino, before, "the inode of the socket")
+    t.same((t.room / "control").stat().st_ino, before, "the inode of the socket")
     t.same(t.control().ask("counts"), "good 0 revoked 0 expired 0", "the first desk")
 
 
@@ -155,16 +155,16 @@ def a_control_socket_that_may_not_be_used_is_not_taken_over(t):
 def a_desk_that_can_not_lock_the_folder_of_its_control_socket_does_not_listen(t):
     """Without the lock, two desks could take over one stale socket."""
     t.register()
-    words = ["open", "ca.db", "--control", "counter", "--unsigned"]
+    words = ["open", "ca.db", "--control", "control", "--unsigned"]
     fault = faults.environment(count=t.room / "count", fail="lock:1=EIO", only=t.room.name)
     desk = t.enter_context(program.Opened(words, cwd=t.room, faults=fault))
     t.same(desk.listens, False, "whether it listens")
     ended = desk.wait()
     t.same((ended.status, ended.err, faults.counted(t.room / "count")["met"]), (1, b"F4 read\n", 1))
-    t.same((t.room / "counter").exists(), False, "whether there is a socket")
+    t.same((t.room / "control").exists(), False, "whether there is a socket")
 
 
-WHY_NONE = {"in no folder": ("nowhere/counter", "  no such file (--control)\n"), "where a desk listens": ("counter", "  in use by another program (--control)\n"), "where a file lies": ("ca.db", "")}
+WHY_NONE = {"in no folder": ("nowhere/control", "  no such file (--control)\n"), "where a desk listens": ("control", "  in use by another program (--control)\n"), "where a file lies": ("ca.db", "")}
 
 
 @each(WHY_NONE)
@@ -185,9 +185,9 @@ def a_crl_whose_line_ends_in_cr_lf_holds_up_nobody(t):
     desk = t.open("ca.db", *SIGNING)
     for line in (b"crl\r\n", b"ocsp " + asks(1).hex().encode() + b"\r\n"):
         with t.control() as control:
-            control.peer.sendall(line)
+            control.stream.sendall(line)
             # The second line waits for the signature of the first.
-            authority.until(lambda: signers.asked and program.is_read(control.peer), "a signature request")
+            authority.until(lambda: signers.asked and program.is_read(control.stream), "a signature request")
             with t.at_once("GET /counts"):
                 t.same(parted(desk.send(COUNTS))[0], 200, f"GET /counts after {line[:5]!r}")
 
@@ -203,7 +203,7 @@ def the_sixth_crl_of_a_connection_holds_up_nobody(t):
     with t.control() as control:
         t.same([control.ask("crl") for _ in range(5)], [f"crl {it} entries 0" for it in range(1, 6)])
         signs.clear()
-        control.peer.sendall(b"crl\n")
+        control.stream.sendall(b"crl\n")
         t.true(signers.until(1), "no signature is requested")
         with t.at_once("GET /counts"):
             t.same(parted(desk.send(COUNTS))[0], 200, "GET /counts meanwhile")
@@ -214,17 +214,17 @@ def the_sixth_crl_of_a_connection_holds_up_nobody(t):
 @test(seconds=2)
 def at_waits_for_room_in_the_queue_of_a_control_socket(t):
     tried = lambda: (t.room / "count").exists() and faults.counted(t.room / "count")["connect"]
-    with ThreadPoolExecutor(1) as pool, full_queue(t, "counter") as server:
-        ran = pool.submit(t.desk, "at", "counter", given="counts\n", faults=faults.environment(count=t.room / "count"))
+    with ThreadPoolExecutor(1) as pool, full_queue(t, "control") as server:
+        ran = pool.submit(t.desk, "at", "control", given="counts\n", faults=faults.environment(count=t.room / "count"))
         authority.until(tried, "`desk at` to connect")
         # Time in which it could give up.
         time.sleep(0.5)
         t.true(not ran.done(), "`desk at` has ended")
         server.accept()[0].close()
-        peer, _ = server.accept()
-        with peer:
-            t.same(peer.recv(100), b"counts\n", "the line")
-            peer.sendall(b"good\n")
+        client, _ = server.accept()
+        with client:
+            t.same(client.recv(100), b"counts\n", "the line")
+            client.sendall(b"good\n")
         t.same((ran.result().status, ran.result().out), (0, b"good\n"))
 
 
@@ -235,7 +235,7 @@ def a_desk_tries_to_lock_the_folder_of_its_control_socket_for_ten_seconds(t):
     folder = os.open(t.room, os.O_RDONLY)
     t.callback(os.close, folder)
     fcntl.flock(folder, fcntl.LOCK_EX)
-    ran, count = faults.run(t, ["open", "ca.db", "--port", free_port(), "--control", "counter", "--unsigned"], only=t.room.name, awake=1)
+    ran, count = faults.run(t, ["open", "ca.db", "--port", free_port(), "--control", "control", "--unsigned"], only=t.room.name, awake=1)
     t.same((ran.status, ran.out, ran.err), (1, b"", b"F4 read\n"))
     t.same(count["lock"], 2_000, "attempts")
 
@@ -250,7 +250,7 @@ def a_desk_tries_to_lock_the_folder_of_its_control_socket_many_times_a_second(t)
     fcntl.flock(folder, fcntl.LOCK_EX)
     tried = lambda: (t.room / "count").exists() and faults.counted(t.room / "count")["lock"]
     with ThreadPoolExecutor(1) as pool:
-        opening = pool.submit(t.open, "ca.db", "--control", "sockets/counter", faults=faults.environment(count=t.room / "count", only="sockets"))
+        opening = pool.submit(t.open, "ca.db", "--control", "sockets/control", faults=faults.environment(count=t.room / "count", only="sockets"))
         try:
             authority.until(tried, "a desk that tries to lock the folder", seconds=20)
             before = tried()
@@ -280,7 +280,7 @@ def as_many_replies_as_lines_and_rows(t):
     t.register()
     t.clock(DAY)
     t.open()
-    ran = t.desk("at", "counter", given="counts\n" * MANY)
+    ran = t.desk("at", "control", given="counts\n" * MANY)
     t.same((ran.status, ran.lines.count("good 0 revoked 0 expired 0")), (0, MANY), "replies of `desk at`")
     t.register("other.db")
     ran = t.desk("script", "other.db", "--clock", given="counts\n" * MANY)
@@ -300,7 +300,7 @@ def a_reply_of_more_than_8_kib_is_written_whole(t):
     line = f"ocsp {asks(60).hex()}"
     reply = t.control().ask(line)
     t.true(len(reply) > 8_192, f"the reply has only {len(reply)} characters")
-    t.same(t.done("at", "counter", given=f"{line}\ncounts\n"), f"{reply}\ngood 0 revoked 0 expired 0\n")
+    t.same(t.done("at", "control", given=f"{line}\ncounts\n"), f"{reply}\ngood 0 revoked 0 expired 0\n")
 
 
 @test(seconds=5)
@@ -308,23 +308,23 @@ def at_writes_more_than_a_million_replies(t):
     """In place of a desk, the test takes the lines of `desk at`, and sends all replies at once."""
     lines, reply = 1_000_001, b"why nothing\n"
     server = t.enter_context(socket.socket(socket.AF_UNIX))
-    server.bind(str(t.room / "counter"))
+    server.bind(str(t.room / "control"))
     server.listen(1)
 
-    def takes(peer):
-        while peer.recv(1 << 20):
+    def takes(client):
+        while client.recv(1 << 20):
             pass
 
     def serves():
-        peer, _ = server.accept()
-        with peer, ThreadPoolExecutor(1) as taker:
-            taker.submit(takes, peer)
+        client, _ = server.accept()
+        with client, ThreadPoolExecutor(1) as taker:
+            taker.submit(takes, client)
             with contextlib.suppress(BrokenPipeError, ConnectionResetError):
-                peer.sendall(reply * lines)
+                client.sendall(reply * lines)
 
     with ThreadPoolExecutor(1) as pool:
         pool.submit(serves)
-        ran = t.desk("at", "counter", given=b"why\n" * lines)
+        ran = t.desk("at", "control", given=b"why\n" * lines)
     t.same((ran.status, ran.err, ran.out.count(reply)), (0, b"", lines), "the status, standard error, and how many replies are written")
 
 
@@ -335,7 +335,7 @@ def a_file_of_more_than_a_million_empty_lines(t):
     t.clock(DAY)
     t.open()
     (t.room / "rows.csv").write_text("\n" * 1_000_001 + revoked_rows(2))
-    ran = t.desk("at", "counter", "--revoke", "rows.csv")
+    ran = t.desk("at", "control", "--revoke", "rows.csv")
     t.same((ran.status, ran.lines, ran.err), (3, ["E14 unknown-serial"] * 2, b"refused\n"))
 
 
@@ -347,7 +347,7 @@ def a_desk_answers_more_than_a_million_lines(t):
     desk = t.open()
     with t.control() as control:
         for piece in range(1_001):
-            control.peer.sendall(b"why\n" * lines)
+            control.stream.sendall(b"why\n" * lines)
             replies = b"".join(control.file.readline() for _ in range(lines))
             t.true(replies == reply * lines, f"wrong replies to the lines from {piece * lines} on: {replies[-200:]!r}")
         t.same(control.ask("counts"), "good 0 revoked 0 expired 0", "a later line")
@@ -384,7 +384,7 @@ def a_log_of_more_than_a_thousand_requests(t):
     entered = [f'{DAY} control "request 05 asked" "request {at} due {DAY}" 39 9 request {at} {5:040x} asked\n' for at in range(first, first + count)]
     last = first + count - 1
     (t.room / "ca.log").write_text("".join(entered) + f'{DAY} control "revoke {last}" "revoked" 8 9 request {last} {5:040x}\n')
-    replies = t.done("replay", "counter", "ca.log").splitlines()
+    replies = t.done("replay", "control", "ca.log").splitlines()
     t.same([it.split(" due ")[0] for it in replies], [*(f"request {at}" for at in range(1, count + 1)), "revoked"], "the replies")
 
 
@@ -400,7 +400,7 @@ def as_many_replies_as_a_file_has_rows(t, option, rows, reply):
     t.clock(DAY)
     t.open()
     (t.room / "rows.csv").write_text(rows(MANY))
-    ran = t.desk("at", "counter", option, "rows.csv")
+    ran = t.desk("at", "control", option, "rows.csv")
     t.same((ran.status, ran.lines.count(reply), len(ran.lines), ran.err), (3, MANY, MANY, b"refused\n"))
 
 
@@ -411,7 +411,7 @@ def a_log_of_more_than_a_hundred_thousand_lines(t):
     t.clock(DAY)
     t.open()
     (t.room / "ca.log").write_text(f'{DAY} control "counts" "good 0 revoked 0 expired 0" 27 9\n' * MANY + f'{DAY} control "subscriber acme" "subscriber 1" 13 9\n')
-    t.same(t.done("replay", "counter", "ca.log"), "subscriber 1\n")
+    t.same(t.done("replay", "control", "ca.log"), "subscriber 1\n")
 
 
 @test(seconds=5)
@@ -424,7 +424,7 @@ def a_log_of_more_than_a_million_lines(t):
         for _ in range(11):
             log.write(f"{DAY} 127.0.0.1:50000 lost late\n" * MANY)
         log.write(f'{DAY} control "subscriber acme" "subscriber 1" 13 9\n')
-    t.same(t.done("replay", "counter", "ca.log"), "subscriber 1\n")
+    t.same(t.done("replay", "control", "ca.log"), "subscriber 1\n")
 
 
 @test(seconds=2)
@@ -534,7 +534,7 @@ def clients_at_the_port_leave_descriptors_for_the_operator(t):
         is_closed = read_all(clients[0]) == b""
     t.true(is_closed, "the oldest of 961 connections is still open, though the desk has 960 at most")
     clients += [t.enter_context(desk.connect()) for _ in range(139)]
-    with Control(t.room / "counter", timeout=20) as control:
+    with Control(t.room / "control", timeout=20) as control:
         t.same(control.ask("counts"), "good 0 revoked 0 expired 0", "a line at the control socket")
 
 
@@ -612,8 +612,8 @@ def a_control_connection_is_accepted_once_there_is_a_descriptor_again(t):
     authority.until(lambda: counted("poll") >= 2, "the desk to wait for clients")
     before, usual = counted("accept"), resource.prlimit(pid, resource.RLIMIT_NOFILE)
     resource.prlimit(pid, resource.RLIMIT_NOFILE, (len(os.listdir(f"/proc/{pid}/fd")), usual[1]))
-    with Control(t.room / "counter", timeout=20) as control:
-        control.peer.sendall(b"counts\n")
+    with Control(t.room / "control", timeout=20) as control:
+        control.stream.sendall(b"counts\n")
         authority.until(lambda: counted("accept") > before, "accept(2) to fail")
         resource.prlimit(pid, resource.RLIMIT_NOFILE, usual)
         t.same(control.file.readline(), b"good 0 revoked 0 expired 0\n", "the reply")
@@ -900,7 +900,7 @@ def desk_serve_accepts_nobody_after_its_last_request(t):
 
 
 @test
-def who_did_not_take_an_answer_is_lost_at_the_end(t):
+def a_client_that_did_not_take_an_answer_is_lost_at_the_end(t):
     """`desk serve` has answered its last request, but another client does not read its long answer."""
     t.register(lines=f"{DAY} crl\n{DAY} crl\n")
     t.sql("ca.db", "UPDATE crl SET der = zeroblob(12000000) WHERE number = 1")
@@ -1112,9 +1112,9 @@ LONG_JOBS = {
     "script": (["script"], f"{DAY} counts\n"),
     "script --clock": (["script", "ca.db", "--clock"], "counts\n"),
     "import": (["import", "ca.db", "--now", DAY], "1,2\n"),
-    "at --import": (["at", "counter", "--import", "rows"], "1,2\n"),
-    "at --revoke": (["at", "counter", "--revoke", "rows"], "1,2\n"),
-    "replay": (["replay", "counter", "rows"], f'{DAY} control "crl" "crl {{}} entries 0" 16 9\n'),
+    "at --import": (["at", "control", "--import", "rows"], "1,2\n"),
+    "at --revoke": (["at", "control", "--revoke", "rows"], "1,2\n"),
+    "replay": (["replay", "control", "rows"], f'{DAY} control "crl" "crl {{}} entries 0" 16 9\n'),
 }
 
 
@@ -1123,7 +1123,7 @@ def a_terminal_shows_the_lines_of_each_long_job(t, words, line):
     given = "".join(line.format(at) for at in (1, 2, 3))
     t.register()
     t.clock(DAY)
-    if "counter" in words:
+    if "control" in words:
         t.open()
     (t.room / "rows").write_text(given)
     shown = on_a_terminal(t, *words, given=b"" if "rows" in words else given.encode(), tick=1_000)
@@ -1163,7 +1163,7 @@ def a_terminal_shows_that_a_large_file_is_opened(t):
         t.same([it for it in on_a_terminal(t, "crl", "large.db") if it.startswith("opening")], shown, f"a file of {size} bytes")
     os.truncate(t.room / "large.db", 67_108_864)
     t.true(b"opening" not in t.desk("crl", "large.db").err, "it is shown although standard error is no terminal")
-    opens = ("--port", free_port(), "--control", "counter", "--unsigned")
+    opens = ("--port", free_port(), "--control", "control", "--unsigned")
     for words in (["script"], ["script", "--clock"], ["import", "--now", DAY], ["serve", *opens[:2], "--requests", 1], ["open", *opens], ["schedule", f"{DAY}=90"],
                   ["key-id", "0102"], ["list", "orders"], ["audit"]):
         shown = on_a_terminal(t, words[0], "large.db", *map(str, words[1:]))
@@ -1199,9 +1199,9 @@ def a_connection_without_memory_is_logged_as_that(t, is_control):
     usual = t.open("ca.db", "--log", faults=faults.environment(count=t.room / "usual"))
     first = faults.counted(t.room / "usual")["alloc"]
     usual.end()
-    os.remove(t.room / "counter")
+    os.remove(t.room / "control")
     desk = t.open("ca.db", "--log", faults=faults.environment(fail=f"alloc:{first + 1}"))
-    with t.control().peer if is_control else desk.connect() as client:
+    with t.control().stream if is_control else desk.connect() as client:
         client.sendall(b"counts\n" if is_control else COUNTS)
         t.same(read_all(client), b"", "the response")
     lost = lambda: [it.rsplit(" lost ", 1)[1] for it in desk.log if " lost " in it]
@@ -1239,23 +1239,23 @@ def a_lost_control_connection_is_counted(t):
     """The client closes the connection with unread replies."""
     t.register()
     desk = t.open()
-    with Control(t.room / "counter") as control, contextlib.suppress(TimeoutError):
-        control.peer.settimeout(1)
+    with Control(t.room / "control") as control, contextlib.suppress(TimeoutError):
+        control.stream.settimeout(1)
         while True:
-            control.peer.sendall(b"counts\n")
+            control.stream.sendall(b"counts\n")
     wanted = {"broken": 1, "late": 0, "crowded": 0, "memory": 0}
     authority.until(lambda: lost_by(desk) == wanted, "the lost connection in the metrics", seconds=20)
 
 
 @each({"an HTTP connection": False, "a control connection": True}, seconds=2)
-def a_connection_that_the_kernel_does_not_watch_is_lost_as_broken(t, is_control):
+def a_connection_that_the_kernel_does_not_poll_is_lost_as_broken(t, is_control):
     t.register()
     usual = t.open("ca.db", faults=faults.environment(count=t.room / "usual"))
     before = faults.counted(t.room / "usual")["watch"]
     usual.end()
-    os.remove(t.room / "counter")
+    os.remove(t.room / "control")
     desk = t.open("ca.db", "--log", faults=faults.environment(count=t.room / "count", fail=f"watch:{before + 1}"))
-    with t.control().peer if is_control else desk.connect() as client:
+    with t.control().stream if is_control else desk.connect() as client:
         t.same(read_all(client), b"", "what the client receives")
     lost = lambda: [it.rsplit(" lost ", 1)[1] for it in desk.log if " lost " in it]
     authority.until(lost, "a line of the log for the lost connection", seconds=20)
@@ -1265,15 +1265,15 @@ def a_connection_that_the_kernel_does_not_watch_is_lost_as_broken(t, is_control)
 
 # Where the client connects, what it sends, what it must get, and how many connections are lost.
 UNWATCHED = {
-    "a client at the control socket": ("counter", lambda: b"coun", lambda client: client.recv(100) == b"", 1),
+    "a client at the control socket": ("control", lambda: b"coun", lambda client: client.recv(100) == b"", 1),
     "a client of a long answer": ("port", lambda: b"GET /crl/1 HTTP/1.1\r\n\r\n", lambda client: 0 < len(read_all(client)) < 12_000_000, 1),
     "the signer of an answer": ("port", lambda: b"POST /ocsp HTTP/1.1\r\nContent-Length: %d\r\n\r\n" % len(asks(1)) + asks(1), lambda client: read_all(client).endswith(authority.INTERNAL), 0),
-    "the signer of a CRL": ("counter", lambda: b"crl\n", lambda client: client.recv(100) == b"F3 signer\n", 0),
+    "the signer of a CRL": ("control", lambda: b"crl\n", lambda client: client.recv(100) == b"F3 signer\n", 0),
 }
 
 
 @each(UNWATCHED, seconds=2)
-def a_connection_that_the_kernel_does_not_watch_holds_up_nobody(t, place, sent, is_given_up, lost):
+def a_connection_that_the_kernel_does_not_poll_holds_up_nobody(t, place, sent, is_given_up, lost):
     """epoll_ctl(2) fails for the connection. The desk gives it up at once: in this test no time passes for it."""
     t.register(key=P256_KEY, lines=f"{DAY} crl\n{DAY} crl\n")
     t.sql("ca.db", "UPDATE crl SET der = zeroblob(12000000) WHERE number = 1")
@@ -1282,12 +1282,12 @@ def a_connection_that_the_kernel_does_not_watch_holds_up_nobody(t, place, sent, 
     usual = t.open("ca.db", *SIGNING, faults=faults.environment(count=t.room / "usual"))
     before = faults.counted(t.room / "usual")["watch"]
     usual.end()
-    os.remove(t.room / "counter")
+    os.remove(t.room / "control")
     have_passed(t, 0)
     desk = t.open("ca.db", *SIGNING, faults=faults.environment(count=t.room / "count", passed=t.room / "passed", fail=f"watch:{before + 1}"))
     # All that the client sends is there when the desk accepts its connection.
     desk.process.send_signal(signal.SIGSTOP)
-    client = desk.connect() if place == "port" else t.control().peer
+    client = desk.connect() if place == "port" else t.control().stream
     client.settimeout(20)
     with client:
         client.sendall(sent())
@@ -1339,7 +1339,7 @@ def closed_connections_are_counted_no_more(t):
     found = lambda: dict(re.findall(r'desk_connections\{at="(\w+)"\} (\d+)', desk.ask("GET", "/metrics").decode()))
     with contextlib.ExitStack() as clients:
         for _ in range(3):
-            clients.enter_context(Control(t.room / "counter")).ask("counts")
+            clients.enter_context(Control(t.room / "control")).ask("counts")
             silent = clients.enter_context(desk.connect())
             silent.sendall(COUNTS[:9])
             authority.until(lambda: program.is_read(silent), "the desk to read it")
@@ -1411,10 +1411,10 @@ def a_script_waits_for_a_signer_whose_queue_is_full(t):
             time.sleep(2)
             filled.close()
             for _ in range(8):
-                peer, _ = server.accept()
-                with peer, contextlib.suppress(OSError):
-                    if read_all(peer):
-                        peer.sendall(ANY_SIGNATURE)
+                client, _ = server.accept()
+                with client, contextlib.suppress(OSError):
+                    if read_all(client):
+                        client.sendall(ANY_SIGNATURE)
                         return
 
         signer = threading.Thread(target=signs, daemon=True)
@@ -1441,10 +1441,10 @@ def full_queue(t, path="ca.sign"):
 def signs(server):
     """Makes room in the queue by one accept(2), and answers the next client with a signature."""
     server.accept()[0].close()
-    peer, _ = server.accept()
-    with peer:
-        read_all(peer)
-        peer.sendall(ANY_SIGNATURE)
+    client, _ = server.accept()
+    with client:
+        read_all(client)
+        client.sendall(ANY_SIGNATURE)
 
 
 def have_passed(t, millis):
@@ -1494,14 +1494,14 @@ def a_signer_that_reads_slowly_has_ten_seconds_for_a_whole_message(t):
         slow.bind(str(t.room / "ca.sign"))
         slow.listen(8)
         ran = pool.submit(t.desk, "script", "ca.db", *SIGNING, given="2026-01-02T00:00:00Z crl\n", faults=faults.environment(passed=t.room / "passed"))
-        peer, _ = slow.accept()
-        with peer:
-            peer.recv(65_536)
+        client, _ = slow.accept()
+        with client:
+            client.recv(65_536)
             # Time in which the desk fills the buffers.
             time.sleep(0.5)
             have_passed(t, 9_500)
             for _ in range(4):
-                peer.recv(65_536)
+                client.recv(65_536)
             with t.at_once("the end of its ten seconds"):
                 t.same((ran.result().status, ran.result().lines), (0, ["F3 signer"]), "the CRL")
 
@@ -1516,20 +1516,20 @@ def a_script_does_not_ask_a_signer_again_for_ten_seconds(t):
         server.bind(str(t.room / "ca.sign"))
         server.listen(8)
         late = pool.submit(desk.ask, line)
-        peer, _ = server.accept()
-        with peer:
-            read_all(peer)
+        client, _ = server.accept()
+        with client:
+            read_all(client)
             have_passed(t, 10_000)
-            peer.sendall(b"0")
+            client.sendall(b"0")
             t.same(late.result(), unsigned, "the line that waited")
         have_passed(t, 19_999)
         t.same((desk.ask(line), select.select([server], [], [], 0)[0]), (unsigned, []), "a later line, and whether the signer was asked")
         have_passed(t, 20_000)
         signed = pool.submit(desk.ask, line)
-        peer, _ = server.accept()
-        with peer:
-            read_all(peer)
-            peer.sendall(ANY_SIGNATURE)
+        client, _ = server.accept()
+        with client:
+            read_all(client)
+            client.sendall(ANY_SIGNATURE)
         t.true(signed.result() != unsigned, "a line ten seconds after the timeout is not signed")
 
 
@@ -1544,21 +1544,21 @@ def a_script_asks_a_signer_for_a_crl_during_its_back_off(t):
         server.listen(8)
         server.settimeout(20)
         late = pool.submit(desk.ask, line)
-        peer, _ = server.accept()
-        with peer:
-            read_all(peer)
+        client, _ = server.accept()
+        with client:
+            read_all(client)
             have_passed(t, 10_000)
-            peer.sendall(b"0")
+            client.sendall(b"0")
             t.same(late.result(), unsigned, "the line that waited")
         t.same(desk.ask(line), unsigned, "a line behind it, for which the signer is not asked")
         for asked in (f"{DAY} crl", line):
             signed = pool.submit(desk.ask, asked)
             authority.until(lambda: signed.done() or select.select([server], [], [], 0)[0], "a request to the signer")
             t.same(signed.done(), False, f"whether `{asked[:30]}` is answered before the signer is asked")
-            peer, _ = server.accept()
-            with peer:
-                read_all(peer)
-                peer.sendall(ANY_SIGNATURE)
+            client, _ = server.accept()
+            with client:
+                read_all(client)
+                client.sendall(ANY_SIGNATURE)
             t.true(signed.result() not in (unsigned, "F3 signer"), f"`{asked[:30]}` is not signed: {signed.result()}")
 
 
@@ -1668,13 +1668,13 @@ def an_answer_that_does_not_fit_into_the_signer_s_socket_is_internal_error(t):
 def a_signature_that_comes_in_pieces(t, what):
     t.register(key=P256_KEY)
 
-    def sign(peer, it):
-        read_all(peer)
+    def sign(client, it):
+        read_all(client)
         for octet in ANY_SIGNATURE:
-            peer.sendall(bytes([octet]))
+            client.sendall(bytes([octet]))
             time.sleep(0.05)
 
-    t.enter_context(authority.Peer(t.room / "ca.sign", sign))
+    t.enter_context(authority.ScriptedSigner(t.room / "ca.sign", sign))
     desk = t.open("ca.db", *SIGNING)
     if what == "answer":
         t.true(ANY_SIGNATURE in desk.ask("POST", "/ocsp", asks(1)), "the answer has no signature")
@@ -1741,10 +1741,10 @@ def a_register_with_a_second_name_is_not_opened(t, path):
     desk = t.open()
     t.same(t.control().ask("subscriber acme"), "subscriber 1")
     desk.end()
-    os.remove(t.room / "counter")
+    os.remove(t.room / "control")
     os.link(t.room / path, t.room / "second")
     with t.untouched("a register with two names"):
-        for words in (["audit", "ca.db"], ["copy", "ca.db", "copy.db"], ["open", "ca.db", "--port", free_port(), "--control", "counter", "--unsigned"]):
+        for words in (["audit", "ca.db"], ["copy", "ca.db", "copy.db"], ["open", "ca.db", "--port", free_port(), "--control", "control", "--unsigned"]):
             ran = t.desk(*words)
             t.same((ran.status, ran.out, ran.err), (1, b"", b"F2 store\n"), program.shown(words))
 
@@ -1778,21 +1778,21 @@ JOURNALS = {
 }
 
 
-@each({f"{what} beside a register{more}": (lay, bool(more)) for what, lay in JOURNALS.items() for more in ("", " with a log")})
-def what_may_be_a_journal_is_not_passed_over(t, lay, has_log):
+@each({f"{what} beside a register{more}": (create, bool(more)) for what, create in JOURNALS.items() for more in ("", " with a log")})
+def what_may_be_a_journal_is_not_passed_over(t, create, has_log):
     """Only SQLite can play back a rollback journal. The desk reads no register beside which one may lie, with or without a log."""
     t.register()
     if has_log:
         desk = t.open()
         t.same(t.control().ask("subscriber acme"), "subscriber 1")
         desk.end()
-        os.remove(t.room / "counter")
+        os.remove(t.room / "control")
         t.true((t.room / "ca.db-wal").stat().st_size > 0, "the register has no log")
     else:
         t.sql("ca.db", "PRAGMA wal_checkpoint(TRUNCATE)")
         t.true(not (t.room / "ca.db-wal").exists(), "the register still has a log")
-    lay(t.room / "ca.db-journal")
-    for words in (["audit", "ca.db"], ["copy", "ca.db", "copy.db"], ["crl", "ca.db"], ["open", "ca.db", "--port", free_port(), "--control", "counter", "--unsigned"]):
+    create(t.room / "ca.db-journal")
+    for words in (["audit", "ca.db"], ["copy", "ca.db", "copy.db"], ["crl", "ca.db"], ["open", "ca.db", "--port", free_port(), "--control", "control", "--unsigned"]):
         ran = t.desk(*words)
         t.same((ran.status, ran.out, ran.err), (1, b"", b"F2 store\n"), program.shown(words))
 
@@ -1823,10 +1823,10 @@ def a_log_that_is_a_link_is_not_read(t):
     desk = t.open()
     t.same(t.control().ask("subscriber acme"), "subscriber 1")
     desk.end()
-    os.remove(t.room / "counter")
+    os.remove(t.room / "control")
     os.rename(t.room / "ca.db-wal", t.room / "elsewhere")
     (t.room / "ca.db-wal").symlink_to("elsewhere")
-    for words in (["audit", "ca.db"], ["copy", "ca.db", "copy.db"], ["crl", "ca.db"], ["open", "ca.db", "--port", free_port(), "--control", "counter", "--unsigned"]):
+    for words in (["audit", "ca.db"], ["copy", "ca.db", "copy.db"], ["crl", "ca.db"], ["open", "ca.db", "--port", free_port(), "--control", "control", "--unsigned"]):
         ran = t.desk(*words)
         t.same((ran.status, ran.out, ran.err), (1, b"", b"F2 store\n"), program.shown(words))
 
@@ -1859,7 +1859,7 @@ def the_log_of_an_open_register_stays_short(t):
     t.clock(DAY)
     t.open(faults=faults.environment())
     lines = 1_500
-    replies = t.done("at", "counter", given="".join(f"subscriber name{at}\n" for at in range(lines)))
+    replies = t.done("at", "control", given="".join(f"subscriber name{at}\n" for at in range(lines)))
     t.same(replies.count("subscriber "), lines, "commands, of which each writes two pages at least")
     size = (t.room / "ca.db-wal").stat().st_size
     t.true(size < lines * 2 * 4_096 * 2 / 3, f"the log has {size} bytes after {lines} commands")
@@ -1871,7 +1871,7 @@ def a_register_whose_log_has_megabytes_is_read_with_all_of_it(t):
     t.clock(DAY)
     desk, count = t.open(faults=faults.environment()), 0
     while (t.room / "ca.db-wal").stat().st_size < 2_000_000 and count < 2_000:
-        t.done("at", "counter", given="".join(f"subscriber name{at}\n" for at in range(count, count + 50)))
+        t.done("at", "control", given="".join(f"subscriber name{at}\n" for at in range(count, count + 50)))
         count += 50
     t.true((t.room / "ca.db-wal").stat().st_size >= 2_000_000, f"the log is short after {count} commands")
     t.true(t.control().ask("copy open.db").startswith("copied "), "the open register is not copied")

@@ -18,7 +18,7 @@ def log_of(t, *sent, lines=()):
     for it in sent:
         desk.send(it)
     if lines:
-        t.desk("at", "counter", given="".join(f"{it}\n" for it in lines))
+        t.desk("at", "control", given="".join(f"{it}\n" for it in lines))
     return [re.sub(r" \d+$", "", re.sub(r"127\.0\.0\.1:\d+", "PEER", it)) for it in desk.end().err_lines]
 
 
@@ -92,7 +92,7 @@ def a_crl_that_nobody_signs_has_the_word_too(t):
     t.register(key=program.P256_KEY)
     t.clock(DAY)
     desk = t.open("ca.db", "--log", *SIGNING)
-    with Control(t.room / "counter") as control:
+    with Control(t.room / "control") as control:
         t.same([control.ask(it) for it in ("crl", "counts")], ["F3 signer", "good 0 revoked 0 expired 0"])
     told = [re.sub(r" \d+( signer)?$", r" N\1", it) for it in desk.end().err_lines]
     t.same(told, [f'{DAY} control "crl" "F3 signer" 10 N signer', f'{DAY} control "counts" "good 0 revoked 0 expired 0" 27 N'])
@@ -123,10 +123,10 @@ def the_client_of_a_signed_answer_is_in_the_log(t):
     t.register(key=program.P256_KEY)
     t.signer()
     desk, request = t.open("ca.db", "--log", *SIGNING), bytes.fromhex(faults.OCSP_REQUEST)
-    with desk.connect() as peer:
-        port = peer.getsockname()[1]
-        peer.sendall(b"POST /ocsp HTTP/1.1\r\nContent-Length: %d\r\n\r\n" % len(request) + request)
-        t.true(ANY_SIGNATURE in program.read_all(peer), "the answer is not signed")
+    with desk.connect() as client:
+        port = client.getsockname()[1]
+        client.sendall(b"POST /ocsp HTTP/1.1\r\nContent-Length: %d\r\n\r\n" % len(request) + request)
+        t.true(ANY_SIGNATURE in program.read_all(client), "the answer is not signed")
     t.same([it.split()[1] for it in desk.end().err_lines], [f"127.0.0.1:{port}"], "the clients in the log")
 
 
@@ -135,12 +135,12 @@ def a_client_that_resets_has_a_line_after_that_of_its_exchange(t):
     t.register()
     t.clock(DAY)
     desk = t.open("ca.db", "--log")
-    with desk.connect() as peer:
-        port = peer.getsockname()[1]
-        peer.sendall(b"GET /counts")
-        authority.until(lambda: program.is_read(peer), "the desk to read it")
+    with desk.connect() as client:
+        port = client.getsockname()[1]
+        client.sendall(b"GET /counts")
+        authority.until(lambda: program.is_read(client), "the desk to read it")
         # With this option, close(2) sends a reset.
-        peer.setsockopt(socket.SOL_SOCKET, socket.SO_LINGER, b"\1\0\0\0\0\0\0\0")
+        client.setsockopt(socket.SOL_SOCKET, socket.SO_LINGER, b"\1\0\0\0\0\0\0\0")
     told = within(desk, "lost broken")
     t.same([re.sub(r" \d+$", "", it) for it in told], [f'{DAY} 127.0.0.1:{port} "GET /counts" "" 0', f"{DAY} 127.0.0.1:{port} lost broken"])
 
@@ -150,13 +150,13 @@ def a_control_connection_that_closes_before_its_reply_is_lost(t):
     t.register()
     t.clock(DAY)
     desk = t.open("ca.db", "--log")
-    with Control(t.room / "counter") as control:
+    with Control(t.room / "control") as control:
         t.same(control.ask("counts"), "good 0 revoked 0 expired 0")
-    with Control(t.room / "counter") as control:
-        control.peer.settimeout(1)
+    with Control(t.room / "control") as control:
+        control.stream.settimeout(1)
         try:
             while True:
-                control.peer.sendall(b"counts\n")
+                control.stream.sendall(b"counts\n")
         except TimeoutError:
             pass
     told = within(desk, "control lost broken")
@@ -181,7 +181,7 @@ def each_line_is_one_write(t):
     """The file may be renamed at any time, and other programs may append to it. So the desk writes no line in parts."""
     t.register()
     desk = t.open("ca.db", "--log-file", "ca.log", faults=faults.environment(count=t.room / "count", only="ca.log"))
-    t.desk("at", "counter", given="subscriber acme\nsubscriber b\ncounts\n")
+    t.desk("at", "control", given="subscriber acme\nsubscriber b\ncounts\n")
     desk.send(b"GET /counts HTTP/1.1\r\n\r\n")
     desk.end()
     t.same(((t.room / "ca.log").read_text().count("\n"), faults.counted(t.room / "count")["write"]), (4, 4), "lines, and writes")
@@ -196,7 +196,7 @@ def a_line_after_one_that_was_cut_off_is_whole(t):
     (t.room / "ca.log").write_text("before\n")
     desk = t.open("ca.db", "--log-file", "ca.log", faults=faults.environment(only="ca.log", short=20, fail="write:2=ENOSPC"))
     for name in ("acme", "b"):
-        t.desk("at", "counter", given=f"subscriber {name}\n")
+        t.desk("at", "control", given=f"subscriber {name}\n")
     desk.end()
     *before, last = (t.room / "ca.log").read_text().splitlines()
     t.same([*before, re.sub(r"\d+$", "N", last)], ["before", DAY[:19], f'{DAY} control "subscriber b" "subscriber 2" 13 N'])

@@ -96,7 +96,7 @@ def a_register_that_was_just_made(t):
 @test
 def the_numbers_of_a_register(t):
     desk = opened(t)
-    t.done("at", "counter", given="".join(f"{it}\n" for it in [*LINES, "order 1 30", "register 2 06 2026-01-01T00:00:00Z 2026-01-10T00:00:00Z", "order 1 90",
+    t.done("at", "control", given="".join(f"{it}\n" for it in [*LINES, "order 1 30", "register 2 06 2026-01-01T00:00:00Z 2026-01-10T00:00:00Z", "order 1 90",
            "register 3 07 2026-01-01T00:00:00Z 2026-02-01T00:00:00Z", "request 07 superseded", "revoke 2", "crl"]))
     t.clock("2026-01-03T00:00:00Z")
     found = metrics(t, desk)
@@ -115,12 +115,12 @@ def requests_are_counted_once_a_minute(t):
     desk = opened(t)
     told = lambda: of(metrics(t, desk), "desk_requests_")
     t.same(told(), {"open": 0, "overdue": 0, "counted_timestamp_seconds": FIRST})
-    t.done("at", "counter", given="".join(f"{it}\n" for it in LINES))
+    t.done("at", "control", given="".join(f"{it}\n" for it in LINES))
     t.clock(program.moment_of(FIRST + 59))
     t.same(told(), {"open": 0, "overdue": 0, "counted_timestamp_seconds": FIRST}, "59 seconds later")
     t.clock(program.moment_of(FIRST + 60))
     t.same(told(), {"open": 1, "overdue": 0, "counted_timestamp_seconds": FIRST + 60}, "a minute later")
-    t.done("at", "counter", given="revoke 1\n")
+    t.done("at", "control", given="revoke 1\n")
     t.clock(program.moment_of(FIRST + 120))
     t.same(told()["open"], 0, "open requests after the only one was granted")
 
@@ -135,7 +135,7 @@ def the_cap_is_set_by_the_option_that_its_metric_names(t):
 @test
 def a_clock_that_is_set_back(t):
     desk = opened(t)
-    t.done("at", "counter", given="subscriber acme\n")
+    t.done("at", "control", given="subscriber acme\n")
     t.clock(program.moment_of(FIRST - 90))
     found = metrics(t, desk)
     t.same((found["desk_clock_behind_seconds"], found["desk_register_readable"]), (90, 0))
@@ -223,10 +223,10 @@ def the_connection_of_a_scrape_is_counted(t):
     """The connection and its request come together, while the desk is stopped."""
     desk = opened(t)
     desk.process.send_signal(signal.SIGSTOP)
-    with desk.connect() as peer:
-        peer.sendall(b"GET /metrics HTTP/1.1\r\n\r\n")
+    with desk.connect() as client:
+        client.sendall(b"GET /metrics HTTP/1.1\r\n\r\n")
         desk.process.send_signal(signal.SIGCONT)
-        lines = parted(program.read_all(peer))[2].decode().splitlines()
+        lines = parted(program.read_all(client))[2].decode().splitlines()
     t.same([it for it in lines if it.startswith(("desk_connections{", "desk_connections_acc"))], [
         'desk_connections{at="port"} 1', 'desk_connections{at="counter"} 0', "desk_connections_accepted_total 1",
     ])
@@ -249,11 +249,11 @@ def a_client_whose_line_waits_for_a_signature_is_counted(t):
 @test(seconds=2)
 def a_reset_connection_is_counted_as_lost(t):
     desk = opened(t)
-    with desk.connect() as peer:
-        peer.sendall(b"GET /counts")
-        authority.until(lambda: program.is_read(peer), "the desk to read it")
+    with desk.connect() as client:
+        client.sendall(b"GET /counts")
+        authority.until(lambda: program.is_read(client), "the desk to read it")
         # With this option, close(2) sends a reset.
-        peer.setsockopt(1, 13, b"\1\0\0\0\0\0\0\0")
+        client.setsockopt(1, 13, b"\1\0\0\0\0\0\0\0")
     wanted = {'{why="broken"}': 1, '{why="late"}': 0, '{why="crowded"}': 0, '{why="memory"}': 0}
     authority.until(lambda: of(metrics(t, desk), "desk_connections_lost_total") == wanted, "the lost connection")
 
@@ -266,7 +266,7 @@ def an_ocsp_answer_is_counted_that_the_store_failed(t):
     t.open("ca.db", faults=faults.environment(count=t.room / "usual")).end()
     before = faults.counted(t.room / "usual")["sync"]
     desk = t.open("ca.db", faults=faults.environment(count=t.room / "count", fail=f"sync:{before + 1}+"))
-    t.same(t.desk("at", "counter", given="subscriber acme\n").lines, ["F2 store"])
+    t.same(t.desk("at", "control", given="subscriber acme\n").lines, ["F2 store"])
     t.same(parted(desk.ask("POST", "/ocsp", OCSP))[2], b"0\x03\n\x01\x02", "internalError")
     t.same(of(metrics(t, desk), "desk_ocsp_internal_errors_total"), {'{cause="signer"}': 0, '{cause="store"}': 1})
 
@@ -285,7 +285,7 @@ def signatures_and_failures(t):
     t.same(health(t, desk), (503, {"crl": "at-once", "ocsp_signer": DAY}))
     t.same(of(metrics(t, desk), "desk_ocsp_internal_errors_total"), {'{cause="signer"}': 1, '{cause="store"}': 0})
     t.clock(program.moment_of(FIRST + 1))
-    t.done("at", "counter", given="crl\n")
+    t.done("at", "control", given="crl\n")
     t.same(signs(), [both(1, 0), both(0, 1), both(FIRST + 1, 0), both(0, FIRST), both(0, FIRST)], "after a signed CRL")
     desk.ask("POST", "/ocsp", OCSP)
     desk.ask("POST", "/ocsp", b"abc")
@@ -294,7 +294,7 @@ def signatures_and_failures(t):
     t.same(of(metrics(t, desk), "desk_ocsp_internal_errors_total"), {'{cause="signer"}': 1, '{cause="store"}': 0}, "no further internalError")
     for later in (2, 3):
         t.clock(program.moment_of(FIRST + later))
-        t.same(t.desk("at", "counter", given="crl\n").lines, ["F3 signer"])
+        t.same(t.desk("at", "control", given="crl\n").lines, ["F3 signer"])
     t.same(signs(), [both(1, 1), both(2, 1), both(FIRST + 1, FIRST + 1), both(FIRST + 3, FIRST), both(FIRST + 2, 0)], "after two CRLs failed")
     t.same(health(t, desk), (503, {"crl_signer": program.moment_of(FIRST + 2)}))
 
@@ -367,7 +367,7 @@ def a_disk_that_fails(t, line, reply):
     t.clock(DAY)
     faults.copy(base, t.room / "ca.db")
     t.open("ca.db", faults=faults.environment(count=t.room / "count", only=files)).end()
-    (t.room / "counter").unlink(missing_ok=True)
+    (t.room / "control").unlink(missing_ok=True)
     faults.copy(base, t.room / "ca.db")
     # The first write after those of the opening fails.
     desk = t.open("ca.db", faults=faults.environment(only=files, fail=f"write:{faults.counted(t.room / 'count')['write'] + 1}"))
@@ -395,12 +395,12 @@ def a_copy_that_fails_is_no_failure_of_the_store(t):
 @test
 def it_changes_nothing(t):
     desk = opened(t)
-    t.done("at", "counter", given="subscriber acme\n")
+    t.done("at", "control", given="subscriber acme\n")
     t.clock("2026-01-03T00:00:00Z")
     for path in ("/metrics", "/health"):
         asked(t, desk, path)
     t.clock("2026-01-02T00:00:00Z")
-    t.same(t.done("at", "counter", given="order 1 90\n"), "order 1\n", "a command at an earlier moment than that of the two requests")
+    t.same(t.done("at", "control", given="order 1 90\n"), "order 1\n", "a command at an earlier moment than that of the two requests")
 
 
 # ---- Prometheus
@@ -410,7 +410,7 @@ def it_changes_nothing(t):
 def promtool_takes_the_metrics_and_the_alerts(t):
     need("promtool")
     desk = opened(t)
-    t.done("at", "counter", given="".join(f"{it}\n" for it in [*LINES, "crl"]))
+    t.done("at", "control", given="".join(f"{it}\n" for it in [*LINES, "crl"]))
     desk.ask("GET", "/crl")
     t.same(t.tool("promtool", "check", "metrics", given=asked(t, desk, "/metrics")[2]), b"", "what promtool finds wrong with /metrics")
     t.has(t.tool("promtool", "check", "rules", ALERTS).decode(), "SUCCESS: 11 rules found")
@@ -531,7 +531,7 @@ def a_real_prometheus_scrapes_it(t):
     need("prometheus")
     t.register()
     desk = t.open("ca.db")
-    t.done("at", "counter", given="subscriber acme\n")
+    t.done("at", "control", given="subscriber acme\n")
     port = program.free_port()
     (t.room / "prometheus.yml").write_text(
         f"global: {{scrape_interval: 1s, evaluation_interval: 1s}}\nrule_files: ['{ALERTS}']\n"

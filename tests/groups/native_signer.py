@@ -201,6 +201,16 @@ def a_command_line_that_can_t_be_read(t):
     t.same(list(t.room.glob("a*")), [], "no socket")
 
 
+@test
+def a_number_is_of_decimal_digits_alone(t):
+    """--rate 1,000 is not one signature a second, nor is --processes 0x4 four processes."""
+    it = Authority(t)
+    for option, text in (("rate", "1,000"), ("rate", "20k"), ("processes", "0x4")):
+        ran = t.tried(native.signer(), f"--{option}", text, it.key)
+        t.same((ran.returncode, ran.stdout), (2, b""), f"--{option} {text}: status and output")
+        t.has(ran.stderr.decode().splitlines()[0], f"--{option} {text}: not a number from 1 to ")
+
+
 @test(seconds=3)
 def files_that_are_pipes_or_too_long(t):
     """The signer reads a key and a passphrase whole that come in parts through pipes. It refuses files that are too long."""

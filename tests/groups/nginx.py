@@ -24,8 +24,26 @@ def opened(t, *names, seconds=LONG):
     certificates(t)
     it.register()
     t.done("script", "ca.db", given=first_day(authority.now()))
-    desk = t.open("ca.db", "--control", "counter")
+    desk = t.open("ca.db", "--control", "control")
     return it, desk, [Front(t, desk.port, name, seconds) for name in names]
+
+
+def setting(name):
+    """The words of a setting in examples/nginx.conf, which has it once."""
+    [found] = re.findall(rf"^ *{name} +(.*);$", (authority.EXAMPLES / "nginx.conf").read_text(), re.MULTILINE)
+    return found.split()
+
+
+@test
+def its_cache_takes_at_most_256_mb(t):
+    """A client can request any number of OCSP answers, each at a path of its own. Without the limit they would fill the disk."""
+    t.has(setting("proxy_cache_path"), "max_size=256m")
+
+
+@test
+def clients_connect_by_tls_1_2_or_1_3(t):
+    """Older versions are broken (RFC 8996)."""
+    t.same(setting("ssl_protocols"), ["TLSv1.2", "TLSv1.3"])
 
 
 @test(seconds=6)
@@ -95,7 +113,7 @@ def the_urls_of_older_certificates(t):
 
 
 @test(seconds=5)
-def who_may_post_requests(t):
+def users_that_may_post_requests(t):
     _, _, [front] = opened(t, "front")
     shows = lambda name: ("--cert", f"{name}.pem", "--key", f"{name}.key")
     control = t.control()
@@ -110,7 +128,7 @@ def who_may_post_requests(t):
     t.same(control.ask("revoke 2"), "revoked", "the decision on the clerk's request")
     told = [line.split('"')[1::2] for line in (front.folder / "desk.log").read_text().splitlines() if "POST /requests" in line]
     wanted = ["-", "-", "CN=stranger", "CN=former,O=The Office", "CN=clerk,O=The Office"]
-    t.same(told, [[who, "POST /requests HTTP/1.1"] for who in wanted], "the client certificates and requests in nginx's log")
+    t.same(told, [[user, "POST /requests HTTP/1.1"] for user in wanted], "the client certificates and requests in nginx's log")
 
 
 @test(seconds=6)
@@ -193,7 +211,7 @@ def an_old_answer_is_never_sent_while_the_desk_is_away(t):
     t.same(front.ask("/ocsp", "--data-binary", "@-", given=it.asks("06"))[0], 502, "OCSP by POST")
     time.sleep(KEPT + 1)
     t.same(front.ask(path)[0], 502, "OCSP by GET once the cached answer expired")
-    t.open("ca.db", "--control", "counter", "--port", desk.port)
+    t.open("ca.db", "--control", "control", "--port", desk.port)
     t.same((front.ask(path)[0], it.asked_by_openssl("06", front.url("/ocsp"))), (200, "good"), "once a desk runs again")
 
 

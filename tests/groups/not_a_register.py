@@ -14,7 +14,7 @@ COMMANDS = {
     "schedule": (["schedule", "ca.db", "1970-01-01T00:00:00Z=90"], ""),
     "key-id": (["key-id", "ca.db", "0102"], ""),
     "serve": (["serve", "ca.db", "--requests", "1", "--port"], ""),
-    "open": (["open", "ca.db", "--control", "counter", "--unsigned", "--port"], ""),
+    "open": (["open", "ca.db", "--control", "control", "--unsigned", "--port"], ""),
     "audit": (["audit", "ca.db"], ""),
     "copy": (["copy", "ca.db", "copy.db"], ""),
 }

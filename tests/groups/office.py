@@ -133,9 +133,9 @@ def the_office_view_shows_what_the_desk_says(t):
     t.same([(row[0], *row[2:]) for row in cells], told, "open requests")
     for row, (due, *_) in zip(cells, sorted(year.open)):
         t.has({f"overdue {it}" if due < year.now else it for it in spans(due, year.now)}, row[1], "the time that is left for a request")
-    endings = [row.split("|") for row in rows(browser, "endingrows")]
-    t.same([(row[0], row[3]) for row in endings], [(shown(end), f"{serial:x}") for end, serial in soon], "certificates that end soon")
-    for row, (end, _) in zip(endings, soon):
+    expiring = [row.split("|") for row in rows(browser, "endingrows")]
+    t.same([(row[0], row[3]) for row in expiring], [(shown(end), f"{serial:x}") for end, serial in soon], "certificates that end soon")
+    for row, (end, _) in zip(expiring, soon):
         t.has(spans(end, year.now), row[1], "the time that is left for a certificate")
     recent(t, desk, browser)
     gaps_and_plot(t, year, browser)

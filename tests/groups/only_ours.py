@@ -24,12 +24,12 @@ INTEGER, OCTETS, SEQUENCE, UTC, GENERAL = 0x02, 0x04, 0x30, 0x17, 0x18
 
 def signature(path, message):
     """The reply to a message; empty if it is refused."""
-    with socket.socket(socket.AF_UNIX) as peer:
-        peer.settimeout(program.LONGEST)
-        peer.connect(str(path))
-        peer.sendall(message)
-        peer.shutdown(socket.SHUT_WR)
-        return program.read_all(peer)
+    with socket.socket(socket.AF_UNIX) as connection:
+        connection.settimeout(program.LONGEST)
+        connection.connect(str(path))
+        connection.sendall(message)
+        connection.shutdown(socket.SHUT_WR)
+        return program.read_all(connection)
 
 
 def guard(t, it, path="guarded.sign"):
@@ -52,7 +52,7 @@ def to_be_signed(t, it):
     lines += ["crl"]
     told = t.done("script", file, *it.signing(signer.path), given="".join(f"{begins} {line}\n" for line in lines)).splitlines()
     t.same((told[0], told[-1]), ("crl 1 entries 0", "crl 2 entries 3"))
-    desk = t.open(file.name, *it.signing(signer.path), "--control", f"{it.name}.counter")
+    desk = t.open(file.name, *it.signing(signer.path), "--control", f"{it.name}.control")
     for words, how in ((["05"], {}), (["05", "06", "80", "07"], {"nonce": True}), (["-sha256", "5"], {}), (["-sha384", "5", "-sha1", "6"], {"nonce": True})):
         serials = [word if word.startswith("-") else f"0x{word}" for word in words]
         asked = [more for word in serials for more in ((word,) if word.startswith("-") else ("-serial", word))]
@@ -106,7 +106,7 @@ def a_message_that_is_not_the_issuer_s_is_refused(t):
         for message in to_be_signed(t, foreign):
             refused(t, path, message, f"a CRL or an answer of {what}")
         t.same(t.done("script", f"{foreign.name}.db", *it.signing(path.name), "--clock", given="crl\n"), "F3 signer\n", f"a CRL of {what}")
-        desk = t.open(f"{foreign.name}.db", *it.signing(path.name), "--control", f"{foreign.name}.counter")
+        desk = t.open(f"{foreign.name}.db", *it.signing(path.name), "--control", f"{foreign.name}.control")
         t.same(body_of(t, desk.ask("POST", "/ocsp", foreign.asks("05"))), INTERNAL, f"an answer of {what}")
     # Messages that are neither a CRL nor an answer: certificates, of which one begins as a CRL does, a certification request, and other bytes.
     t.tool("openssl", "req", "-new", "-key", other.key, "-subj", "/CN=T", "-out", "x.csr")
@@ -435,11 +435,11 @@ def a_signer_is_tried_before_the_desk_starts(t, algorithm):
     t.has(checked(t, "nowhere.pem", *it.signing("guarded.sign"), status=1), "no certificate of a CA")
 
 
-def trickled(it, peer):
+def trickled(it, client):
     """Sends one octet of the signature every 0.3 seconds."""
-    for octet in it.sign(program.read_all(peer)):
+    for octet in it.sign(program.read_all(client)):
         time.sleep(0.3)
-        peer.sendall(bytes([octet]))
+        client.sendall(bytes([octet]))
 
 
 @each({"no octet comes": None, "an octet comes now and then": trickled}, seconds=3)
@@ -447,7 +447,7 @@ def a_signer_is_tried_for_ten_seconds(t, signs):
     """check-signer.py waits at most ten seconds for the whole signature. Here its clock runs ten times as fast."""
     it = Authority(t)
     if signs:
-        t.enter_context(authority.Peer(t.room / "hangs.sign", lambda peer, _: signs(it, peer)))
+        t.enter_context(authority.ScriptedSigner(t.room / "hangs.sign", lambda client, _: signs(it, client)))
     else:
         t.signer("hangs.sign", lambda message, call: "hang")
     (t.room / "sitecustomize.py").write_text(
@@ -462,14 +462,14 @@ def a_signer_that_sends_without_end_is_refused(t):
     """check-signer.py reads no more than a signature may have. Otherwise it would keep all octets, and the desk would never start."""
     it, sent = Authority(t), [0]
 
-    def send(peer, _):
+    def send(client, _):
         """Sends octets until the client closes the connection, at most 64 MiB."""
-        program.read_all(peer)
+        program.read_all(client)
         with contextlib.suppress(OSError):
             while sent[0] < 64 << 20:
-                sent[0] += peer.send(b"\0" * 65_536)
+                sent[0] += client.send(b"\0" * 65_536)
 
-    t.enter_context(authority.Peer(t.room / "ca.sign", send))
+    t.enter_context(authority.ScriptedSigner(t.room / "ca.sign", send))
     ran = t.tried(sys.executable, EXAMPLES / "check-signer.py", it.pem, *it.signing("ca.sign"))
     t.same((ran.returncode, b"openssl does not verify the signer's signature" in ran.stderr), (1, True), "status, and whether the cause is reported")
     t.true(sent[0] < 8 << 20, f"check-signer.py has taken {sent[0]} octets")
@@ -479,12 +479,12 @@ def a_signer_that_sends_without_end_is_refused(t):
 def a_signature_that_comes_in_pieces_is_tried_whole(t):
     it = Authority(t)
 
-    def sign(peer, _):
-        for octet in it.sign(program.read_all(peer)):
-            peer.sendall(bytes([octet]))
+    def sign(client, _):
+        for octet in it.sign(program.read_all(client)):
+            client.sendall(bytes([octet]))
             time.sleep(0.001)
 
-    t.enter_context(authority.Peer(t.room / "ca.sign", sign))
+    t.enter_context(authority.ScriptedSigner(t.room / "ca.sign", sign))
     t.same(checked(t, it.pem, *it.signing()), "")
 
 

@@ -242,10 +242,10 @@ def issue_due_crl_issues_one_where_it_is_due(t):
     it = Authority(t)
     it.register()
     signer = it.signer()
-    desk = t.open("ca.db", "--control", "counter", *it.signing())
+    desk = t.open("ca.db", "--control", "control", *it.signing())
     control = t.control()
-    t.same(play(t, "bash", script, "counter").stdout, b"crl 1 entries 0\n", "the first CRL, which is due at once")
-    t.same(play(t, "bash", script, "counter").stdout, b"", "no second CRL within the week")
+    t.same(play(t, "bash", script, "control").stdout, b"crl 1 entries 0\n", "the first CRL, which is due at once")
+    t.same(play(t, "bash", script, "control").stdout, b"", "no second CRL within the week")
     t.same(len(signer.asked), 1, "signatures")
     t.same(control.ask("counts"), "good 0 revoked 0 expired 0")
     it.verifies(body_of(t, desk.ask("GET", "/crl"), CRL_TYPE))
@@ -265,11 +265,11 @@ def issue_due_crl_behind_a_placeholder_digest(t):
     t.done("script", "ca.db", given=f"{now} crl\n")
     it.signer()
     unsigned = t.open("ca.db")
-    t.same(play(t, "bash", script, "counter").stdout, b"", "a desk without a signer")
+    t.same(play(t, "bash", script, "control").stdout, b"", "a desk without a signer")
     unsigned.end()
-    desk = t.open("ca.db", "--counter", "counter", *it.signing())
-    t.same(play(t, "bash", script, "counter").stdout, b"crl 2 entries 0\n")
-    t.same(play(t, "bash", script, "counter").stdout, b"", "no further CRL")
+    desk = t.open("ca.db", "--counter", "control", *it.signing())
+    t.same(play(t, "bash", script, "control").stdout, b"crl 2 entries 0\n")
+    t.same(play(t, "bash", script, "control").stdout, b"", "no further CRL")
     it.verifies(body_of(t, desk.ask("GET", "/crl"), CRL_TYPE))
 
 
@@ -288,13 +288,13 @@ def issue_due_crl_by_the_clock(t):
         if revoked:
             lines += f"{moment_of(begun - revoked)} request 05 superseded\n{moment_of(begun - revoked)} revoke 1\n"
         t.register(file, lines)
-        desk = t.open(file, "--control", f"{file}.counter")
-        ran = play(t, "bash", script, f"{file}.counter")
+        desk = t.open(file, "--control", f"{file}.control")
+        ran = play(t, "bash", script, f"{file}.control")
         t.same(ran.stdout.decode(), f"crl 2 entries {1 if revoked else 0}\n" if due else "", name)
         desk.end()
     t.register("signed.db", key=program.P256_KEY)
-    t.open("signed.db", "--control", "signed.counter", "--signer", "nobody", "--algorithm", "ecdsa-sha256")
-    ran = play(t, "bash", script, "signed.counter", status=3)
+    t.open("signed.db", "--control", "signed.control", "--signer", "nobody", "--algorithm", "ecdsa-sha256")
+    ran = play(t, "bash", script, "signed.control", status=3)
     t.same((ran.stdout, b"F3 signer" in ran.stderr), (b"", True), "a signer that fails")
 
 
@@ -314,9 +314,9 @@ def issue_due_crl_at_once(t, ground):
         given = [f"{begins} {one}" for one in ("subscriber acme", "order 1 398", f"register 1 05 {begins} {ends}", "crl")]
         given += [f"{moment_of(begun - 3600)} request 05 {ground}", f"{moment_of(begun - 3600)} revoke 1"]
         t.register(f"{ago}.db", "".join(f"{line}\n" for line in given))
-        desk = t.open(f"{ago}.db", "--control", f"{ago}.counter")
-        issues = ("bash", EXAMPLES / "issue-due-crl.sh", *at_once, desk.port, f"{ago}.counter")
-        t.same(play(t, "bash", EXAMPLES / "issue-due-crl.sh", f"{ago}.counter").stdout, b"", "without --at-once")
+        desk = t.open(f"{ago}.db", "--control", f"{ago}.control")
+        issues = ("bash", EXAMPLES / "issue-due-crl.sh", *at_once, desk.port, f"{ago}.control")
+        t.same(play(t, "bash", EXAMPLES / "issue-due-crl.sh", f"{ago}.control").stdout, b"", "without --at-once")
         t.same(play(t, *issues).stdout.decode(), "crl 2 entries 1\n" if AT_ONCE[ground] else "", f"{ago} seconds after the latest CRL")
         t.same(play(t, *issues).stdout, b"", "no further CRL")
         desk.end()
@@ -343,7 +343,7 @@ def a_crl_is_issued_at_once_and_published_at_the_ipv6_loopback_address(t):
     control = t.control()
     for line in ("subscriber acme", "order 1 398", f"register 1 05 {begins} {ends}", "crl", "request 05 key-compromise", "revoke 1"):
         t.true(control.ask(line)[0] not in "EF", line)
-    issues = ("bash", EXAMPLES / "issue-due-crl.sh", "--at-once", "key-compromise", "--address", "[::1]", "--port", desk.port, "counter")
+    issues = ("bash", EXAMPLES / "issue-due-crl.sh", "--at-once", "key-compromise", "--address", "[::1]", "--port", desk.port, "control")
     t.same(play(t, *issues).stdout, b"crl 2 entries 1\n")
     (t.room / "www").mkdir()
     t.same(play(t, "bash", EXAMPLES / "publish-crl.sh", f"http://[::1]:{desk.port}/crl", "www", "ca.pem").stdout, b"crl 2 published in www\n")
@@ -362,13 +362,13 @@ def issue_due_crl_at_once_among_many(t):
     given += [*(f"revoke {at}" for at in range(1, 300)), "crl"]
     t.register(lines="".join(f"{begins} {line}\n" for line in given))
     desk = t.open()
-    issues = ("bash", EXAMPLES / "issue-due-crl.sh", "--at-once", "key-compromise", "--port", desk.port, "counter")
+    issues = ("bash", EXAMPLES / "issue-due-crl.sh", "--at-once", "key-compromise", "--port", desk.port, "control")
     t.same(play(t, *issues).stdout, b"", "a CRL lists each revoked certificate")
     control = t.control()
     t.same(control.ask("revoke 300").split()[0], "revoked")
     t.same(play(t, *issues, more=authority.NO_PROXY).stdout, b"crl 2 entries 300\n", "no CRL lists one revoked certificate")
-    for words, status, told in (((*issues[:5], "1", "counter"), 1, b"does not answer /metrics at port 1"), ((*issues[:3], "none", "counter"), 2, b"there is no ground none"),
-                                (issues[:4], 2, b"usage: "), ((*issues[:3], "", "counter"), 2, b"usage: "), ((*issues[:2], "--other", "x", "counter"), 2, b"usage: ")):
+    for words, status, told in (((*issues[:5], "1", "control"), 1, b"does not answer /metrics at port 1"), ((*issues[:3], "none", "control"), 2, b"there is no ground none"),
+                                (issues[:4], 2, b"usage: "), ((*issues[:3], "", "control"), 2, b"usage: "), ((*issues[:2], "--other", "x", "control"), 2, b"usage: ")):
         ran = play(t, *words, status=status)
         t.same((ran.stdout, told in ran.stderr), (b"", True), f"standard output of {words}, and whether standard error has the cause: {ran.stderr}")
 
@@ -384,9 +384,9 @@ def issue_due_crl_at_once_fails_if_a_list_does_not_come(t):
     (t.room / "bin").mkdir()
     (t.room / "bin/curl").write_text(f'#!/bin/sh\ncase "$*" in *"/list/"*) exit 22 ;; esac\nexec {shutil.which("curl")} "$@"\n')
     (t.room / "bin/curl").chmod(0o755)
-    issues = ("bash", EXAMPLES / "issue-due-crl.sh", "--at-once", "key-compromise", "--port", desk.port, "counter")
+    issues = ("bash", EXAMPLES / "issue-due-crl.sh", "--at-once", "key-compromise", "--port", desk.port, "control")
     ran = play(t, *issues, more={"PATH": f"{t.room}/bin:{os.environ['PATH']}"}, status=1)
-    t.same((ran.stdout, ran.stderr), (b"", f"counter: the desk does not answer /list/revoked?limit=250 at port {desk.port}\n".encode()))
+    t.same((ran.stdout, ran.stderr), (b"", f"control: the desk does not answer /list/revoked?limit=250 at port {desk.port}\n".encode()))
     t.same(play(t, *issues).stdout, b"crl 2 entries 1\n", "once curl can fetch the list")
 
 

@@ -113,11 +113,11 @@ def the_unit_waits_until_the_desk_answers(t):
     t.clock("2026-01-01T00:00:00Z")
     desk = t.open()
     waits = lambda *words: t.tried("env", f"DESK={program.program()}", "sh", TOP / "packaging/wait-for-desk.sh", *words)
-    t.same(waits("counter", desk.process.pid).returncode, 0, "an open desk")
+    t.same(waits("control", desk.process.pid).returncode, 0, "an open desk")
     desk.end()
-    ran = waits("counter", desk.process.pid)
-    t.same((ran.returncode, ran.stderr), (1, b"the desk ended before it answered at counter\n"), "a desk that has ended, whose socket is left")
-    t.same(waits("counter").returncode, 2, "without the number of a process")
+    ran = waits("control", desk.process.pid)
+    t.same((ran.returncode, ran.stderr), (1, b"the desk ended before it answered at control\n"), "a desk that has ended, whose socket is left")
+    t.same(waits("control").returncode, 2, "without the number of a process")
 
 
 @test
@@ -130,8 +130,17 @@ def the_unit_pauses_before_it_looks_again(t):
         (t.room / "bin" / name).write_text(f"#!/bin/sh\n{does}")
         (t.room / "bin" / name).chmod(0o755)
     paths = (f"PATH={t.room}/bin:{os.environ['PATH']}", f"DESK={t.room}/bin/desk")
-    t.tool("env", *paths, "sh", TOP / "packaging/wait-for-desk.sh", "counter", os.getpid(), timeout=20)
+    t.tool("env", *paths, "sh", TOP / "packaging/wait-for-desk.sh", "control", os.getpid(), timeout=20)
     t.same((t.room / "told").read_text().splitlines(), [*["desk", "sleep 0.1"] * 3, "desk"], "what the script ran")
+
+
+@test
+def the_unit_writes_nothing_while_it_waits(t):
+    """wait-for-desk.sh asks ten times a second, for minutes while a large register is opened. The journal has none of the replies."""
+    (t.room / "desk").write_text("#!/bin/sh\necho reply\necho F4 read >&2\n[ -e again ] || { touch again; exit 1; }\n")
+    (t.room / "desk").chmod(0o755)
+    told = t.tool("env", f"DESK={t.room}/desk", "sh", TOP / "packaging/wait-for-desk.sh", "counter", os.getpid(), timeout=20)
+    t.same(((t.room / "again").exists(), told), (True, b""), "whether it asked, and what it printed")
 
 
 def words_of(text):
@@ -214,6 +223,30 @@ def each_register_has_a_port_of_its_own(t, name):
     t.has(found, "EnvironmentFile=-/etc/durshavon/%i.conf")
     [usual] = [it.split("=", 1)[1].split() for it in found if it.startswith("Environment=")]
     t.has(usual, "PORT=8080", "the usual port")
+
+
+@test
+def each_service_asks_the_desk_at_the_port_of_its_register(t):
+    """On a machine with two registers, one has another port than the usual one."""
+    found = units("service")
+    wanted = {"desk@": "--port ${PORT}", "desk-crl@": "--address ${ADDRESS} --port ${PORT}", "desk-publish@": "http://${ADDRESS}:${PORT}/crl"}
+    for name, words in wanted.items():
+        [start] = re.findall(r"^ExecStart=(.*)$", found[f"{name}.service"], re.MULTILINE)
+        t.has(start, f" {words} ", name)
+
+
+# What starts each unit that can be enabled. The other units are started by these, or by a connection to a socket.
+WANTED = {
+    "desk@.service": ["multi-user.target"], "desk-crl@.timer": ["timers.target"],
+    "desk-signer@.socket": ["sockets.target"], "desk-responder@.socket": ["sockets.target"],
+}
+
+
+@test
+def each_unit_that_is_enabled_starts_with_the_machine(t):
+    """A server never reaches graphical.target, for example: a desk of that target would not answer after a reboot."""
+    found = {name: re.findall(r"^WantedBy=(.*)$", text, re.MULTILINE) for name, text in units("service", "socket", "timer").items()}
+    t.same({name: wanted for name, wanted in found.items() if wanted}, WANTED)
 
 
 @test
@@ -382,6 +415,26 @@ def a_unit_that_fails_does_not_fail_the_package(t):
     maintained(t, "prerm", "remove", fails="disable", reports=told)
 
 
+# The command that fails, and one that the script must not reach.
+ENDS = {
+    "a user that can't be made": ("postinst", "configure", "useradd", "install"),
+    "a service that can't be stopped": ("prerm", "remove", "systemctl stop", "systemctl --quiet"),
+}
+
+
+@each(ENDS)
+def a_script_ends_at_a_failure(t, script, word, fails, later):
+    """dpkg then reports it. Otherwise the service would have no user, or its program would be removed while it runs."""
+    maintained(t, script, word)
+    for name in ("systemctl", "useradd", "install"):
+        (t.room / "bin" / name).write_text(f'#!/bin/sh\necho "{name} $*" >>told\ncase "{name} $*" in "{fails}"*) exit 1 ;; esac\n')
+    (t.room / "bin/getent").write_text("#!/bin/sh\nexit 2\n")
+    (t.room / "told").write_text("")
+    ran = t.tried("env", f"PATH={t.room}/bin:{os.environ['PATH']}", "sh", script, word)
+    told = (t.room / "told").read_text()
+    t.same((ran.returncode != 0, fails in told, later in told), (True, True, False), f"whether {script} failed, at {fails}, before {later}")
+
+
 @test
 def what_a_purge_says(t):
     """Registers and keys stay, and a purge names the folder in which there are any. A removal, after which they can be used again, names none."""
@@ -519,6 +572,22 @@ CRATES = {
     "one": ("dep std\ndep two\n", {"LICENSE-MIT": "Some  terms\nof one", "LICENSE-APACHE": "Apache License\nVersion 2.0, with a text"}),
     "two": ("dep std\n", {"LICENSE": "Some terms of\none"}), "spare": ("", {"LICENSE": "Spare terms"}),
 }
+
+
+@test
+def its_files_belong_to_root_whoever_built_it(t):
+    """Otherwise that user's number would own the program on each machine that has the package. Here a file belongs to nobody when it is packed."""
+    need("dpkg-deb")
+    if os.geteuid():
+        raise Skipped("only root can give a file to another user")
+    (t.room / "root/DEBIAN").mkdir(parents=True)
+    (t.room / "root/DEBIAN/control").write_text("Package: durshavon\nVersion: 1\nArchitecture: all\nMaintainer: T <t@example.org>\nDescription: T\n")
+    (t.room / "root/file").touch()
+    shutil.chown(t.room / "root/file", "nobody")
+    packs = (TOP / "tools/package.sh").read_text().rpartition("\npackage=")[2]
+    t.tool("bash", "-c", f"set -eu; out=. root=root version=1 architecture=all; package={packs}")
+    told = t.tool("dpkg-deb", "-c", "durshavon_1_all.deb").decode().splitlines()
+    t.same({line.split()[1] for line in told}, {"root/root"}, f"the owners of {told}")
 
 
 @test
@@ -827,8 +896,8 @@ def booted(t, root, it):
         if machine.poll() is None:
             machine.kill()
             machine.wait()
-    with socket.socket() as peer:
-        t.true(peer.connect_ex(("127.0.0.1", port)) != 0, "the port still answers after the container was shut down")
+    with socket.socket() as client:
+        t.true(client.connect_ex(("127.0.0.1", port)) != 0, "the port still answers after the container was shut down")
     root.tried("systemctl", "disable", "steps.service", *ENABLED)
 
 
@@ -872,10 +941,10 @@ def silence(t, port, work):
     answered, ended = [], threading.Event()
 
     def ask():
-        peer = http.client.HTTPConnection("127.0.0.1", port, timeout=60)
-        with contextlib.suppress(OSError, http.client.HTTPException), contextlib.closing(peer):
-            peer.request("GET", "/counts")
-            if peer.getresponse().status == 200:
+        client = http.client.HTTPConnection("127.0.0.1", port, timeout=60)
+        with contextlib.suppress(OSError, http.client.HTTPException), contextlib.closing(client):
+            client.request("GET", "/counts")
+            if client.getresponse().status == 200:
                 answered.append(time.monotonic())
 
     def asks():
@@ -883,8 +952,8 @@ def silence(t, port, work):
             ask()
             time.sleep(0.01)
 
-    asking = threading.Thread(target=asks)
-    asking.start()
+    requester = threading.Thread(target=asks)
+    requester.start()
     try:
         authority.until(lambda: answered, "an answer before the work")
         work()
@@ -892,7 +961,7 @@ def silence(t, port, work):
         authority.until(lambda: answered[-1] > done, "an answer after the work")
     finally:
         ended.set()
-        asking.join()
+        requester.join()
     return max(later - earlier for earlier, later in zip(answered, answered[1:]))
 
 
@@ -1005,8 +1074,8 @@ def taken_away(t, root, at, port):
     for line in ("--remove durshavon", "--install /root/durshavon.deb"):
         t.tool(*at, "dpkg", *line.split())
         t.same((running(), links(root)), ("", []), f"the units that run, and those that are enabled, after dpkg {line}")
-        with socket.socket() as peer:
-            t.true(peer.connect_ex(("127.0.0.1", port)) != 0, f"the port still answers after dpkg {line}")
+        with socket.socket() as client:
+            t.true(client.connect_ex(("127.0.0.1", port)) != 0, f"the port still answers after dpkg {line}")
 
 
 def links(root):

@@ -263,6 +263,20 @@ def a_token_that_does_not_sign(t):
 
 
 @test
+def a_token_signs_nothing_if_the_digest_fails(t):
+    """pkcs11-signer.sh would otherwise have it sign an empty digest, or a part of one. Here openssl fails."""
+    (t.room / "bin").mkdir()
+    for name, does in (("openssl", "exit 1"), ("pkcs11-tool", f'touch "{t.room}/signed"; echo a signature')):
+        (t.room / "bin" / name).write_text(f"#!/bin/sh\n{does}\n")
+        (t.room / "bin" / name).chmod(0o755)
+    (t.room / "ca.pin").write_text("271828\n")
+    env = {**os.environ, "PATH": f"{t.room}/bin:{os.environ['PATH']}"}
+    ran = t.tried("sh", authority.EXAMPLES / "pkcs11-signer.sh", "ecdsa-sha256", "module.so", "ca", "01", "ca.pin", given=b"x", env=env)
+    told = (ran.returncode != 0, ran.stdout, (t.room / "signed").exists())
+    t.same(told, (True, b"", False), "whether it failed, its output, whether the token signed")
+
+
+@test
 def the_pin_of_a_token_is_in_no_command_line(t):
     """pkcs11-signer.sh passes the PIN in the environment, since other users of the machine see the words of each process."""
     (t.room / "bin").mkdir()
@@ -329,7 +343,7 @@ def the_lists(t):
     t.has(closed, "serial,subscriber,name,order,", "the header of the list of certificates that end")
     *function, asks = [line.replace("8080", port) for line in block("Lists", "list() {")]
     t.same(asks, "list revoked")
-    opens = [f"desk open ca.db --port {port} --control counter --unsigned &", "until [ -S counter ]; do sleep 0.1; done"]
+    opens = [f"desk open ca.db --port {port} --control control --unsigned &", "until [ -S control ]; do sleep 0.1; done"]
     told = typed(t, top, [*opens, *function, "list subscribers", asks])
     t.same(told.splitlines()[1:], [f'{{"subscriber":{at},"name":"{name}"}}' for at, name in enumerate(names, 1)],
            "rows of both lists, of which the second has none")

@@ -342,7 +342,7 @@ def the_connections_of_a_signer_that_ends_are_closed(t):
     authority.until(lambda: files(desk) == before, "the desk to close them")
 
 
-class Crowd:
+class FullDesk:
     """A desk that has 1,024 descriptors, as is usual, and keeps 32 connections to its signer. Silent clients take all others at the port. No time
     passes for the desk, so no client is late."""
 
@@ -371,22 +371,22 @@ class Crowd:
 
 @test(seconds=5)
 def kept_connections_leave_descriptors_for_the_operator(t):
-    Crowd(t)
-    with Control(t.room / "counter", timeout=20) as control:
+    FullDesk(t)
+    with Control(t.room / "control", timeout=20) as control:
         t.same(control.ask("counts"), "good 0 revoked 0 expired 0", "a line at the control socket")
 
 
 @test(seconds=5)
 def kept_connections_leave_descriptors_for_a_crl_and_a_copy(t):
-    Crowd(t)
-    with Control(t.room / "counter", timeout=20) as control:
+    FullDesk(t)
+    with Control(t.room / "control", timeout=20) as control:
         t.same(control.ask("crl"), "crl 1 entries 0", "a CRL")
         t.has(control.ask(f"copy {t.room / 'copy.db'}"), "copied ", "a copy")
 
 
 @test(seconds=5)
 def kept_connections_leave_descriptors_for_the_log(t):
-    desk = Crowd(t, "--log-file", "ca.log").desk
+    desk = FullDesk(t, "--log-file", "ca.log").desk
     t.same(program.parted(desk.ask("GET", "/counts"))[0], 200, "a request")
     t.has((t.room / "ca.log").read_text(), "GET /counts", "the log")
 
@@ -457,7 +457,7 @@ def no_connection_with_a_message_is_closed_for_the_operator(t):
         waits = pool.submit(ocsp_answer, passing.desk, 0x2222)
         t.true(reply.held.wait(60), "the signer to get the message")
         take_descriptors(t, passing.desk)
-        with Control(t.room / "counter", timeout=20) as control:
+        with Control(t.room / "control", timeout=20) as control:
             t.same(control.ask("counts"), "good 0 revoked 0 expired 0", "a line at the control socket")
         t.tool("prlimit", "--pid", passing.desk.process.pid, "--nofile=1024:4096")
         reply.release.set()

@@ -58,12 +58,12 @@ def ending(ran):
 
 def compared(t, command="open", file="copy.db", crl="published.crl"):
     """Starts a desk with a published CRL that stops it. Returns its status, and its lines on standard output and on standard error."""
-    more = {"open": ("--control", "counter", "--unsigned"), "serve": ("--requests", "1")}[command]
+    more = {"open": ("--control", "control", "--unsigned"), "serve": ("--requests", "1")}[command]
     if not (t.room / file).exists():
         return ending(t.desk(command, file, "--port", program.free_port(), *more, "--published", crl))
     before = (t.room / file).read_bytes()
     ran = t.desk(command, file, "--port", program.free_port(), *more, "--published", crl)
-    t.same(((t.room / file).read_bytes(), (t.room / "counter").exists()), (before, False), "the register as it was, and no control socket")
+    t.same(((t.room / file).read_bytes(), (t.room / "control").exists()), (before, False), "the register as it was, and no control socket")
     return ending(ran)
 
 
@@ -257,12 +257,12 @@ def listed(t, file="ca.db"):
     return {it: t.done("list", file, it) for it in LISTS}
 
 
-def logged(*exchanges, at=NEXT, who="control"):
+def logged(*exchanges, at=NEXT, client="control"):
     """Lines of a log: each has a command at the control socket, its reply, and the request that the log names. An older desk calls the socket `counter`."""
     made = []
     for asked, answered, *named in exchanges:
         end = f" request {named[0]}" if named else ""
-        made.append(f'{at} {who} "{asked}" "{answered}" {len(answered) + 1} 99{end}\n')
+        made.append(f'{at} {client} "{asked}" "{answered}" {len(answered) + 1} 99{end}\n')
     return "".join(made)
 
 
@@ -281,12 +281,12 @@ LOGS = {
         [],
     ),
     "those of a desk that was upgraded": (
-        logged(("subscriber beta", "subscriber 2"), ("order 2 398", "order 4"), ("request 06 misuse", "request 2 due D", f"2 {S6} misuse"), who="counter")
+        logged(("subscriber beta", "subscriber 2"), ("order 2 398", "order 4"), ("request 06 misuse", "request 2 due D", f"2 {S6} misuse"), client="counter")
         + logged((f"register 4 0A {NEXT} {ENDS}", "registered"), ("revoke 2", "revoked", f"2 {S6}"), ("crl", "crl 2 entries 2")),
         ["subscriber beta", "order 2 398", "request 6 misuse", f"register 4 0A {NEXT} {ENDS}", "revoke 2", "crl"],
         [],
     ),
-    "another client": (logged(("subscriber beta", "subscriber 2"), who="controls"), [], []),
+    "another client": (logged(("subscriber beta", "subscriber 2"), client="controls"), [], []),
     "what the register has": (
         logged(
             ("subscriber acme", "subscriber 1"), ("order 1 398", "order 1"), (f"register 1 05 {BEGUN} {ENDS}", "registered"),
@@ -487,7 +487,7 @@ def lost(t, it):
     t.clock(BACKUP)
     desk = t.open("ca.db", *it.signing(), "--log-file", "ca.log")
     asks = lambda control, *words: [t.true(control.ask(word)[:1] not in "EF", word) for word in words]
-    with Control(t.room / "counter") as control:
+    with Control(t.room / "control") as control:
         asks(control, "subscriber acme", "order 1 365", "order 1 365", f"register 1 05 {BEGUN} {ENDS}", f"register 2 06 {BEGUN} {ENDS}")
         asks(control, "request 05 superseded", "revoke 1 05", "crl", f"copy {t.room}/copy.db")
         t.clock("2026-01-02T09:00:00Z")

@@ -25,7 +25,7 @@ def opened(t, count, *options, command="open", **how):
     t.clock(DAY)
     desk = t.open("ca.db", command=command, **how)
     if command == "open":
-        t.done("at", "counter", given=certificates(count))
+        t.done("at", "control", given=certificates(count))
     return desk
 
 

@@ -26,7 +26,7 @@ def opened(t, *words):
 
 def replies_to(t, *lines):
     """The replies to these lines on one control connection."""
-    return t.desk("at", "counter", given="".join(f"{it}\n" for it in lines)).out.decode().splitlines()
+    return t.desk("at", "control", given="".join(f"{it}\n" for it in lines)).out.decode().splitlines()
 
 
 DECIDED = {"revoke": "revoked", "decline": "declined"}
@@ -161,7 +161,7 @@ def help_lists_each_word_in_one_line(t):
     (line,) = replies_to(t, "help")
     words = "subscriber order register request decline revoke crl status counts listing overdue next-crl ocsp show why schedule copy help".split()
     t.same([it for it in words if not re.search(rf"[:|] {it}\b", line)], [], "commands that the line lacks")
-    t.same(t.desk("at", "counter", given="help\r\n").status, 0)
+    t.same(t.desk("at", "control", given="help\r\n").status, 0)
 
 
 # ---- the log
@@ -228,7 +228,7 @@ def a_log_is_replayed_to_a_copy(t):
     a_day(t)
     t.clock("2026-01-01T10:00:00Z")
     t.open("copy.db")
-    ran = t.desk("replay", "counter", "ca.log")
+    ran = t.desk("replay", "control", "ca.log")
     t.same((ran.status, ran.err), (0, b""), "status and standard error")
     t.same([line.startswith(part) for line, part in zip(ran.out.decode().splitlines(), REPLAYED, strict=True)], [True] * len(REPLAYED), ran.out)
     t.same(replies_to(t, "status 01", "status 03", "status 05")[1:2], ["good"])
@@ -247,7 +247,7 @@ def a_log_of_an_older_desk_is_replayed_as_well(t, is_older):
     t.true(mixed != log, "the log has no line of an older desk")
     (t.room / "ca.log").write_text("".join(mixed))
     desk = t.open("copy.db")
-    replies = t.done("replay", "counter", "ca.log").splitlines()
+    replies = t.done("replay", "control", "ca.log").splitlines()
     desk.end()
     t.same([line.startswith(part) for line, part in zip(replies, REPLAYED, strict=True)], [True] * len(REPLAYED), replies)
     for word in ("subscribers", "orders", "certificates", "requests", "revoked", "crls"):
@@ -260,7 +260,7 @@ def a_request_that_came_between_shifts_no_revocation(t):
     desk = t.open("copy.db")
     for number in (4, 4):
         desk.ask("POST", "/requests", f'{{"serial":"0{number}","ground":"superseded"}}'.encode())
-    t.same(t.desk("replay", "counter", "ca.log").status, 0)
+    t.same(t.desk("replay", "control", "ca.log").status, 0)
     t.same([it.split()[0] for it in replies_to(t, "status 01", "status 03", "status 04", "status 05")], ["revoked", "good", "good", "revoked"])
 
 
@@ -269,7 +269,7 @@ def it_stops_at_the_first_reply_that_differs(t):
     log = a_day(t)
     t.open("copy.db")
     replies_to(t, "subscriber other")
-    ran = t.desk("replay", "counter", "ca.log")
+    ran = t.desk("replay", "control", "ca.log")
     line = next(it for it in log.splitlines() if '"subscriber gamma"' in it)
     t.same((ran.status, ran.err), (3, b"refused\n"), "status and standard error")
     t.same(ran.out.decode().splitlines()[1:], ["subscriber 4", line], "the reply that differs, and the log's line")
@@ -282,10 +282,10 @@ def a_request_from_before_the_log_is_decided_where_it_is_for_the_same_serial_num
     t.clock(DAY)
     t.open("ca.db")
     (t.room / "ca.log").write_text(f'{DAY} control "revoke 1" "revoked" 8 99 request 1 {serial(3)}\n')
-    ran = t.desk("replay", "counter", "ca.log")
+    ran = t.desk("replay", "control", "ca.log")
     t.same((ran.status, ran.out.decode().splitlines()[0]), (3, "E17 no-request"))
     (t.room / "ca.log").write_text(f'{DAY} control "revoke 1" "revoked" 8 99 request 1 {serial(2)}\n')
-    t.same(t.done("replay", "counter", "ca.log"), "revoked\n")
+    t.same(t.done("replay", "control", "ca.log"), "revoked\n")
 
 
 UNKNOWN = {
@@ -304,7 +304,7 @@ UNKNOWN = {
 def a_log_line_that_is_not_whole_stops_it(t, line):
     opened(t)
     (t.room / "ca.log").write_text(line + f'{DAY} control "subscriber gamma" "subscriber 3" 13 99\n')
-    ran = t.desk("replay", "counter", "ca.log")
+    ran = t.desk("replay", "control", "ca.log")
     t.same((ran.status, ran.out.decode(), ran.err), (3, line, b"refused\n"))
 
 
@@ -317,7 +317,7 @@ LEFT_OUT = {
     "an exchange": f'{DAY} 127.0.0.1:1 "GET /counts HTTP/1.1" "HTTP/1.1 200 OK" 155 99\n',
     "a client's line that looks like one at the control socket": f'{DAY} 127.0.0.1:1 "subscriber gamma" "HTTP/1.1 400 Bad Request" 155 99\n',
     "a connection that was lost": f"{DAY} control lost broken\n",
-    **{f"a line of {who!r}": f'{DAY} {who} "subscriber gamma" "subscriber 3" 13 99\n' for who in ("controls", "counters", "contro", "Control", "COUNTER", "desk", "control\t", "")},
+    **{f"a line of {client!r}": f'{DAY} {client} "subscriber gamma" "subscriber 3" 13 99\n' for client in ("controls", "counters", "contro", "Control", "COUNTER", "desk", "control\t", "")},
     "another text": "subscriber gamma\n\n",
     "nothing": "",
 }
@@ -327,7 +327,7 @@ LEFT_OUT = {
 def what_was_no_accepted_command_is_left_out(t, line):
     opened(t)
     (t.room / "ca.log").write_text(line)
-    t.same(t.done("replay", "counter", "ca.log"), "")
+    t.same(t.done("replay", "control", "ca.log"), "")
     t.same(replies_to(t, "subscriber gamma"), ["subscriber 3"])
 
 
@@ -335,11 +335,11 @@ def what_was_no_accepted_command_is_left_out(t, line):
 def a_last_line_without_its_end_is_not_replayed(t):
     opened(t)
     (t.room / "ca.log").write_text(f'{DAY} control "subscriber gamma" "subscriber 3" 13 99\n{DAY} control "subscriber delta" "subscriber 4" 13 99')
-    ran = t.desk("replay", "counter", "ca.log")
+    ran = t.desk("replay", "control", "ca.log")
     t.same((ran.status, ran.out, ran.err), (3, b"subscriber 3\n", b"no-line-end\n"))
 
 
-@each({"no socket": ("replay", "none", "ca.log"), "no log": ("replay", "counter", "none")})
+@each({"no socket": ("replay", "none", "ca.log"), "no log": ("replay", "control", "none")})
 def nobody_or_nothing_is_read(t, *words):
     opened(t)
     (t.room / "ca.log").write_text("")

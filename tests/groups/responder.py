@@ -98,7 +98,7 @@ def bad_responder(t, words, err=b"bad-responder\n"):
     """Checks that a command ends with `bad-responder`, and creates no control socket."""
     ran = t.desk(*words)
     t.same((ran.status, ran.out, ran.err), (1, b"", err), program.shown(words))
-    t.same((t.room / "counter").exists(), False, "whether a control socket was created")
+    t.same((t.room / "control").exists(), False, "whether a control socket was created")
 
 
 # A responder's key
@@ -148,7 +148,7 @@ def openssl_verifies_what_a_responder_signed(t, algorithm):
         it.verifies(body_of(t, desk.ask("GET", "/crl"), "application/pkix-crl"))
         if command == "open":
             t.same(t.control().ask("crl"), "crl 2 entries 1")
-            it.verifies(body_of(t, desk.ask("GET", "/crl"), "application/pkix-crl"), "the CRL of the counter")
+            it.verifies(body_of(t, desk.ask("GET", "/crl"), "application/pkix-crl"), "the CRL of the control socket")
         desk.end()
     t.same((len(signer.asked), len(signs.asked)), (2, 8), "how often each key signed")
 
@@ -187,7 +187,7 @@ def a_responder_alone(t, has_crl, is_signed):
     control = t.control()
     t.same([control.ask("crl"), control.ask("crl")], ["F3 signer", "F3 signer"])
     t.same((it.reads("06", answer(t, it, desk, "06")), control.ask("request 06 superseded").split()[0]), ("good", "request"), "OCSP and a request")
-    ran = t.desk("at", "counter", given="crl\n")
+    ran = t.desk("at", "control", given="crl\n")
     t.same((ran.status, ran.out, ran.err), (3, b"F3 signer\n", b"refused\n"), "status, output and standard error of `desk at`")
     t.same(control.ask("revoke 2"), "revoked")
     t.same(it.reads("06", answer(t, it, desk, "06")), "revoked", "OCSP of a certificate that is revoked, and on no CRL yet")
@@ -244,9 +244,9 @@ def the_timer_s_script_where_a_responder_alone_signs(t, days):
     it.register()
     t.done("script", "ca.db", *it.signing(), given=first_day(authority.now() - days * authority.DAY))
     t.open("ca.db", *responder.words())
-    ran = t.tried("env", f"DESK={program.program()}", "bash", EXAMPLES / "issue-due-crl.sh", "counter")
+    ran = t.tried("env", f"DESK={program.program()}", "bash", EXAMPLES / "issue-due-crl.sh", "control")
     t.same((ran.returncode, ran.stdout), (3 if days else 0, b""))
-    t.same(b"counter: crl: F3 signer\n" in ran.stderr, bool(days), "whether standard error has the fault")
+    t.same(b"control: crl: F3 signer\n" in ran.stderr, bool(days), "whether standard error has the fault")
 
 
 @test(seconds=4)
@@ -321,7 +321,7 @@ def a_crl_that_is_signed_ends_no_back_off_of_a_responder(t):
     hanging = t.signer("responder.sign", lambda message, call: "hang")
     desk, line, unsigned = Passing(t, *it.signing(), *responder.words()), f"ocsp {it.asks('05').hex()}", f"ocsp {INTERNAL.hex()}"
     with ThreadPoolExecutor(1) as pool, t.control() as control:
-        control.peer.settimeout(20)
+        control.stream.settimeout(20)
         waits = pool.submit(control.ask, line)
         authority.until(lambda: hanging.asked, "a request to the responder's signer")
         desk.advance(10_000)
@@ -434,7 +434,7 @@ def bytes_that_are_no_certificate(t, broken):
     responder = Responder(it)
     (t.room / "responder.der").write_bytes(broken(responder.der))
     # The register is missing, so a check after that of the certificate would report `F2 store`.
-    for command, more, sealed in (("open", ("--control", "counter"), ("--unsigned",)), ("serve", ("--requests", "9"), ())):
+    for command, more, sealed in (("open", ("--control", "control"), ("--unsigned",)), ("serve", ("--requests", "9"), ())):
         bad_responder(t, [command, "none.db", "--port", "1", *more, *responder.words()])
         bad_responder(t, [command, "none.db", "--port", "1", *more, *sealed, "--embed", "responder.der"])
 
@@ -489,10 +489,10 @@ def a_certificate_without_a_key_of_its_algorithm(t, change):
     path, usual = t.room / "responder.der", rebuilt(it, responder.der, lambda certified: certified)
     t.same(inside(usual, 0)[2], inside(responder.der, 0)[2], "the TBSCertificate, rebuilt without a change")
     path.write_bytes(rebuilt(it, responder.der, change))
-    bad_responder(t, ["open", "none.db", "--port", "1", "--control", "counter", *responder.words()])
+    bad_responder(t, ["open", "none.db", "--port", "1", "--control", "control", *responder.words()])
     # The unchanged certificate is accepted. The next fault is that the register is missing.
     path.write_bytes(usual)
-    ran = t.desk("open", "none.db", "--port", "1", "--control", "counter", *responder.words())
+    ran = t.desk("open", "none.db", "--port", "1", "--control", "control", *responder.words())
     t.same((ran.status, ran.err), (1, b"F2 store\n"))
 
 
@@ -522,7 +522,7 @@ def what_is_in_der_and_no_certificate(t, *words):
     made = t.tool("openssl", *words)
     t.true(made[:1] == b"\x30" and made != responder.der, f"{words[0]} gives no SEQUENCE, or the certificate itself")
     (t.room / "responder.der").write_bytes(made)
-    bad_responder(t, ["open", "none.db", "--port", "1", "--control", "counter", *responder.words()])
+    bad_responder(t, ["open", "none.db", "--port", "1", "--control", "control", *responder.words()])
 
 
 def padded(it, der, size):
@@ -553,7 +553,7 @@ def a_certificate_of_so_many_octets(t, size):
             t.tool("openssl", "x509", "-inform", "DER", "-in", name, "-out", it.pem)
         words = [*it.signing(), *(responder.words() if option == "--responder" else (option, name))]
         if size > 65_536:
-            bad_responder(t, ["open", "ca.db", "--port", program.free_port(), "--control", "counter", *words])
+            bad_responder(t, ["open", "ca.db", "--port", program.free_port(), "--control", "control", *words])
             continue
         desk = t.open("ca.db", *words)
         response = answer(t, it, desk, "05")
@@ -569,7 +569,7 @@ def before_a_bad_certificate_nothing_is_opened(t, version):
     registers.make(t.room / "ca.db", registers.Records(20, 3), version)
     before = faults.contents(t.room / "ca.db")
     (t.room / "responder.der").write_bytes(responder.der[:-1])
-    for command, more in (("open", ("--control", "counter")), ("serve", ("--requests", "9"))):
+    for command, more in (("open", ("--control", "control")), ("serve", ("--requests", "9"))):
         opens = [command, "ca.db", "--port", program.free_port(), *more]
         bad_responder(t, [*opens, *responder.words()])
         bad_responder(t, [*opens, *(("--unsigned",) if command == "open" else ()), "--embed", "responder.der"])
@@ -583,11 +583,11 @@ def a_certificate_that_can_t_be_read(t):
     responder = Responder(it)
     responder.signer()
     a_day(t, it)
-    opens = ["open", "ca.db", "--port", program.free_port(), "--control", "counter", *responder.words()]
+    opens = ["open", "ca.db", "--port", program.free_port(), "--control", "control", *responder.words()]
     for fail in ("read:1", "open:1"):
         ran, count = faults.run(t, opens, only="responder.der", fail=fail)
         t.same((ran.status, ran.out, ran.err, count["met"]), (1, b"", b"bad-responder\n", 1), fail)
-    bad_responder(t, ["open", "ca.db", "--port", program.free_port(), "--control", "counter", "--unsigned", "--embed", "."])
+    bad_responder(t, ["open", "ca.db", "--port", program.free_port(), "--control", "control", "--unsigned", "--embed", "."])
     desk = t.open("ca.db", *responder.words(), faults=faults.environment(only="responder.der", short=1))
     t.same(certificates_in(answer(t, it, desk, "05")), (CERTIFICATES, [responder.der]), "the certificate, which was read octet by octet")
 
@@ -615,7 +615,7 @@ def a_certificate_that_can_t_be_used(t):
     responder = Responder(it)
     der_of(t, "ca")
     der_of(t, "other")
-    opens = lambda file, *words: ["open", file, "--port", "1", "--control", "counter", *words]
+    opens = lambda file, *words: ["open", file, "--port", "1", "--control", "control", *words]
     embeds = lambda file, *words: opens(file, "--unsigned", "--embed", *words)
     bad_responder(t, opens("none.db", *("--responder", "responder.pem", *responder.words()[2:])))
     bad_responder(t, embeds("none.db", "ca.pem"))

@@ -67,14 +67,14 @@ def open_desk(t, *lines):
     it = Authority(t)
     it.register()
     it.signer()
-    desk = t.open("ca.db", "--control", "counter", *it.signing())
+    desk = t.open("ca.db", "--control", "control", *it.signing())
     (t.room / "www").mkdir()
     at_control(t, *lines)
     return it, desk
 
 
 def at_control(t, *lines):
-    return t.done("at", "counter", given="".join(f"{line}\n" for line in lines)).splitlines()
+    return t.done("at", "control", given="".join(f"{line}\n" for line in lines)).splitlines()
 
 
 def publish(t, desk, path="/crl", folder="www", ca="ca.pem", **how):
@@ -233,12 +233,12 @@ def a_register_that_was_set_back(t):
         if (t.room / name).exists():
             shutil.copy(t.room / name, t.room / f"before-{name}")
     t.clock(moment_of(authority.now() + 60))
-    desk = t.open("ca.db", "--control", "counter", *it.signing())
+    desk = t.open("ca.db", "--control", "control", *it.signing())
     at_control(t, "crl")
     publish(t, desk)
     desk.end()
     t.clock(moment_of(authority.now() + 3600))
-    desk = t.open("before-ca.db", "--control", "counter", *it.signing())
+    desk = t.open("before-ca.db", "--control", "control", *it.signing())
     t.same(at_control(t, "crl"), ["crl 2 entries 0"])
     before = contents(t.room / "www")
     fails(t, publish(t, desk), "is no newer than number 2 in www: was the register set back?")
@@ -317,7 +317,7 @@ def issue_at_once(t, desk, **how):
     now = authority.now()
     registers = f"register 1 05 {moment_of(now)} {moment_of(now + DAY)}"
     at_control(t, "subscriber acme", "order 1 30", registers, "request 05 key-compromise", "revoke 1")
-    return played(t, "issue-due-crl.sh", "--at-once", "key-compromise", "--port", desk.port, "counter", **how)
+    return played(t, "issue-due-crl.sh", "--at-once", "key-compromise", "--port", desk.port, "control", **how)
 
 
 @each({"publish-crl.sh": (publish, ["/crl"]), "issue-due-crl.sh": (issue_at_once, ["/metrics", "/list/revoked?limit=250"])}, seconds=2)
@@ -342,10 +342,10 @@ def what_a_server_says_is_told_in_one_line_of_plain_characters(t):
         server.settimeout(60)
 
         def answer():
-            peer, _ = server.accept()
-            with peer:
-                peer.recv(65_536)
-                peer.sendall(b"HTTP/1.1 502 Bad Gateway\r\nContent-Length: %d\r\nConnection: close\r\n\r\n" % len(body) + body)
+            client, _ = server.accept()
+            with client:
+                client.recv(65_536)
+                client.sendall(b"HTTP/1.1 502 Bad Gateway\r\nContent-Length: %d\r\nConnection: close\r\n\r\n" % len(body) + body)
 
         pool.submit(answer)
         url = f"http://127.0.0.1:{server.getsockname()[1]}/crl"
@@ -411,7 +411,7 @@ def ended(t, it):
 def unsigned_desk(t, *lines):
     it = Authority(t)
     it.register()
-    desk = t.open("ca.db", "--control", "counter")
+    desk = t.open("ca.db", "--control", "control")
     if lines:
         at_control(t, *lines)
     return it, desk
@@ -448,12 +448,12 @@ def two_common_names_are_two_subscribers(t):
         t.tool("openssl", "x509", "-req", "-in", "x.csr", "-CA", it.pem, "-CAkey", it.key, "-set_serial", at, "-days", 30, "-out", f"{at}.pem")
     files = [f"{at}.pem" for at, _ in enumerate(names, 16)]
     for first in range(0, len(files), 3):
-        status, out, told = register_pem(t, "-c", "counter", *files[first : first + 3])
+        status, out, told = register_pem(t, "-c", "control", *files[first : first + 3])
         t.same((status, told), (0, []), "status and error lines")
         t.same([int(line.rpartition(" ")[2]) for line in out.splitlines()], list(range(1, len(names) + 1))[first : first + 3], "subscribers")
     again = len(names) + 16
     t.tool("openssl", "x509", "-req", "-in", "x.csr", "-CA", it.pem, "-CAkey", it.key, "-set_serial", again, "-days", 30, "-out", "again.pem")
-    t.has(register_pem(t, "-c", "counter", "again.pem")[1], f"of subscriber {len(names)}\n", "a second certificate with the last common name")
+    t.has(register_pem(t, "-c", "control", "again.pem")[1], f"of subscriber {len(names)}\n", "a second certificate with the last common name")
     desk.end()
     t.same([name for _, name in rows(t, "subscriber")], [name_of(common) for common in names])
 
@@ -462,7 +462,7 @@ def two_common_names_are_two_subscribers(t):
 def the_first_of_several_common_names_is_the_subscriber(t):
     it, desk = unsigned_desk(t)
     issued(t, it, "a", "05", "/CN=first/O=Example/CN=second")
-    t.same(register_pem(t, "-c", "counter", "a.pem"), (0, "a.pem: serial number 05 registered, order 1 of subscriber 1\n", []))
+    t.same(register_pem(t, "-c", "control", "a.pem"), (0, "a.pem: serial number 05 registered, order 1 of subscriber 1\n", []))
     desk.end()
     t.same([name for _, name in rows(t, "subscriber")], ["first"])
 
@@ -474,15 +474,15 @@ def certificates_are_registered_at_the_control_socket(t):
             (("a", "05", "/O=Example/CN=a & sons, Zürich", 90), ("b", "7FFFFFFF00AA", "/CN=b.example", 397), ("c", "06", "/CN=first", 1))}
     wanted = ["a.pem: serial number 05 registered, order 2 of subscriber 2", "b.pem: serial number 7FFFFFFF00AA registered, order 3 of subscriber 3",
               "c.pem: serial number 06 registered, order 4 of subscriber 1"]
-    t.same(register_pem(t, "-c", "counter", "-a", "ca.pem", "a.pem", "b.pem", "c.pem"), (0, "\n".join([*wanted, ""]), []))
+    t.same(register_pem(t, "-c", "control", "-a", "ca.pem", "a.pem", "b.pem", "c.pem"), (0, "\n".join([*wanted, ""]), []))
     t.same(at_control(t, "status 05", "status 7fffffff00aa", "status 6"), ["good"] * 3)
-    ran = register_pem(t, "-c", "counter", "a.pem", "b.pem")
+    ran = register_pem(t, "-c", "control", "a.pem", "b.pem")
     t.same(ran, (3, "", ["a.pem: serial number 05 is not registered anew, status: good",
                          "b.pem: serial number 7FFFFFFF00AA is not registered anew, status: good"]), "the same certificates again")
     # A certificate in DER, for a subscriber that -s names.
     issued(t, it, "d", "08", "/CN=d")
     t.tool("openssl", "x509", "-in", "d.pem", "-outform", "DER", "-out", "d.der")
-    t.same(register_pem(t, "-c", "counter", "-s", "b.example", "d.der")[1], "d.der: serial number 08 registered, order 5 of subscriber 3\n")
+    t.same(register_pem(t, "-c", "control", "-s", "b.example", "d.der")[1], "d.der: serial number 08 registered, order 5 of subscriber 3\n")
     desk.end()
     t.same([name for _, name in rows(t, "subscriber")], ["first", name_of("a & sons, Zürich"), "b.example"])
     # The second of notAfter belongs to the validity, so `-days 90` is a second longer than 90 days, and needs an order of 91.
@@ -503,13 +503,13 @@ def refused_certificates_are_reported_and_the_others_registered(t):
     (t.room / "text.pem").write_text("no certificate\n")
     ended(t, it)
     names = ["long.pem", "strange.pem", "text.pem", "nowhere.pem", "nameless.pem", "ended.pem", "good.pem"]
-    status, out, told = register_pem(t, "-c", "counter", "-a", "ca.pem", *names)
+    status, out, told = register_pem(t, "-c", "control", "-a", "ca.pem", *names)
     t.same((status, out), (3, "good.pem: serial number 12 registered, order 1 of subscriber 1\n"))
     wanted = ["long.pem: order of 3651 days: E07 bad-days 398", "strange.pem: not signed by ca.pem", "text.pem: openssl can't read it",
               "nowhere.pem: openssl can't read it", "nameless.pem: it has no common name: give -s NAME", "ended.pem: it ended, 2020-01-31T00:00:00Z"]
     t.same(told, wanted)
-    t.same(register_pem(t, "-c", "counter", "-s", "two words", "nameless.pem"), (3, "", ["nameless.pem: subscriber two words: E22 syntax"]))
-    t.same(register_pem(t, "-c", "counter", "-s", "a+b", "nameless.pem"), (3, "", ["nameless.pem: subscriber a+b: E04 bad-name"]))
+    t.same(register_pem(t, "-c", "control", "-s", "two words", "nameless.pem"), (3, "", ["nameless.pem: subscriber two words: E22 syntax"]))
+    t.same(register_pem(t, "-c", "control", "-s", "a+b", "nameless.pem"), (3, "", ["nameless.pem: subscriber a+b: E04 bad-name"]))
     desk.end()
     t.same((len(rows(t, "orders")), len(rows(t, "cert"))), (1, 1), "orders and certificates")
 
@@ -523,7 +523,7 @@ def a_certificate_of_another_ca_that_the_machine_trusts_is_refused(t):
     (t.room / "trusted").mkdir()
     shutil.copy(other.pem, t.room / "trusted")
     t.tool("openssl", "rehash", "trusted")
-    ran = register_pem(t, "-c", "counter", "-a", "ca.pem", "strange.pem", more={"SSL_CERT_DIR": str(t.room / "trusted")})
+    ran = register_pem(t, "-c", "control", "-a", "ca.pem", "strange.pem", more={"SSL_CERT_DIR": str(t.room / "trusted")})
     t.same(ran, (3, "", ["strange.pem: not signed by ca.pem"]))
     t.same(at_control(t, "status 15"), ["unknown"])
 
@@ -548,7 +548,7 @@ def a_certificate_of_a_ca_below_another_one(t):
     t.tool("openssl", "x509", "-req", "-in", "below.csr", "-CA", root.pem, "-CAkey", root.key, "-set_serial", 1, "-days", 3650, "-extfile", "ca.ext", "-out", "below.pem")
     issued(t, it, "a", "05")
     wanted = "a.pem: serial number 05 registered, order 1 of subscriber 1\n"
-    t.same(register_pem(t, "-c", "counter", "-a", "below.pem", "a.pem"), (0, wanted, []))
+    t.same(register_pem(t, "-c", "control", "-a", "below.pem", "a.pem"), (0, wanted, []))
 
 
 @test(seconds=2)
@@ -565,7 +565,7 @@ def a_certificate_that_begins_later_is_registered(t):
         (t.room / file).write_text(text)
     t.tool("openssl", "ca", "-config", "ca.cnf", *words, "-in", "later.csr", "-out", "later.pem")
     wanted = "a.pem: serial number 05 registered, order 1 of subscriber 1\n"
-    t.same(register_pem(t, "-c", "counter", "-a", "later.pem", "a.pem"), (0, wanted, []))
+    t.same(register_pem(t, "-c", "control", "-a", "later.pem", "a.pem"), (0, wanted, []))
 
 
 @test(seconds=2)
@@ -575,9 +575,9 @@ def an_order_that_stays_without_its_certificate_is_reported(t):
     it.register()
     t.done("schedule", "ca.db", "1970-01-01T00:00:00Z=398", "2026-03-15T00:00:00Z=47")
     begins, ends = map(moment_of, issued(t, it, "a", "05"))
-    desk = t.open("ca.db", "--control", "counter")
+    desk = t.open("ca.db", "--control", "control")
     wanted = f"a.pem: register 1 05 {begins} {ends}: E12 too-long (order 1 stays without a certificate)"
-    t.same(register_pem(t, "-c", "counter", "a.pem"), (3, "", [wanted]))
+    t.same(register_pem(t, "-c", "control", "a.pem"), (3, "", [wanted]))
     desk.end()
     t.same((len(rows(t, "orders")), len(rows(t, "cert"))), (1, 0), "orders and certificates")
 
@@ -601,11 +601,11 @@ def as_many_days_as_given_to_openssl(t):
 def no_desk_at_the_control_socket(t):
     it = Authority(t)
     issued(t, it, "a", "05")
-    fails(t, register_pem(t, "-c", "counter", "a.pem", "a.pem"), "a.pem: status 05: no reply at counter")
+    fails(t, register_pem(t, "-c", "control", "a.pem", "a.pem"), "a.pem: status 05: no reply at control")
     t.register("other.db")
-    desk = t.open("other.db", "--control", "counter")
+    desk = t.open("other.db", "--control", "control")
     desk.end()
-    fails(t, register_pem(t, "-c", "counter", "a.pem"), "a.pem: status 05: no reply at counter")
+    fails(t, register_pem(t, "-c", "control", "a.pem"), "a.pem: status 05: no reply at control")
 
 
 @test(seconds=3)
@@ -618,6 +618,8 @@ def certificates_as_lines_of_a_script(t):
     status, lines, told = register_pem(t, "-o", "2", "-n", "1", "-a", "ca.pem", "a.pem", "ended.pem", "b.pem")
     t.same((status, told), (3, ["ended.pem: it ended, 2020-01-31T00:00:00Z"]), "status and error lines of a certificate that has ended")
     t.same(lines.splitlines(), ["order 1 91", f"register 2 05 {at['a'][0]} {at['a'][1]}", "order 1 31", f"register 3 06 {at['b'][0]} {at['b'][1]}"])
+    wanted = lines.replace("register 2 ", "register 8 ").replace("register 3 ", "register 9 ")
+    t.same(register_pem(t, "-o", "008", "-n", "1", "a.pem", "b.pem")[1], wanted, "a number with leading zeros")
     t.same(t.done("script", "ca.db", "--clock", "--strict", given=lines), "order 2\nregistered\norder 3\nregistered\n")
     # If -o is not the number of the next order, the script of lines registers nothing.
     issued(t, it, "c", "07")
@@ -630,10 +632,10 @@ def certificates_as_lines_of_a_script(t):
 
 # Command lines with wrong or missing words, for which each script prints its usage.
 WORDS = {
-    "register-pem.sh": ([], ["-c", "counter"], ["-c", "counter", "-o", "1", "a.pem"], ["a.pem"], ["-o", "1", "a.pem"], ["-n", "1", "a.pem"], ["-c", "counter", "-o", "1", "-n", "1", "a.pem"],
+    "register-pem.sh": ([], ["-c", "control"], ["-c", "control", "-o", "1", "a.pem"], ["a.pem"], ["-o", "1", "a.pem"], ["-n", "1", "a.pem"], ["-c", "control", "-o", "1", "-n", "1", "a.pem"],
                         ["-o", "one", "-n", "1", "a.pem"], ["-o", "1", "-n", "1", "-s", "acme", "a.pem"], ["-x", "a.pem"]),
     "publish-crl.sh": ([], ["http://127.0.0.1:1/crl", "www"], ["a", "b", "c", "d"]),
-    "backup.sh": ([], ["ca.db"], ["ca.db", "copies", "counter", "7"]),
+    "backup.sh": ([], ["ca.db"], ["ca.db", "copies", "control", "7"]),
 }
 
 
@@ -694,7 +696,7 @@ def a_copy_of_a_register_whose_desk_was_ended(t):
     """The last commands before the end are only in the register's -wal file."""
     register_and_copies(t)
     t.clock("2026-01-02T00:00:00Z")
-    desk = t.open("ca.db", "--control", "counter")
+    desk = t.open("ca.db", "--control", "control")
     at_control(t, "request 05 superseded", "revoke 1")
     desk.end()
     t.has(back_up(t)[1], ": sound, 1 certificates, 1 revoked, 1 CRLs\n")
@@ -716,7 +718,7 @@ def a_copy_of_an_open_register_comes_from_a_snapshot(t):
     t.tool("btrfs", "subvolume", "create", "srv/ca")
     t.register("srv/ca/ca.db", REGISTERED)
     t.clock("2026-01-02T00:00:00Z")
-    desk = t.open("srv/ca/ca.db", "--control", "counter")
+    desk = t.open("srv/ca/ca.db", "--control", "control")
     at_control(t, "request 05 superseded", "revoke 1")
     t.tool("btrfs", "subvolume", "snapshot", "-r", "srv/ca", "srv/ca-now")
     at_control(t, "crl")
@@ -731,11 +733,11 @@ def a_copy_of_an_open_register_comes_from_a_snapshot(t):
 def a_copy_of_an_open_register_by_its_control_socket(t):
     copies = register_and_copies(t)
     t.clock("2026-01-02T00:00:00Z")
-    t.open("ca.db", "--control", "counter")
+    t.open("ca.db", "--control", "control")
     at_control(t, "request 05 superseded", "revoke 1")
     # A killed run left this file.
     (t.room / "ca.db.copy.part").write_text("a front")
-    status, out, told = back_up(t, "ca.db", "copies", "counter")
+    status, out, told = back_up(t, "ca.db", "copies", "control")
     t.same((status, out.partition(": ")[2], told), (0, "sound, 1 certificates, 1 revoked, 1 CRLs\n", []))
     [copy] = copies.iterdir()
     t.same({it.name: "%o" % (it.stat().st_mode & 0o777) for it in copy.iterdir()}, {"ca.db": "600"})
@@ -806,7 +808,7 @@ def what_is_kept_is_synced_before_it_has_its_name(t, script, wanted):
 
 
 def an_open_one(t):
-    t.open("ca.db", "--control", "counter")
+    t.open("ca.db", "--control", "control")
     return back_up(t)
 
 
@@ -823,19 +825,19 @@ def a_cut_one(t):
 
 def in_the_way(t):
     """A folder is at the path where the desk creates its copy."""
-    t.open("ca.db", "--control", "counter")
+    t.open("ca.db", "--control", "control")
     (t.room / "ca.db.copy").mkdir()
-    return back_up(t, "ca.db", "copies", "counter")
+    return back_up(t, "ca.db", "copies", "control")
 
 
 def nobody_there(t):
-    t.open("ca.db", "--control", "counter")
+    t.open("ca.db", "--control", "control")
     return back_up(t, "ca.db", "copies", "elsewhere")
 
 
 def no_room_beside_it(t):
-    t.open("ca.db", "--control", "counter", faults={"FAULTS_FAIL": "write:1+", "FAULTS_ONLY": "ca.db.copy.part"})
-    return back_up(t, "ca.db", "copies", "counter")
+    t.open("ca.db", "--control", "control", faults={"FAULTS_FAIL": "write:1+", "FAULTS_ONLY": "ca.db.copy.part"})
+    return back_up(t, "ca.db", "copies", "control")
 
 
 def held(t):
@@ -867,8 +869,8 @@ def an_older_one(t):
 NO_COPIES = {
     "a register that is open": (an_open_one, "ca.db is open: name its control socket, or close it"),
     "something where it lays the copy": (in_the_way, "ca.db.copy can't be removed"),
-    "nobody at the counter": (nobody_there, "ca.db is not copied at elsewhere: "),
-    "no room beside the register": (no_room_beside_it, "ca.db is not copied at counter: F2 store, why disk full"),
+    "nobody at the control socket": (nobody_there, "ca.db is not copied at elsewhere: "),
+    "no room beside the register": (no_room_beside_it, "ca.db is not copied at control: F2 store, why disk full"),
     "one with a row that is missing": (a_broken_one, "the copy of ca.db is not kept: desk audit: broken: standing 1"),
     "half of its file": (a_cut_one, "the copy of ca.db is not kept: desk audit: "),
     "one of an older version": (an_older_one, "the copy of ca.db is not kept: desk audit: old-version"),
@@ -901,6 +903,6 @@ def a_full_disk_of_copies(t):
 def a_copy_that_does_not_fit_is_not_left_beside_the_register(t):
     register_and_copies(t)
     folder = small_disk(t, 16)
-    t.open("ca.db", "--control", "counter")
-    fails(t, back_up(t, "ca.db", folder, "counter"), "ca.db.copy can't be moved into ")
+    t.open("ca.db", "--control", "control")
+    fails(t, back_up(t, "ca.db", folder, "control"), "ca.db.copy can't be moved into ")
     t.same([it.name for it in t.room.iterdir() if ".copy" in it.name], [], "copies that are left beside the register")

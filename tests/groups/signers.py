@@ -15,7 +15,7 @@ from concurrent.futures import ThreadPoolExecutor
 
 from groups import native_signer
 from lib import authority, faults, native, program
-from lib.authority import IDENTIFIERS, INTERNAL, KEYS, Authority, Peer, body_of, first_day, first_day_replies, moment_of
+from lib.authority import IDENTIFIERS, INTERNAL, KEYS, Authority, ScriptedSigner, body_of, first_day, first_day_replies, moment_of
 from lib.program import ANY_SIGNATURE, P256_KEY
 from lib.native import NAME, connected, ended, signature, started
 from lib.passing import Passing
@@ -550,9 +550,9 @@ def each_command_wants_a_key_of_its_algorithm(t, algorithm):
     for other in KEYS:
         if other != algorithm:
             for words in (["script", "ca.db"], ["serve", "ca.db", "--port", program.free_port(), "--requests", 1],
-                          ["open", "ca.db", "--port", program.free_port(), "--control", "counter"]):
+                          ["open", "ca.db", "--port", program.free_port(), "--control", "control"]):
                 refused(t, [*words, "--signer", "ca.sign", "--algorithm", other])
-    t.true(not (t.room / "counter").exists(), "the refused command created a control socket")
+    t.true(not (t.room / "control").exists(), "the refused command created a control socket")
 
 
 # Signers that fail
@@ -561,34 +561,34 @@ def each_command_wants_a_key_of_its_algorithm(t, algorithm):
 def gives(*pieces, pause=0.0):
     """A signer that reads the whole message, and sends these pieces one after the other."""
 
-    def manner(peer, it):
-        program.read_all(peer)
+    def manner(client, it):
+        program.read_all(client)
         for piece in pieces:
-            peer.sendall(piece)
+            client.sendall(piece)
             time.sleep(pause)
 
     return manner
 
 
-def reads_little(peer, it):
-    peer.recv(1)
+def reads_little(client, it):
+    client.recv(1)
 
 
 FAILING = {
-    "closes at once": lambda peer, it: None,
+    "closes at once": lambda client, it: None,
     "closes when it has read a byte": reads_little,
     "reads all and gives nothing": gives(),
     "gives half of a signature": gives(ANY_SIGNATURE[:4]),
     "gives a byte too many": gives(ANY_SIGNATURE + b"\0"),
     "gives a signature twice": gives(ANY_SIGNATURE, ANY_SIGNATURE, pause=0.05),
-    "gives bytes without end": lambda peer, it: endless(peer),
+    "gives bytes without end": lambda client, it: endless(client),
 }
 
 
-def endless(peer):
-    program.read_all(peer)
+def endless(client):
+    program.read_all(client)
     while True:
-        peer.sendall(b"\7" * 65_536)
+        client.sendall(b"\7" * 65_536)
 
 
 @each(FAILING, seconds=2)
@@ -597,7 +597,7 @@ def a_signer_that_fails_once(t, manner):
     request is signed."""
     t.register(key=P256_KEY)
     well = gives(ANY_SIGNATURE)
-    t.enter_context(Peer(t.room / "ca.sign", lambda peer, it: (manner if it.asked % 2 else well)(peer, it)))
+    t.enter_context(ScriptedSigner(t.room / "ca.sign", lambda client, it: (manner if it.asked % 2 else well)(client, it)))
     got, seconds = timed(lambda: tried(t, ["crl", "crl", "crl", "subscriber acme", "crl"]))
     t.same(got, ["F3 signer", "crl 1 entries 0", "F3 signer", "subscriber 1", "crl 2 entries 0"])
     t.true(seconds < 9, f"it took {seconds:.1f} s, so the desk waited for a signer that had failed")
@@ -628,34 +628,34 @@ def nobody_is_at_the_signer_s_socket(t, what):
         t.same(path.read_text(), "precious", "the contents of the file")
 
 
-@each({"byte by byte": gives(*(bytes([it]) for it in ANY_SIGNATURE), pause=0.002), "after a second": lambda peer, it: late(peer)}, seconds=3)
+@each({"byte by byte": gives(*(bytes([it]) for it in ANY_SIGNATURE), pause=0.002), "after a second": lambda client, it: late(client)}, seconds=3)
 def a_signer_that_takes_its_time(t, manner):
     t.register(key=P256_KEY)
-    t.enter_context(Peer(t.room / "ca.sign", manner))
+    t.enter_context(ScriptedSigner(t.room / "ca.sign", manner))
     t.same(tried(t, ["crl"]), ["crl 1 entries 0"])
 
 
-def late(peer):
-    program.read_all(peer)
+def late(client):
+    program.read_all(client)
     time.sleep(1)
-    peer.sendall(ANY_SIGNATURE)
+    client.sendall(ANY_SIGNATURE)
 
 
-def hangs(peer, it):
+def hangs(client, it):
     it.ended.wait(40)
 
 
-def drips(peer, it):
+def drips(client, it):
     """Sends a byte each second, without end. A timeout of ten seconds for each byte would never expire."""
-    program.read_all(peer)
+    program.read_all(client)
     while not it.ended.wait(1):
-        peer.sendall(b"\7")
+        client.sendall(b"\7")
 
 
-def takes_little(peer, it):
+def takes_little(client, it):
     """Reads a full socket buffer every four seconds. A timeout of ten seconds for each write would expire too late."""
     while not it.ended.wait(4):
-        peer.recv(65_536)
+        client.recv(65_536)
 
 
 # A name of 992 bytes. Written byte by byte, a message with this name does not fit into a socket's buffers.
@@ -679,9 +679,9 @@ def a_signer_has_ten_seconds_in_all(t):
 
     def by_stopped(name):
         """SIGSTOP and SIGCONT interrupt the wait at a socket with EINTR (signal(7))."""
-        with faults.Lines(t, f"{name}.db", signing(name)) as desk, ThreadPoolExecutor(1) as asker:
+        with faults.Lines(t, f"{name}.db", signing(name)) as desk, ThreadPoolExecutor(1) as requester:
             begun = time.monotonic()
-            told = asker.submit(lambda: [desk.ask(it) for it in LINES])
+            told = requester.submit(lambda: [desk.ask(it) for it in LINES])
             while not told.done():
                 for it in (signal.SIGSTOP, signal.SIGCONT):
                     time.sleep(0.2)
@@ -689,8 +689,8 @@ def a_signer_has_ten_seconds_in_all(t):
             return told.result(), time.monotonic() - begun
 
     def by_open(name):
-        desk = t.open(f"{name}.db", *signing(name), "--control", f"{name}.counter")
-        with program.Control(t.room / f"{name}.counter") as control:
+        desk = t.open(f"{name}.db", *signing(name), "--control", f"{name}.control")
+        with program.Control(t.room / f"{name}.control") as control:
             begun = time.monotonic()
             told = [control.ask("crl"), control.ask("counts")]
             return told, time.monotonic() - begun
@@ -699,7 +699,7 @@ def a_signer_has_ten_seconds_in_all(t):
              "drips-script": (drips, by_script), "drips-open": (drips, by_open), "takes-little": (takes_little, by_pieces)}
     for name, (manner, _) in works.items():
         t.register(f"{name}.db", name=LONG_NAME, key=P256_KEY)
-        t.enter_context(Peer(t.room / f"{name}.sign", manner))
+        t.enter_context(ScriptedSigner(t.room / f"{name}.sign", manner))
     with ThreadPoolExecutor(len(works)) as pool:
         for name, work in {name: pool.submit(work, name) for name, (_, work) in works.items()}.items():
             told, seconds = work.result()
@@ -720,19 +720,19 @@ class Hanging:
 
     def __init__(self, t, path="ca.sign"):
         self.mended = threading.Event()
-        self.peer = t.enter_context(Peer(t.room / path, self.manner))
+        self.signer = t.enter_context(ScriptedSigner(t.room / path, self.manner))
 
-    def manner(self, peer, it):
+    def manner(self, client, it):
         gone = select.poll()
         # With no events, poll(2) still reports that the other side has closed.
-        gone.register(peer, 0)
+        gone.register(client, 0)
         while not (self.mended.is_set() or it.ended.is_set() or gone.poll(50)):
             pass
-        gives(ANY_SIGNATURE)(peer, it)
+        gives(ANY_SIGNATURE)(client, it)
 
     @property
     def asked(self):
-        return self.peer.asked
+        return self.signer.asked
 
 
 def timed(work):
@@ -786,8 +786,8 @@ def a_signer_that_hangs_holds_nobody_up_for_ten_seconds_more(t):
         at_once(t, lambda: is_signed(control), False, "a line behind it")
         at_once(t, lambda: program.parted(desk.ask("GET", "/counts"))[0], 200, "GET /counts")
         passing.advance(3_000)
-    at_once(t, lambda: control.ask("request 05 asked"), "request 1 due 2026-01-02T00:00:00Z", "a request at the counter")
-    at_once(t, lambda: control.ask("revoke 1"), "revoked", "a revocation at the counter")
+    at_once(t, lambda: control.ask("request 05 asked"), "request 1 due 2026-01-02T00:00:00Z", "a request at the control socket")
+    at_once(t, lambda: control.ask("revoke 1"), "revoked", "a revocation at the control socket")
     at_once(t, lambda: json.loads(program.parted(desk.ask("GET", "/status/05"))[2])["status"], "revoked", "GET /status")
     t.same(signer.asked, 1, "how often the signer was asked")
     signer.mended.set()
@@ -829,8 +829,8 @@ def a_back_off_begins_though_the_line_began_a_little_later_than_its_ten_seconds(
     control, other = t.control(), t.control()
     t.same([it.ask("counts") for it in (control, other)], ["good 0 revoked 0 expired 0"] * 2)
     desk.process.send_signal(signal.SIGSTOP)
-    control.peer.sendall(f"ocsp {OCSP.hex()}\n".encode())
-    other.peer.sendall(b"counts\n")
+    control.stream.sendall(f"ocsp {OCSP.hex()}\n".encode())
+    other.stream.sendall(b"counts\n")
     desk.process.send_signal(signal.SIGCONT)
     t.same(other.file.readline(), b"good 0 revoked 0 expired 0\n")
     authority.until(lambda: signer.asked, "a request to the signer")

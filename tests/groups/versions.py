@@ -117,11 +117,11 @@ def versions_below_1_and_above_3(t):
             t.same((ran.status, ran.out, ran.err), (1, b"", f"{told}\n".encode()), f"{words[0]} over version {version}")
 
 
-LOSSES = {f"{name}, {loss}": (version, told) for name, version in VERSIONS.items() for loss, told in (
+LOST_WRITES = {f"{name}, {loss}": (version, told) for name, version in VERSIONS.items() for loss, told in (
     ("nothing is lost", {}), ("what was not synced is lost", {"lose": 1}), ("some of it is lost", {"lose": 5}))}
 
 
-@each(LOSSES, seconds=10)
+@each(LOST_WRITES, seconds=10)
 def a_stop_leaves_the_older_or_the_newer_one(t, version, told):
     records = made(t, 20, version, "base.db")
     before = registers.rows_of(t.room / "base.db")

@@ -367,8 +367,8 @@ def without_memory_nobody_waits_for_a_signature_that_is_not_requested(t):
         """The counts of allocations when the desk listens, and at the end; and the response."""
         faults.copy(base, t.room / "ca.db")
         env = faults.environment(count=count, same=1, passed=passed, fail=fail)
-        (t.room / "counter").unlink(missing_ok=True)
-        with program.Opened(["open", "ca.db", *SIGNING, "--control", "counter"], cwd=t.room, faults=env) as desk:
+        (t.room / "control").unlink(missing_ok=True)
+        with program.Opened(["open", "ca.db", *SIGNING, "--control", "control"], cwd=t.room, faults=env) as desk:
             t.true(desk.listens, f"{fail}: it does not listen")
             first = faults.counted(count)["alloc"]
             with desk.connect(timeout=10) as client:
@@ -398,10 +398,10 @@ def a_signer_with_a_full_queue_is_asked_again(t):
         waits = [pool.submit(ocsp_answer, desk, 0x1100 + at) for at in range(8)]
         time.sleep(0.3)
         for _ in range(8):
-            peer, _ = server.accept()
-            with peer:
-                program.read_all(peer)
-                peer.sendall(ANY_SIGNATURE)
+            client, _ = server.accept()
+            with client:
+                program.read_all(client)
+                client.sendall(ANY_SIGNATURE)
         t.same([is_signed(it.result()) for it in waits], [True] * 8)
 
 
@@ -420,9 +420,9 @@ def the_first_answer_stays_first_though_the_signer_has_no_room(t):
     desk.advance(10)
     server.accept()[0].close()
     desk.advance(10)
-    peer, _ = server.accept()
-    with peer:
-        t.true(names(program.read_all(peer), 0x1100), "the first signature is requested for another answer")
+    client, _ = server.accept()
+    with client:
+        t.true(names(program.read_all(client), 0x1100), "the first signature is requested for another answer")
 
 
 @test(seconds=2)
@@ -435,12 +435,12 @@ def a_signature_is_requested_again_once_a_descriptor_is_free(t):
     before = files(desk)
     t.tool("prlimit", "--pid", desk.process.pid, f"--nofile={before + 7}:{before + 7}")
     with ExitStack() as open_ones, ThreadPoolExecutor(4) as pool:
-        peers = [open_ones.enter_context(desk.connect()) for _ in range(4)]
+        clients = [open_ones.enter_context(desk.connect()) for _ in range(4)]
         authority.until(lambda: files(desk) == before + 4, "the connections of four clients")
-        for at, peer in enumerate(peers):
+        for at, client in enumerate(clients):
             request = asked_for(0x1100 + at)
-            peer.sendall(b"POST /ocsp HTTP/1.1\r\nHost: ca.example\r\nContent-Length: %d\r\n\r\n" % len(request) + request)
-        waits = [pool.submit(program.read_all, peer) for peer in peers]
+            client.sendall(b"POST /ocsp HTTP/1.1\r\nHost: ca.example\r\nContent-Length: %d\r\n\r\n" % len(request) + request)
+        waits = [pool.submit(program.read_all, client) for client in clients]
         t.true(held.signers.until(3), "fewer than three signatures are requested")
         time.sleep(0.2)
         t.same([it.done() for it in waits], [False] * 4, "which clients got an answer")
@@ -540,13 +540,13 @@ def many_crls_of_one_client_hold_up_another_one_for_one_signature(t):
     certified(t)
     earlier, later = t.control(), t.control()
     t.same([it.ask("counts") for it in (earlier, later)], ["good 1 revoked 0 expired 0"] * 2)
-    later.peer.sendall(b"crl\n" * 5)
+    later.stream.sendall(b"crl\n" * 5)
     t.true(signers.until(1), "no signature is requested")
-    earlier.peer.sendall(b"counts\n")
-    authority.until(lambda: program.is_read(earlier.peer), "the desk to read the line")
+    earlier.stream.sendall(b"counts\n")
+    authority.until(lambda: program.is_read(earlier.stream), "the desk to read the line")
     release.release()
     t.same(later.file.readline(), b"crl 1 entries 0\n")
-    earlier.peer.settimeout(20)
+    earlier.stream.settimeout(20)
     t.same(earlier.file.readline(), b"good 1 revoked 0 expired 0\n", "the reply to the other client")
 
 
@@ -559,8 +559,8 @@ def lines_that_come_at_once_with_a_crl_are_answered(t):
     t.same([it.ask("counts") for it in clients], ["good 0 revoked 0 expired 0"] * 3)
     desk.process.send_signal(signal.SIGSTOP)
     for it, line in zip(clients, (b"counts\n", b"crl\n", b"counts\n")):
-        it.peer.settimeout(20)
-        it.peer.sendall(line)
+        it.stream.settimeout(20)
+        it.stream.sendall(line)
     desk.process.send_signal(signal.SIGCONT)
     t.same([it.file.readline() for it in clients], [b"good 0 revoked 0 expired 0\n", b"crl 1 entries 0\n", b"good 0 revoked 0 expired 0\n"])
 
@@ -677,12 +677,12 @@ def a_crl_of_more_than_a_socket_takes_at_once(t):
     with ThreadPoolExecutor(1) as pool, t.control() as control:
         t.same(control.ask(f"accept-clock {program.moment_of(authority.now())}"), "clock accepted")
         crl = pool.submit(control.ask, "crl")
-        peer, _ = server.accept()
-        with peer:
+        client, _ = server.accept()
+        with client:
             quick(t, desk)
             time.sleep(1)
-            message = program.read_all(peer)
-            peer.sendall(ANY_SIGNATURE)
+            message = program.read_all(client)
+            client.sendall(ANY_SIGNATURE)
         t.same(crl.result(), f"crl 1 entries {count}")
     t.true(len(message) > 250_000, f"the message to sign has only {len(message)} bytes")
     t.has(authority.body_of(t, desk.ask("GET", "/crl"), "application/pkix-crl"), message, "the CRL has the signed message")
@@ -698,12 +698,12 @@ def a_signer_that_ends_before_it_has_read_a_long_crl_holds_up_no_line(t):
     server.listen(4)
     Passing(t, *SIGNING)
     with ThreadPoolExecutor(1) as pool, t.control() as control:
-        control.peer.settimeout(20)
+        control.stream.settimeout(20)
         t.same(control.ask(f"accept-clock {program.moment_of(authority.now())}"), "clock accepted")
         crl = pool.submit(control.ask, "crl")
-        peer, _ = server.accept()
-        with peer:
-            t.same(len(peer.recv(1)), 1, "bytes of the message that the signer read")
+        client, _ = server.accept()
+        with client:
+            t.same(len(client.recv(1)), 1, "bytes of the message that the signer read")
             # The desk fills the socket's buffers in this time.
             time.sleep(0.3)
         with t.at_once("the line"):

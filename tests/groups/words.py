@@ -355,7 +355,7 @@ def the_help_of_an_algorithm_names_its_signer(t, command, option):
 
 # The words of a run that is not all accepted, its input, and the text before the exit status in help.
 STATUS = {
-    "at": (("at", "counter"), "x\n", "Exit status "), "replay": (("replay", "counter", "ca.log"), "", "Exit status "), "audit": (("audit", "broken.db"), "", "Exit status "),
+    "at": (("at", "control"), "x\n", "Exit status "), "replay": (("replay", "control", "ca.log"), "", "Exit status "), "audit": (("audit", "broken.db"), "", "Exit status "),
     "script": (("script", "other.db", "--strict"), "x\n", "exit status "), "import": (("import", "other.db", "--now", "2026-01-01T00:00:00Z", "--strict"), "1,2\n", "exit status "),
 }
 
@@ -404,7 +404,7 @@ def rows_have_the_fields_that_help_names(t, words, before, after, reply):
     (t.room / "rows.csv").write_text(rows)
     if words[0] == "at":
         t.open()
-        told = t.done("at", "counter", *words[1:])
+        told = t.done("at", "control", *words[1:])
     else:
         told = t.done("import", "ca.db", *words[1:], given=rows)
     t.same(told, f"{reply}\n", f"the replies to the rows {rows!r}")

@@ -241,7 +241,7 @@ def signed_part(value):
 # Signers that break the protocol
 
 
-class Peer:
+class ScriptedSigner:
     """A signer that calls `manner` for each connection, one after the other."""
 
     def __init__(self, path, manner):
@@ -256,12 +256,12 @@ class Peer:
     def serve(self):
         while True:
             try:
-                peer, _ = self.server.accept()
+                client, _ = self.server.accept()
             except OSError:
                 return
             self.asked += 1
-            with peer, contextlib.suppress(OSError):
-                self.manner(peer, self)
+            with client, contextlib.suppress(OSError):
+                self.manner(client, self)
 
     def __enter__(self):
         return self

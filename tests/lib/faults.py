@@ -199,11 +199,11 @@ class Office:
     ends = (("", -15, ""),)
 
     def __init__(self, t, path, words=(), **told):
-        self.count, self.clock, self.socket, self.control = t.room / "count-office", t.room / "clock", t.room / "counter", None
+        self.count, self.clock, self.socket, self.control = t.room / "count-office", t.room / "clock", t.room / "control", None
         self.socket.unlink(missing_ok=True)
         self.clock.write_text(str(program.seconds_of(DAY_1)))
         env = environment(count=self.count, same=1, **told)
-        self.desk = program.Opened(["open", path, "--control", "counter", "--unsigned", *words], cwd=t.room, clock=self.clock, faults=env)
+        self.desk = program.Opened(["open", path, "--control", "control", "--unsigned", *words], cwd=t.room, clock=self.clock, faults=env)
 
     def ask(self, line):
         moment, line = line.split(" ", 1)

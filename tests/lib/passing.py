@@ -50,7 +50,7 @@ class Passing:
         """The lost connections in the log so far: the port of each client, and why."""
         return [tuple(it.split(":")[-1].split(" lost ")) for it in self.desk.log if " lost " in it]
 
-    def loses(self, *peers, why=""):
+    def loses(self, *clients, why=""):
         """Checks that these connections, in this order, are the lost ones of the log, for this reason."""
         self.advance(0)
-        self.t.same(self.lost, [(str(it.getsockname()[1]), why) for it in peers], "lost connections, and why")
+        self.t.same(self.lost, [(str(it.getsockname()[1]), why) for it in clients], "lost connections, and why")

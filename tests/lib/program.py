@@ -163,11 +163,11 @@ class Opened:
 
     def send(self, asked, timeout=LONGEST):
         """Sends these bytes, and returns all that the desk sends until it closes."""
-        with self.connect(timeout) as peer:
+        with self.connect(timeout) as client:
             # The desk may close before it has read all.
             with contextlib.suppress(BrokenPipeError, ConnectionResetError):
-                peer.sendall(asked)
-            return read_all(peer)
+                client.sendall(asked)
+            return read_all(client)
 
     def ask(self, method, target, body=None, headers=(), timeout=LONGEST):
         """One request of HTTP/1.1 and its response, byte for byte."""
@@ -202,10 +202,10 @@ class Opened:
         self.stderr.close()
 
 
-def read_all(peer):
+def read_all(stream):
     got = bytearray()
     with contextlib.suppress(ConnectionResetError):
-        while piece := peer.recv(65536):
+        while piece := stream.recv(65536):
             got += piece
     return bytes(got)
 
@@ -238,14 +238,14 @@ class Control:
     """A connection to the control socket of an open desk."""
 
     def __init__(self, path, timeout=LONGEST):
-        self.peer = socket.socket(socket.AF_UNIX)
-        self.peer.settimeout(timeout * PATIENCE)
-        self.peer.connect(str(path))
-        self.file = self.peer.makefile("rb")
+        self.stream = socket.socket(socket.AF_UNIX)
+        self.stream.settimeout(timeout * PATIENCE)
+        self.stream.connect(str(path))
+        self.file = self.stream.makefile("rb")
 
     def ask(self, line):
         """Sends one line, and reads its reply, without its end."""
-        self.peer.sendall(line.encode() + b"\n")
+        self.stream.sendall(line.encode() + b"\n")
         return self.file.readline().decode("latin-1").rstrip("\n")
 
     def __enter__(self):
@@ -253,7 +253,7 @@ class Control:
 
     def __exit__(self, *_):
         self.file.close()
-        self.peer.close()
+        self.stream.close()
 
 
 class Signer:
@@ -272,17 +272,17 @@ class Signer:
     def serve(self):
         while not self.ended.is_set():
             try:
-                peer, _ = self.server.accept()
+                client, _ = self.server.accept()
             except OSError:
                 return
-            with peer, contextlib.suppress(OSError):
-                message = read_all(peer)
+            with client, contextlib.suppress(OSError):
+                message = read_all(client)
                 self.asked.append(message)
                 signature = self.answer(message, len(self.asked))
                 if signature == "hang":
                     self.ended.wait(30)
                 elif signature is not None:
-                    peer.sendall(signature)
+                    client.sendall(signature)
 
     def __enter__(self):
         return self
@@ -315,13 +315,13 @@ class Signers:
     def serve(self):
         with contextlib.suppress(OSError):
             while True:
-                peer, _ = self.server.accept()
-                self.clients.append(peer)
-                threading.Thread(target=self.sign, args=(peer,), daemon=True).start()
+                client, _ = self.server.accept()
+                self.clients.append(client)
+                threading.Thread(target=self.sign, args=(client,), daemon=True).start()
 
-    def sign(self, peer):
-        with peer, contextlib.suppress(OSError):
-            message = read_all(peer)
+    def sign(self, client):
+        with client, contextlib.suppress(OSError):
+            message = read_all(client)
             with self.lock:
                 self.asked.append(message)
                 self.now += 1
@@ -330,7 +330,7 @@ class Signers:
             with self.lock:
                 self.now -= 1
             if signature is not None:
-                peer.sendall(signature)
+                client.sendall(signature)
 
     def until(self, count, seconds=60):
         """Waits until `count` requests are being answered at once; returns whether they are."""

@@ -120,11 +120,11 @@ class Trial(contextlib.ExitStack):
         return self.room / file
 
     def open(self, file="ca.db", *words, command="open", **how):
-        """Runs `desk open` or `desk serve` until the test ends. `open` gets the control socket `counter` if none is named, and --unsigned if neither a signer nor
+        """Runs `desk open` or `desk serve` until the test ends. `open` gets the control socket `control` if none is named, and --unsigned if neither a signer nor
         a responder is named."""
         how.setdefault("clock", self._clock)
         if command == "open" and not {"--control", "--counter"} & set(words):
-            words = (*words, "--control", "counter")
+            words = (*words, "--control", "control")
         if command == "open" and not {"--signer", "--responder", "--unsigned"} & set(words):
             words = (*words, "--unsigned")
         self.note(program.shown([command, file, *words]))
@@ -134,7 +134,7 @@ class Trial(contextlib.ExitStack):
             raise Failed(f"{program.shown(opened.words)} does not listen: status {ended.status}, {ended.err!r}")
         return opened
 
-    def control(self, path="counter"):
+    def control(self, path="control"):
         return self.enter_context(program.Control(self.room / path))
 
     def signer(self, path="ca.sign", answer=None):

@@ -72,11 +72,11 @@ class Player:
         """Runs the steps on an open desk, whose clock is set before each step."""
         told = []
         self.clock.write_text(str(steps[0][1]))
-        (self.room / "counter").unlink(missing_ok=True)
-        with program.Opened(["open", "ca.db", "--control", "counter", "--unsigned"], cwd=self.room, clock=self.clock) as desk:
+        (self.room / "control").unlink(missing_ok=True)
+        with program.Opened(["open", "ca.db", "--control", "control", "--unsigned"], cwd=self.room, clock=self.clock) as desk:
             if not desk.listens:
                 return [ending(desk.wait())] + [None] * (len(steps) - 1)
-            with program.Control(self.room / "counter") as control:
+            with program.Control(self.room / "control") as control:
                 for step in steps:
                     told.append(self.exchange(desk, control, *step))
             ended = desk.end()
@@ -90,9 +90,9 @@ class Player:
             return desk.send(http.request(*given))
         if word == "tell":
             # Words may have any byte, so they go as they are.
-            control.peer.sendall(given[0] + b"\n")
+            control.stream.sendall(given[0] + b"\n")
             return control.file.readline().rstrip(b"\n")
-        ran = program.run(["at", "counter"], b"".join(it + b"\n" for it in given[0]), cwd=self.room)
+        ran = program.run(["at", "control"], b"".join(it + b"\n" for it in given[0]), cwd=self.room)
         told = ran.out.split(b"\n")[:-1]
         refused = any(it[:1] in (b"E", b"F", b"b") for it in told)
         as_said = (ran.status, ran.err) == ((3, b"refused\n") if refused else (0, b""))
@@ -138,7 +138,7 @@ def shown(step):
         method, target, fields, body = given[1:]
         return f"http      {text_of(given[0])} {method} {target}" + f" {' | '.join(fields)}" * bool(fields) + f"  body {body.hex()}" * bool(body)
     if word == "tell":
-        return f"counter   {text_of(given[0])} {text(given[1])}"
+        return f"control   {text_of(given[0])} {text(given[1])}"
     if word == "at":
         return f"desk at   {text_of(given[0])} {' / '.join(map(text, given[1]))}"
     return f"desk {word}" + "".join(f" --number {it}" for it in given if it is not None)

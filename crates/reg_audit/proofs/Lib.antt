@@ -14,5 +14,5 @@ pub mod OfficeRows
 pub mod CountedRows
 pub mod Completed
 pub mod Ordered
-pub mod VerdictLemmas
+pub mod AuditResultLemmas
 pub mod Ends

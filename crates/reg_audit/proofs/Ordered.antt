@@ -19,11 +19,11 @@ use Rattle.reg_audit.specs.Presumed.{IsOverRegister, IsPresumed}
 rises_at : (s : Shape) (trees : Trees) (tree : ℕ) → s ≡ shape.Table → IsShaped s (trees tree) → IsTable (trees tree)
 rises_at s trees tree is shaped = (subst (λ (t : Shape). IsShaped t (trees tree)) is shaped).0
 
-module _ (shapes : ℕ → Shape) (trees : Trees) (ordered : IsOrdered shapes trees) (laid : IsLaidOut register_schema shapes) where
+module _ (shapes : ℕ → Shape) (trees : Trees) (ordered : IsOrdered shapes trees) (layout : IsLaidOut register_schema shapes) where
   tables_rise : AllByRecursion (λ tree. IsTable (trees tree)) table_trees
   unfolding register_schema
   tables_rise =
-      let at = laid.tables in
+      let at = layout.tables in
       let rises = λ (tree : ℕ) (is : shapes tree ≡ shape.Table). rises_at (shapes tree) trees tree is (ordered tree) in (
         rises 0 at.0,
         (
@@ -58,10 +58,10 @@ module _ {S : Type 0} (g : Ghosts S) (h : Held S) (ordered : (g.view h.store).is
       let sound : IsSound register_schema (state g h).now.trees = subst (λ (schema : Schema). IsSound schema (state g h).now.trees) is.schema (is.live up).0 in
       let order = ordered presumed.unbroken in
       let list = listed presumed.unbroken in
-      let laid = laid_out list (objects_rise (g.view h.store) list order) sound.lists.listed in
+      let layout = laid_out list (objects_rise (g.view h.store) list order) sound.lists.listed in
       record {
         schema = is.schema;
         obeyed = (is.live up).0;
-        rises = tables_rise (g.view h.store).shape (g.view h.store).trees order laid;
+        rises = tables_rise (g.view h.store).shape (g.view h.store).trees order layout;
         whole = presumed.whole;
       }

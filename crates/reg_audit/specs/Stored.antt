@@ -1,13 +1,17 @@
 -- The bytes of the stored CRLs.
 use Rattle.std.specs.Prelude.{ℕ, ◌≤◌, List, Option, Some, length, IsSomeAnd}
+use Rattle.sqlite.specs.Held.{Held}
+use Rattle.sqlite_trees.specs.declared.store.Store.{Ghosts}
 use Rattle.reg_core.specs.Crls.{CertList, cert_list}
+use Rattle.reg_core.specs.Issuer.{Issuer}
 use Rattle.reg_core.specs.Records.{Records, crl_in}
 use Rattle.reg_core.specs.Sound.{KeysDiffer}
 use Rattle.reg_core.specs.Sequence.{◌>>=◌}
 use Rattle.reg_core.specs.declared.rows.CrlRow.{CrlRow}
 use Rattle.reg_crl.specs.Signing.{IsAlgorithm}
 use Rattle.reg_der.specs.ValueReading.{Parts, value_at}
-use Rattle.reg_audit_rows.specs.Crls.{IsCrlOf}
+use Rattle.reg_store_tables.specs.Shows.{Shows}
+use Rattle.reg_audit_rows.specs.Crls.{IsCrlOf, MatchRecords}
 use Rattle.reg_audit_rows.specs.declared.derived_rows.Listed.{Listed}
 
 -- the bytes, at most 2^28, are this CRL (RFC 5280 5.1), with some AlgorithmIdentifier and any signature of at most 65,536 bytes
@@ -33,3 +37,9 @@ abbrev pub IsStored : Records → CrlRow → Type 0
 IsStored records row =
     IsSomeAnd (crl_in records.crls row.number)
     (λ crl. IsSomeCrl (cert_list records row.number row.this_update) crl.bytes)
+
+-- this holds of the records that the tables show, if the issuer, the lifetime and the entries are theirs
+abbrev pub HoldsOfRecordsWith : {C : Type 0} → Ghosts C → Held C → Issuer → ℕ → List Listed
+    → (Records → Type 0) → Type 0
+HoldsOfRecordsWith g conn issuer crl_life listed IsSo =
+    (records : Records) → Shows g conn records → MatchRecords issuer crl_life listed records → IsSo records

@@ -27,7 +27,7 @@ fn audit_result_or_fault(audited: Result<Audited, AuditFault>) -> Result<AuditRe
     }
 }
 
-/// Whether the connection is in no transaction and its schema is a register's.
+/// Whether the connection is in no transaction and its schema is exactly a register's.
 fn is_over_register<S: Alter>(alloc: Global, conn: &Connection<S>) -> Result<bool, StoreFault>
     ensures is { IfOk result (λ same. IsTrue same → IsOverRegister S.Store conn.now) }
     ensures other { conn.now.in_transaction ≡ false
@@ -43,18 +43,15 @@ fn is_over_register<S: Alter>(alloc: Global, conn: &Connection<S>) -> Result<boo
     }
 }
 
-/// Checks the version, the issuer, the policy and the last accepted moment, as the opening of a register does. If the version is the program's, it
-/// checks that the schema is a register's ([`reg_store_schema::is_register`]), and then all rows ([`crate::audit`]). It changes nothing, and does not
-/// migrate a register of version 1 or 2. The connection must be in no transaction. The observer receives the progress.
+/// Checks the version, the issuer, the policy and the last accepted moment by [`examine`], as the opening of a register does. [`examine`] gives
+/// `None` if the version is the program's, 3. In that case the schema must be a register's, and all rows are checked ([`crate::audit`]). Nothing
+/// changes: an older register is not migrated. The connection must be in no transaction. The observer receives the progress.
 ///
-/// `Sound`: the tables show sound records, if the connection was open and two facts hold that no query can check (`IsPresumed`: the
-/// transaction isn't broken, and no row of `listed` lacks its last column). `Broken`: one of these fails (`Disproves`): the values are those of a
-/// register, the records are sound, the derived tables match, and each CRL has the bytes of its entries. After a defect other than `OtherBytes`,
-/// one of the first three fails. `Older`: the tables are those of version 1 or 2 by the row of `office`. `OtherSchema`: that row is of version 3,
-/// but the schema is another.
-///
-/// # Errors
-/// `NotARegister` and `NewVersion`, as from [`examine`]; `Memory`; `Store` as from [`crate::audit`].
+/// `Sound`: the tables show sound records (they obey all rules of a register), if the connection was open and two facts hold that no query can check
+/// (`IsPresumed`): no call left a broken transaction; each row of the table `listed` has its last column. `Broken`: one or more of these four are
+/// false (`Disproves`): the values are a register's, the records are sound, the derived tables match them, each CRL has the bytes of its entries. If
+/// the defect isn't `OtherBytes`, one of the first three is false. `Older`: version 1 or 2. `OtherSchema`: version 3, but not a register's schema.
+/// Errors: `NotARegister` if the table `office` or the schedule can't be read or is out of range; `NewVersion` above 3; `Memory`; `Store`.
 pub fn judge<S: Alter, W: ProgressObserver>(
     alloc: Global,
     conn: &mut Connection<S>,

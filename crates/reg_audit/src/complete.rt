@@ -1,5 +1,6 @@
-//! Checks that a register's tables have only rows that a register writes, so that there are records that the tables show. A register deletes no
-//! records, and deletes derived rows only to fill their table anew. So ids, CRL numbers and rowids are 1, 2, 3 and so on.
+//! Checks that each row has the values of a record, or of a row derived from records, and that ids, CRL numbers and rowids are 1, 2, 3 and so on. A
+//! register never deletes a record. It deletes derived rows only to fill their table anew. The derived tables: `standing` has the state of each
+//! certificate; `kept` has one row, with the counts of each state; `listed` has the CRL entries.
 
 ghost use Rattle.std.specs.Prelude.{◌≡◌, ℕ, IsTrue, IfOk, IfSome, OnOk};
 ghost use Rattle.std.specs.List.{AllByRecursion, AllZip};
@@ -29,7 +30,7 @@ use reg_store_tables::sql_values::number_at;
 use sqlite::Row;
 use std::alloc::Global;
 
-/// The statements that an audit runs after [`crate::whole_audit::TABLE_QUERIES`], in this order: for rowids, `office` and the schedule.
+/// The queries that an audit runs after [`crate::whole_audit::TABLE_QUERIES`]. Items 0 to 4 read rowids, 5 `office`, 6 the schedule's steps.
 pub(crate) const OTHER_QUERIES: [AuditQuery; 7] = [
     AuditQuery::CertificateRowids,
     AuditQuery::RevocationRowids,
@@ -40,6 +41,7 @@ pub(crate) const OTHER_QUERIES: [AuditQuery; 7] = [
     AuditQuery::Steps,
 ];
 
+/// The version of a register's tables, in the column `version` of `office`.
 const VERSION: u64 = 3;
 
 fn is_number(row: &Row, at: usize, n: u64) -> bool
@@ -52,7 +54,7 @@ fn is_number(row: &Row, at: usize, n: u64) -> bool
     }
 }
 
-/// Checks that the first column of the rows is 1, 2, 3 and so on. `table`, here and below, is only for the report of a broken row.
+/// Checks that column 0 (id, CRL number or rowid) is 1, 2, 3 and so on in the rows. `table`, here and below, is only for the report of a broken row.
 fn check_counted(table: RegisterTable, rows: &[Row]) -> Result<(), AuditFault>
     ensures counted { OnOk result (CountedFrom 1 rows.now) }
     ensures broken { CountedFrom 1 rows.now → NoBrokenRow result }
@@ -65,8 +67,7 @@ fn check_counted(table: RegisterTable, rows: &[Row]) -> Result<(), AuditFault>
     Ok(())
 }
 
-/// Whether the row is that of some record: it has values that `T` can hold.
-fn stands<T: RowKind>(row: &Row) -> bool
+fn is_of_some_record<T: RowKind>(row: &Row) -> bool
     ensures { IsTrue result → IsOfSomeRecord T.has_valid_serial T.shown row.now }
 {
     match T::read_row(row) {
@@ -75,21 +76,21 @@ fn stands<T: RowKind>(row: &Row) -> bool
     }
 }
 
-/// Checks that each row is that of some record. `Store` if one is not; no such row gets here, because `check_read` has reported it.
+/// Checks that `T` can hold each row's values. `Store` if not; but no such row gets here, because `check_read` has reported it before.
 fn check_are_of_some_record<T: RowKind>(rows: &[Row]) -> Result<(), AuditFault>
     ensures stand { OnOk result (AllByRecursion (IsOfSomeRecord T.has_valid_serial T.shown) rows.now) }
     ensures broken { NoBrokenRow result }
 {
     for row in rows {
-        if !stands::<T>(row) {
+        if !is_of_some_record::<T>(row) {
             return Err(AuditFault::Store);
         }
     }
     Ok(())
 }
 
-/// Checks that the rows of a table are those of some records, with the ids or CRL numbers 1, 2, 3 and so on.
-fn check_keyed<T: RowKind>(table: RegisterTable, rows: &[Row]) -> Result<(), AuditFault>
+/// For a table whose id or CRL number (column 0 of `rows`) is the rowid. [`check_by_rowid`] is for tables that have another rowid (`rowids`).
+fn check_by_id<T: RowKind>(table: RegisterTable, rows: &[Row]) -> Result<(), AuditFault>
     ensures counted { OnOk result (CountedFrom 1 rows.now) }
     ensures stand { OnOk result (AllByRecursion (IsOfSomeRecord T.has_valid_serial T.shown) rows.now) }
     ensures broken { CountedFrom 1 rows.now → NoBrokenRow result }
@@ -98,8 +99,7 @@ fn check_keyed<T: RowKind>(table: RegisterTable, rows: &[Row]) -> Result<(), Aud
     check_are_of_some_record::<T>(rows)
 }
 
-/// Checks that the rows of a table are those of some records, with the rowids 1, 2, 3 and so on; `rowids` has one row for each, with its rowid.
-fn check_table<T: RowKind>(
+fn check_by_rowid<T: RowKind>(
     table: RegisterTable,
     rows: &[Row],
     rowids: &[Row],
@@ -112,7 +112,7 @@ fn check_table<T: RowKind>(
     check_are_of_some_record::<T>(rows)
 }
 
-/// Checks that `kept` (B-tree 14) has one row, of three counts (`rows`), with the rowid 1 (`rowids`). If not, `Store`: its CHECK allows no other.
+/// Checks that the table `kept` (`db.trees 14`) has one row, of three counts (in `rows`), with the rowid 1 (in `rowids`). `Store` if not.
 fn check_counts(rows: &[Row], rowids: &[Row]) -> Result<(), AuditFault>
     ensures hold { (db : Database) → AreTables db → IsReadFrom db OfCounts rows.now
         → IsReadFrom db CountsRowid rowids.now → OnOk result (AreCounts (db.trees 14)) }
@@ -127,7 +127,7 @@ fn check_counts(rows: &[Row], rowids: &[Row]) -> Result<(), AuditFault>
     check_are_of_some_record::<Counts>(rows)
 }
 
-/// Numbers of the row of `office`: the lives of CRLs and OCSP responses in seconds, the most rows of a table, and the last accepted moment.
+/// Numbers in `office`: seconds from thisUpdate to nextUpdate of CRLs and of OCSP responses; the most rows of a table; the last accepted moment.
 #[derive(Clone, Copy)]
 struct Terms {
     crl_life: u64,
@@ -136,7 +136,7 @@ struct Terms {
     last: u64,
 }
 
-/// The numbers of the only row of `office`, by the columns of [`AuditQuery::Terms`]; `None` for another rowid, version, type or number of rows.
+/// The columns 2 to 5 in `rows`, which [`AuditQuery::Terms`] read. `None` unless there is one row, of numbers, with the rowid 1 and [`VERSION`].
 fn terms_in(rows: &[Row]) -> Option<Terms>
     ensures { IfSome result (IsTermsOf rows.now) }
 {
@@ -154,7 +154,7 @@ fn terms_in(rows: &[Row]) -> Option<Terms>
     })
 }
 
-/// The steps of the schedule: a notBefore, and the longest validity in days from it on. `Store` if a row has other values.
+/// The steps of the schedule: each a notBefore, and the longest validity in days from it on. `Store` if a row has no moment or no number of days.
 fn steps_in(alloc: Global, rows: &[Row]) -> Result<Vec<(Moment, u64)>, AuditFault>
     ensures told { IfOk result
         (λ steps. AllZip (λ (step : ℕ × ℕ) (row : Cells). HasCells 0 row (shown_step step))
@@ -192,7 +192,7 @@ fn check_policy(steps: &[(Moment, u64)], terms: Terms) -> Result<(), AuditFault>
     }
 }
 
-/// Checks that the row of `office` and the rows of the schedule, `steps`, have values that a register writes; if not, `Store`.
+/// Checks that a register can have the rowid, version and policy of `office`, with the steps of the schedule in `steps`. `Store` if not.
 fn check_office(alloc: Global, office: &[Row], steps: &[Row]) -> Result<(), AuditFault>
     ensures hold { (db : Database) → AreTables db → IsReadFrom db OfTerms office.now
         → IsReadFrom db Steps steps.now → OnOk result (AreOffice db.trees) }
@@ -205,8 +205,7 @@ fn check_office(alloc: Global, office: &[Row], steps: &[Row]) -> Result<(), Audi
     }
 }
 
-/// Checks that the rows of all tables are those of records and of derived rows. `all` has the rows that were read for each item of
-/// [`crate::whole_audit::TABLE_QUERIES`], and `more` those for each item of [`OTHER_QUERIES`], at the item's index.
+/// Checks all tables. `all` has, at the index of each item of `TABLE_QUERIES`, the rows that it read; `more` has those of [`OTHER_QUERIES`].
 pub(crate) fn check_complete(
     alloc: Global,
     all: &[Vec<Row>],
@@ -219,13 +218,13 @@ pub(crate) fn check_complete(
         → NoBrokenRow result) }
 {
     check_office(alloc, rows_at(more, 5), rows_at(more, 6))?;
-    check_keyed::<SubscriberRow>(RegisterTable::Subscriber, rows_at(all, 1))?;
-    check_keyed::<OrderRow>(RegisterTable::Orders, rows_at(all, 2))?;
-    check_table::<CertRow>(RegisterTable::Cert, rows_at(all, 3), rows_at(more, 0))?;
-    check_keyed::<RequestRow>(RegisterTable::Request, rows_at(all, 4))?;
-    check_table::<RevocationRow>(RegisterTable::Revocation, rows_at(all, 5), rows_at(more, 1))?;
-    check_keyed::<CrlRow>(RegisterTable::Crl, rows_at(all, 6))?;
-    check_table::<StandingRows>(RegisterTable::Standing, rows_at(all, 7), rows_at(more, 2))?;
+    check_by_id::<SubscriberRow>(RegisterTable::Subscriber, rows_at(all, 1))?;
+    check_by_id::<OrderRow>(RegisterTable::Orders, rows_at(all, 2))?;
+    check_by_rowid::<CertRow>(RegisterTable::Cert, rows_at(all, 3), rows_at(more, 0))?;
+    check_by_id::<RequestRow>(RegisterTable::Request, rows_at(all, 4))?;
+    check_by_rowid::<RevocationRow>(RegisterTable::Revocation, rows_at(all, 5), rows_at(more, 1))?;
+    check_by_id::<CrlRow>(RegisterTable::Crl, rows_at(all, 6))?;
+    check_by_rowid::<StandingRows>(RegisterTable::Standing, rows_at(all, 7), rows_at(more, 2))?;
     check_counts(rows_at(all, 8), rows_at(more, 3))?;
-    check_table::<ListedRows>(RegisterTable::Listed, rows_at(all, 9), rows_at(more, 4))
+    check_by_rowid::<ListedRows>(RegisterTable::Listed, rows_at(all, 9), rows_at(more, 4))
 }

@@ -14,8 +14,8 @@ use reg_core::Schedule;
 use reg_store_tables::sql_values::number_at;
 use sqlite::Row;
 
-/// Whether the column `days` of this row of `office` is 1 to 398.
-fn are_allowed(row: &Row) -> bool
+/// Whether column 6 (`days`, the longest validity at the register's creation) is 1 to 398 in the row that `AuditQuery::Terms` read from `office`.
+fn has_allowed_days(row: &Row) -> bool
     ensures allowed { IsTrue result → (days : ℕ) × (column row.now 6 ≡ number days) × IsDays days }
     ensures others { (days : ℕ) → column row.now 6 ≡ number days → IsDays days → IsTrue result }
 {
@@ -25,8 +25,7 @@ fn are_allowed(row: &Row) -> bool
     }
 }
 
-/// Checks the column `days` of `office` (the longest validity of certificates, in days, at the register's creation). `Store` if `office` has not one
-/// row. `more` has the rows that were read for each item of [`crate::complete::OTHER_QUERIES`]; item 5 is `Terms`, column 6 `days`, counted from 0.
+/// Checks `days`; the defect is `BadDays`. `Terms` is item 5 of [`crate::complete::OTHER_QUERIES`], so its rows are `more[5]`: one row, else `Store`.
 pub(crate) fn check_longest_validity(more: &[Vec<Row>]) -> Result<(), AuditFault>
     ensures allowed { OnEachRead other_queries more.now (λ rows. rows.items)
         (λ records columns. OnOk result (HasAllowedDays columns)) }
@@ -36,7 +35,7 @@ pub(crate) fn check_longest_validity(more: &[Vec<Row>]) -> Result<(), AuditFault
     let [office] = rows_at(more, 5) else {
         return Err(AuditFault::Store);
     };
-    if are_allowed(office) {
+    if has_allowed_days(office) {
         return Ok(());
     }
     Err(broken_at(RegisterTable::Office, 0, Defect::BadDays))

@@ -4,11 +4,11 @@ use reg_audit_rows::{BrokenRow, CheckFault, Defect, RegisterTable};
 use reg_store_tables::DatabaseFault;
 use std::alloc::AllocFailed;
 
-/// Why [`audit`](crate::audit) does not find all rows sound: `Memory`, out of memory; `Store`; or `Broken`, a row that breaks a rule.
+/// Why [`audit`](crate::audit) does not find all rows sound. `Memory`: out of memory. `Broken`: this row breaks a rule or has an invalid value.
 #[derive(Clone, Copy, PartialEq, Eq)]
 pub enum AuditFault {
     Memory,
-    /// The database failed, or the issuer, the policy, the version, or the rowid in `office` or `kept` is one that no register writes.
+    /// The database failed; or the issuer, policy, version or rowid in the table `office`, or the rowid in `kept`, is one that no register writes.
     Store,
     Broken(BrokenRow),
 }

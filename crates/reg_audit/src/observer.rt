@@ -1,6 +1,6 @@
 /// Receives the progress of an audit. It does not influence the result.
 pub trait ProgressObserver {
-    /// One of the ten statements that each read a table (all but the schedule) returned `count` rows. Other statements are not reported.
+    /// A table with `count` rows was read. At most ten calls: one for each table except `longest`, the schedule of longest validities.
     fn rows_read(&mut self, count: usize);
 
     /// The bytes of one more CRL were compared, and are right.

@@ -1,5 +1,3 @@
-//! Checks that the rows that were read are those of a register.
-
 ghost use Rattle.std.specs.Prelude.{◌<◌, List, get_or, length, IfOk};
 ghost use Rattle.sqlite.specs.Effect.{Database};
 ghost use Rattle.reg_core.specs.Records.{Records};
@@ -22,22 +20,23 @@ use reg_audit_rows::{Audited, Rows, StoredDerivedRows, check};
 use sqlite::Row;
 use std::alloc::Global;
 
-/// The rows of the statement whose index among those read is `row_index`; none if there is no such statement.
-pub(crate) fn rows_at(all: &[Vec<Row>], row_index: usize) -> &[Row]
-    ensures read { (records : Records) → (columns : DerivedRows) → (whats : List AuditQuery) → (other : AuditQuery)
-        → AreRead records columns whats all.now (λ rows. rows.items) → row_index < length whats
-        → IsReadOf records columns (get_or whats row_index other) result.now }
+/// The rows of the query with this index: `all` has the rows of each query of a list, in the list's order. No rows if there is no such query.
+pub(crate) fn rows_at(all: &[Vec<Row>], query_index: usize) -> &[Row]
+    ensures read { (records : Records) → (columns : DerivedRows) → (whats : List AuditQuery)
+        → (other : AuditQuery)
+        → AreRead records columns whats all.now (λ rows. rows.items) → query_index < length whats
+        → IsReadOf records columns (get_or whats query_index other) result.now }
     ensures from { (db : Database) → (whats : List AuditQuery) → (other : AuditQuery)
-        → AreReadFrom db whats all.now (λ rows. rows.items) → row_index < length whats
-        → IsReadFrom db (get_or whats row_index other) result.now }
+        → AreReadFrom db whats all.now (λ rows. rows.items) → query_index < length whats
+        → IsReadFrom db (get_or whats query_index other) result.now }
 {
-    match all.get(row_index) {
+    match all.get(query_index) {
         Some(rows) => rows.as_slice(),
         None => &[],
     }
 }
 
-/// Checks that the rows, which were read for each item of [`crate::whole_audit::TABLE_QUERIES`], are those of a register, and counts them.
+/// Checks by [`check`] that the rows of [`crate::whole_audit::TABLE_QUERIES`] (at 0 to 9) are a register's. Counts certificates, revocations, CRLs.
 pub(crate) fn check_read(alloc: Global, all: &[Vec<Row>]) -> Result<Audited, AuditFault>
     ensures sound { OnAllRead all.now
         (λ records columns. IfOk result (λ _. ReachedRows records × Kept columns records)) }
@@ -47,6 +46,7 @@ pub(crate) fn check_read(alloc: Global, all: &[Vec<Row>]) -> Result<Audited, Aud
         (λ records columns. NoBrokenRowIf
         (HasValues records × ReachedRows records × Kept columns records) result) }
 {
+    // The one row of the table `office`: `cap` is the most rows of a table, `last` the last accepted moment.
     let office = office(rows_at(all, 0))?;
     let subscribers = subscribers(alloc, rows_at(all, 1))?;
     let orders = orders(alloc, rows_at(all, 2))?;
@@ -54,12 +54,10 @@ pub(crate) fn check_read(alloc: Global, all: &[Vec<Row>]) -> Result<Audited, Aud
     let requests = requests(alloc, rows_at(all, 4))?;
     let revocations = revocations(alloc, rows_at(all, 5))?;
     let crls = crls(alloc, rows_at(all, 6))?;
-    // the state letter of each certificate: good, revoked or expired
+    // The rows of `standing`: the state letter of each certificate (good, revoked or expired).
     let letters = letters(alloc, rows_at(all, 7))?;
     let counts = counts(rows_at(all, 8))?;
-    // the CRL entry of each revocation, with the numbers of the first and last CRL that list it
     let listed = listings(alloc, rows_at(all, 9))?;
-    // `cap` is the most rows of a table, and `last` the last accepted moment.
     let rows = Rows {
         cap: office.cap,
         last: office.last,
@@ -70,12 +68,12 @@ pub(crate) fn check_read(alloc: Global, all: &[Vec<Row>]) -> Result<Audited, Aud
         revocations: &revocations,
         crls: &crls,
     };
-    let beside = StoredDerivedRows {
+    let derived = StoredDerivedRows {
         letters: &letters,
         counts,
         listed: &listed,
     };
-    check(alloc, &rows, &beside)?;
+    check(alloc, &rows, &derived)?;
     Ok(Audited {
         certificates: certificates.len(),
         revoked: revocations.len(),

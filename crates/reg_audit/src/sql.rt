@@ -1,10 +1,11 @@
-//! The SQL statements of an audit. Most read the rows of a table in the order of its rowids, some only the rowids. None reads the issuer or
-//! the bytes of CRLs.
+//! The SQL queries of an audit. Rows come in the order of rowids; some queries read only rowids. `reg_store_tables` has the queries for the issuer
+//! and the bytes of CRLs. `office` has one row: version, issuer, policy and last accepted moment. `longest` is the schedule of longest validities.
+//! Derived from other tables: `standing` (the state letter of each certificate), `kept` (one row: their counts), `listed` (CRL entries).
 
 ghost use Rattle.std.specs.Prelude.{◌≡◌};
 ghost use Rattle.reg_audit.specs.ReadQueries.{sql_of};
 
-/// The numbers of `office` with which rows of other tables are checked.
+/// The policy's most rows of a table and the last accepted moment, with which the rows of other tables are checked.
 pub(crate) const OFFICE: &str = "SELECT cap, last_at FROM office";
 
 pub(crate) const SUBSCRIBERS: &str = "SELECT id, name FROM subscriber ORDER BY id";
@@ -39,7 +40,7 @@ pub(crate) const COUNTS_ROWID: &str = "SELECT one FROM kept ORDER BY one";
 
 pub(crate) const LISTING_ROWIDS: &str = "SELECT rowid FROM listed ORDER BY rowid";
 
-/// All numbers of `office`, which are themselves checked, after the rows of other tables.
+/// All numbers of `office`: its rowid (`one`), version, policy, last accepted moment, and the longest validity at the register's creation (`days`).
 pub(crate) const TERMS: &str =
     "SELECT one, version, crl_life, ocsp_life, cap, last_at, days FROM office ORDER BY one";
 
@@ -66,10 +67,10 @@ pub(crate) enum AuditQuery {
     Steps,
 }
 
-pub(crate) fn text(what: AuditQuery) -> &'static str
-    ensures { result.now ≡ sql_of what }
+pub(crate) fn text(query: AuditQuery) -> &'static str
+    ensures { result.now ≡ sql_of query }
 {
-    match what {
+    match query {
         AuditQuery::Office => OFFICE,
         AuditQuery::Subscribers => SUBSCRIBERS,
         AuditQuery::Orders => ORDERS,

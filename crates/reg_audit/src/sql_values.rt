@@ -8,6 +8,7 @@ use reg_audit_rows::Letter;
 use sqlite::Row;
 use sqlite::types::ValueRef;
 
+/// The state letter of a certificate in column `at` of the row; `None` for any other value.
 pub(crate) fn letter_at(row: &Row, at: usize) -> Option<Letter>
     ensures read { (letter : Letter) → column row.now at ≡ Text (letter_text (letter_in letter))
         → result ≡ Some letter }

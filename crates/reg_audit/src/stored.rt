@@ -18,7 +18,7 @@ ghost use Rattle.reg_store_tables.specs.Stays.{Looked};
 ghost use Rattle.reg_audit_rows.specs.Crls.{MatchRecords};
 ghost use Rattle.reg_audit.specs.ReadQueries.{AreRead, whole};
 ghost use Rattle.reg_audit.specs.Faults.{BreaksRule, NoBrokenRowIf};
-ghost use Rattle.reg_audit.specs.Stored.{CanList, IsSomeCrl, IsStored, behind_signed};
+ghost use Rattle.reg_audit.specs.Stored.{CanList, HoldsOfRecordsWith, IsSomeCrl, IsStored, behind_signed};
 ghost use Rattle.reg_audit.specs.ReadableValues.{HasValues};
 ghost use Rattle.reg_audit.specs.ShownTables.{OnAllRead};
 
@@ -35,13 +35,13 @@ use std::alloc::Global;
 
 const SEQUENCE: u8 = 0x30;
 
-/// The most octets of a CRL's signatureAlgorithm: a signer's has no more (`IsAlgorithm` of `reg_crl`).
+/// The most octets of a CRL's signatureAlgorithm, tag and length included: no signer's AlgorithmIdentifier has more (`IsAlgorithm` of `reg_crl`).
 const MOST_ALGORITHM: usize = 1_024;
 
-/// 2^28: a stored CRL of more octets is not parsed, but a defect. By the contracts of `reg_crl`, a register's CRL has at most 2^27 + 66,573.
+/// 2^28 octets, more than a register's CRL can have (2^27 + 66,573, by the contracts of `reg_crl`). A longer one is a defect, and is not parsed.
 const MOST_CRL: usize = 268_435_456;
 
-/// The fault for the CRL with this number, which is also the number of its row.
+/// The fault for the CRL with this number. Its row has the same number, because CRL numbers are 1, 2, 3 and so on.
 fn other_bytes_fault(number: u64) -> AuditFault
     ensures { ¬ BreaksRule result }
 {
@@ -52,7 +52,7 @@ fn other_bytes_fault(number: u64) -> AuditFault
     })
 }
 
-/// The value that follows the tbsCertList of a CRL (RFC 5280 5.1.1). `None` if these bytes have none; `take` gives the first value and the rest.
+/// The value after the tbsCertList: the signatureAlgorithm (RFC 5280 5.1.1). `None` if there is none. `take` gives the first DER value and the rest.
 fn value_after_tbs(crl: &[u8]) -> Option<Tlv<'_>>
     ensures exact { AgreesWith (λ value. record { tag = value.tag; contents = value.contents.now }) result
         (behind_signed crl.now) }
@@ -77,7 +77,6 @@ fn as_algorithm(value: Tlv<'_>) -> Option<&[u8]>
     }
 }
 
-/// The signatureAlgorithm of a CRL (RFC 5280 5.1.1.2), if it is a SEQUENCE of at most 1,024 octets.
 fn algorithm_in(crl: &[u8]) -> Option<&[u8]>
     ensures found { IfSome result (λ found. IsAlgorithm found.now) }
     ensures one { (list : CertList) → (is : IsSomeCrl list crl.now)
@@ -89,8 +88,8 @@ fn algorithm_in(crl: &[u8]) -> Option<&[u8]>
     }
 }
 
-/// Checks that the bytes are those of the CRL `crl`, with the entries that the rows of `listed` give it. Its nextUpdate is `crl_life` seconds after
-/// thisUpdate (863,999 at most, under ten days). It may have any algorithm and any signature.
+/// Checks that the bytes are those of the CRL `crl`, with any algorithm and any signature. Its nextUpdate is `crl_life` seconds after its thisUpdate
+/// (at most 863,999, under ten days). `listed` has the entry of each revocation, and the numbers of the first and last CRL that list it.
 fn check_bytes(
     alloc: Global,
     issuer: &Issuer,
@@ -111,7 +110,7 @@ fn check_bytes(
     if bytes.len() > MOST_CRL {
         return Err(other_bytes_fault(crl.number));
     }
-    // No row with such a thisUpdate gets here. The test shows the prover that nextUpdate is a moment.
+    // No row with such a thisUpdate gets here: `check_read` has reported it. This test shows the prover that nextUpdate is a moment.
     if crl.this_update >= Moment::CLOCK_END {
         return Err(other_bytes_fault(crl.number));
     }
@@ -127,7 +126,6 @@ fn check_bytes(
     }
 }
 
-/// Reads the stored bytes of one CRL, and checks them by `check_bytes`. If there are none, that is the same defect.
 fn check_stored<S: Alter>(
     alloc: Global,
     conn: &mut Connection<S>,
@@ -137,13 +135,11 @@ fn check_stored<S: Alter>(
     crl: &CrlRow,
 ) -> Result<(), AuditFault>
     requires { crl_life ≤ 863999 }
-    ensures bytes { (records : Records) → Shows S.Store conn.old records
-        → MatchRecords issuer.now crl_life listed.now records → HasCleanDisk (state S.Store conn.new)
-        → OnOk result (IsStored records crl.now) }
-    ensures others { (records : Records) → Shows S.Store conn.old records
-        → MatchRecords issuer.now crl_life listed.now records → CanList listed.now
-        → crl.now.this_update < clock_end → HasCleanDisk (state S.Store conn.new)
-        → NoBrokenRowIf (IsStored records crl.now) result }
+    ensures bytes { HoldsOfRecordsWith S.Store conn.old issuer.now crl_life listed.now
+        (λ records. HasCleanDisk (state S.Store conn.new) → OnOk result (IsStored records crl.now)) }
+    ensures others { HoldsOfRecordsWith S.Store conn.old issuer.now crl_life listed.now
+        (λ records. CanList listed.now → crl.now.this_update < clock_end → HasCleanDisk (state S.Store conn.new)
+        → NoBrokenRowIf (IsStored records crl.now) result) }
     ensures rows { IfErr result (λ fault. ¬ BreaksRule fault) }
     ensures looked { Looked S.Store conn.old conn.new }
 {
@@ -153,7 +149,6 @@ fn check_stored<S: Alter>(
     }
 }
 
-/// Checks each CRL, and calls the observer after each that has the right bytes. Only one CRL's bytes are in memory at a time.
 fn check_each<S: Alter, W: ProgressObserver>(
     alloc: Global,
     conn: &mut Connection<S>,
@@ -164,14 +159,13 @@ fn check_each<S: Alter, W: ProgressObserver>(
     observer: &mut W,
 ) -> Result<(), AuditFault>
     requires { crl_life ≤ 863999 }
-    ensures bytes { (records : Records) → Shows S.Store conn.old records
-        → MatchRecords issuer.now crl_life listed.now records → HasCleanDisk (state S.Store conn.new)
-        → OnOk result (AllByRecursion (IsStored records) crls.now) }
-    ensures others { (records : Records) → Shows S.Store conn.old records
-        → MatchRecords issuer.now crl_life listed.now records → CanList listed.now
-        → AllByRecursion (λ crl. crl.this_update < clock_end) crls.now
+    ensures bytes { HoldsOfRecordsWith S.Store conn.old issuer.now crl_life listed.now
+        (λ records. HasCleanDisk (state S.Store conn.new)
+        → OnOk result (AllByRecursion (IsStored records) crls.now)) }
+    ensures others { HoldsOfRecordsWith S.Store conn.old issuer.now crl_life listed.now
+        (λ records. CanList listed.now → AllByRecursion (λ crl. crl.this_update < clock_end) crls.now
         → HasCleanDisk (state S.Store conn.new)
-        → NoBrokenRowIf (AllByRecursion (IsStored records) crls.now) result }
+        → NoBrokenRowIf (AllByRecursion (IsStored records) crls.now) result) }
     ensures rows { IfErr result (λ fault. ¬ BreaksRule fault) }
     ensures looked { Looked S.Store conn.old conn.new }
 {
@@ -182,8 +176,7 @@ fn check_each<S: Alter, W: ProgressObserver>(
     Ok(())
 }
 
-/// What all CRLs share: the issuer, and the seconds from thisUpdate to nextUpdate.
-fn terms<S: Alter>(conn: &mut Connection<S>) -> Result<(Issuer, u64), DatabaseFault>
+fn issuer_and_crl_life<S: Alter>(conn: &mut Connection<S>) -> Result<(Issuer, u64), DatabaseFault>
     ensures found { (records : Records) → Shows S.Store conn.old records
         → HasCleanDisk (state S.Store conn.new)
         → IfOk result (λ it. (it.0 ≡ records.issuer) × (it.1 ≡ records.policy.crl_life)) }
@@ -195,8 +188,7 @@ fn terms<S: Alter>(conn: &mut Connection<S>) -> Result<(Issuer, u64), DatabaseFa
     Ok((issuer, policy.crl_life()))
 }
 
-/// Checks that the stored bytes of each CRL are those of its entries, with any algorithm and any signature. `all` has the rows that were read for
-/// each item of [`crate::whole_audit::TABLE_QUERIES`]: item 6, counted from 0, is `Crls`, and item 9 is `Listings`.
+/// Checks the stored bytes of each CRL, one in memory at a time. `all` has the rows of each of `TABLE_QUERIES`: in 6 the CRLs, in 9 the CRL entries.
 pub(crate) fn check_crls<S: Alter, W: ProgressObserver>(
     alloc: Global,
     conn: &mut Connection<S>,
@@ -218,6 +210,6 @@ pub(crate) fn check_crls<S: Alter, W: ProgressObserver>(
 {
     let crls = crls(alloc, rows_at(all, 6))?;
     let listed = listings(alloc, rows_at(all, 9))?;
-    let (issuer, crl_life) = terms(conn)?;
+    let (issuer, crl_life) = issuer_and_crl_life(conn)?;
     check_each(alloc, conn, &issuer, crl_life, &listed, &crls, observer)
 }

@@ -1,4 +1,4 @@
-//! Converts SQLite's rows to rows of the records and of the derived tables: by `only` for a table with one row, by `typed` for each other table.
+//! Converts SQLite's rows to typed rows: by `only` for a table with one row, else by `typed`. A `RegisterTable` is for reporting a broken row.
 
 ghost use Rattle.std.specs.Prelude.{◌≡◌, map, IfOk};
 ghost use Rattle.reg_core.specs.Crls.{row_of};
@@ -70,7 +70,7 @@ pub(crate) fn crls(alloc: Global, rows: &[Row]) -> Result<Vec<CrlRow>, AuditFaul
     typed::<CrlRow>(alloc, RegisterTable::Crl, rows)
 }
 
-/// The state letters of the certificates: `G`, `R` or `X`.
+/// The rows of `standing`, each with a certificate's state letter: `G` (good), `R` (revoked) or `X` (expired).
 pub(crate) fn letters(alloc: Global, rows: &[Row]) -> Result<Vec<Standing>, AuditFault>
     ensures read { OnRead Standings rows.now
         (λ records columns. IfOk result (λ found. map standing_in found.items ≡ columns.letters)) }

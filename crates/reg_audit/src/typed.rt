@@ -1,4 +1,6 @@
-//! Reads typed values from the rows of a table. A row with a value of another type or an invalid value is reported as broken.
+//! Reads typed values from rows by column index, in the order in which the query of `sql.rt` names the columns. A row with a value of another type or
+//! an invalid value is reported as broken, with the defect `NoValue`. A `RowKind` reads one row; `reg_store_tables` has those that are not here. A
+//! moment read by `clock_moment_at` must be before 9999-12-22T00:00:00Z (from then on no command is accepted). A notAfter, by `moment_at`, need not.
 
 ghost use Rattle.std.specs.Prelude.{◌≡◌, [], ◌∷◌, List, map, IfOk};
 ghost use Rattle.std.specs.List.{AllByRecursion};
@@ -16,7 +18,7 @@ use reg_store_tables::sql_values::{
 use sqlite::Row;
 use std::alloc::Global;
 
-/// The row of the table `office`, as far as it is read here: the most rows of a table, and the last accepted moment.
+/// The row of the table `office`, as far as it is read here: `cap`, the most rows of a table, and the last accepted moment.
 #[derive(Clone, Copy)]
 pub(crate) struct OfficeRow {
     pub(crate) cap: u64,
@@ -115,7 +117,7 @@ pub(crate) fn typed<T: RowKind>(
     }
 }
 
-/// The typed value of the only row of a table. If the table has no row or several, the row number after the last is reported as broken.
+/// The value of the only row of a table. If there are none or several, the row after the last one is reported as broken.
 pub(crate) fn only<T: RowKind>(table: RegisterTable, rows: &[Row]) -> Result<T::Record, AuditFault>
     ensures read { (it : T.Record) → T.has_valid_serial it → rows.now ≡ T.shown it ∷ []
         → IfOk result (λ read. read ≡ it) }

@@ -1,5 +1,3 @@
-//! The audit of an open database.
-
 ghost use Rattle.std.specs.Prelude.{◌≡◌, IfOk, IfErr};
 ghost use Rattle.sqlite.specs.Effect.{Database};
 ghost use Rattle.sqlite.specs.Held.{state};
@@ -24,7 +22,7 @@ use reg_audit_rows::Audited;
 use sqlite::{Alter, Connection};
 use std::alloc::Global;
 
-/// The statements that read each table except that of the schedule, in the order in which they run.
+/// The queries that read each table except `longest`, the schedule of longest validities, in the order in which they run.
 const TABLE_QUERIES: [AuditQuery; 10] = [
     AuditQuery::Office,
     AuditQuery::Subscribers,
@@ -38,19 +36,14 @@ const TABLE_QUERIES: [AuditQuery; 10] = [
     AuditQuery::Listings,
 ];
 
-/// Reads the rows of a register's tables, and checks that they show sound records, and that `standing` (the state of each
-/// certificate), `kept` (the counts of each state) and `listed` (CRL entries) follow from these ([`reg_audit_rows::check`]). Then it
-/// reads each CRL in turn, and checks that its bytes encode the entries that the records have for it (RFC 5280 5.1), with the algorithm
-/// that the CRL names ([`reg_audit_rows::check_crl`]). Last, it checks the rowids, the table `office` (issuer, policy, last moment) and the
-/// schedule, and by `check_longest_validity` the longest validity at creation, in `office`. It verifies no signature, checks neither the schema nor a
-/// validity against the schedule, changes nothing, and reports its progress to the observer.
-///
-/// A row with a value that the register's types can't hold is reported as broken. `IsDisproved` says what a broken row disproves.
-/// If the tables have a register's schema (`AreTables`) and the audit succeeds, they show sound records (`ShowsSound`).
-///
-/// # Errors
-/// `Broken` with a row that breaks a rule; `Memory`; `Store` if the database fails, or if its issuer, policy, version, or the
-/// rowid in `office` or `kept` is one that no register writes.
+/// The audit of an open database. It reads all rows, and checks that the records are sound (they obey all rules of a register), and that `standing`
+/// (the state of each certificate), `kept` (the counts of each state) and `listed` (CRL entries) follow from them. Then it checks that the bytes of
+/// each CRL encode the entries that the records have for it (RFC 5280 5.1), with the algorithm that the CRL names. Last, it checks the rowids, the
+/// numbers in the table `office` (version, policy, last accepted moment), and the schedule. It verifies no signature, checks neither the schema nor a
+/// validity against the schedule, changes nothing, and reports its progress. `IsDisproved` says what a broken row disproves. If the tables have a
+/// register's schema (`AreTables`) and the audit succeeds, they show sound records (`ShowsSound`). Errors: `Broken` with a row that breaks a rule or
+/// has a value that no register has; `Memory`; `Store` if the database fails, or if its issuer, policy, version, or the rowid in `office` or `kept`
+/// is one that no register writes.
 pub fn audit<S: Alter, W: ProgressObserver>(
     alloc: Global,
     conn: &mut Connection<S>,
@@ -66,6 +59,7 @@ pub fn audit<S: Alter, W: ProgressObserver>(
         (λ records columns. IfErr result (λ fault. IsDisproved fault records columns)) }
     ensures looked { Looked S.Store conn.old conn.new }
 {
+    // `all` has the rows of each of `TABLE_QUERIES`, by its index; `more` those of `OTHER_QUERIES`, uncounted: the observer counts a table once.
     let all = read_each(alloc, conn, &TABLE_QUERIES, observer)?;
     let audited = check_read(alloc, &all)?;
     check_crls(alloc, conn, &all, observer)?;

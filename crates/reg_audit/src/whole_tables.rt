@@ -28,35 +28,35 @@ fn read<S: Alter>(conn: &mut Connection<S>, sql: &str) -> Result<Vec<Row>, Datab
 
 fn read_whole<S: Alter>(
     conn: &mut Connection<S>,
-    what: AuditQuery,
+    query: AuditQuery,
 ) -> Result<Vec<Row>, DatabaseFault>
     ensures found { OnShown S.Store conn.old conn.new
-        (λ records columns. IfOk result (λ rows. IsReadOf records columns what rows.items)) }
+        (λ records columns. IfOk result (λ rows. IsReadOf records columns query rows.items)) }
     ensures from { (db : Database) → Holds S.Store conn.old (λ now. now ≡ db) → db.schema ≡ register_schema
-        → HasCleanDisk (state S.Store conn.new) → IfOk result (λ rows. IsReadFrom db what rows.items) }
+        → HasCleanDisk (state S.Store conn.new) → IfOk result (λ rows. IsReadFrom db query rows.items) }
     ensures looked { Looked S.Store conn.old conn.new }
 {
-    read(conn, text(what))
+    read(conn, text(query))
 }
 
-/// The rows that each of the statements `whats`, without parameters, returns, at its index. The observer gets their count after each statement.
+/// Runs the queries. The result has the rows of each query at its index; the observer gets the count of rows after each query.
 pub(crate) fn read_each<S: Alter, W: ProgressObserver>(
     alloc: Global,
     conn: &mut Connection<S>,
-    whats: &[AuditQuery],
+    queries: &[AuditQuery],
     observer: &mut W,
 ) -> Result<Vec<Vec<Row>>, DatabaseFault>
     ensures found { OnShown S.Store conn.old conn.new
         (λ records columns. IfOk result
-        (λ all. AreRead records columns whats.now all.items (λ rows. rows.items))) }
+        (λ all. AreRead records columns queries.now all.items (λ rows. rows.items))) }
     ensures from { (db : Database) → Holds S.Store conn.old (λ now. now ≡ db) → db.schema ≡ register_schema
         → HasCleanDisk (state S.Store conn.new)
-        → IfOk result (λ all. AreReadFrom db whats.now all.items (λ rows. rows.items)) }
+        → IfOk result (λ all. AreReadFrom db queries.now all.items (λ rows. rows.items)) }
     ensures looked { Looked S.Store conn.old conn.new }
 {
     let mut all = Vec::new(alloc);
-    for what in whats {
-        let rows = read_whole(conn, *what)?;
+    for query in queries {
+        let rows = read_whole(conn, *query)?;
         observer.rows_read(rows.len());
         all.push(rows)?;
     }

@@ -1,4 +1,4 @@
-pub mod Fronts
+pub mod RowPrefixes
 pub mod Fits
 pub mod Sorted
 pub mod Following

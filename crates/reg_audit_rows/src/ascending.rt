@@ -1,5 +1,5 @@
-//! Checks of the order of rows: ids and CRL numbers are 1, 2, 3 and so on; moments and numbers of first CRLs do not fall from one row to a later
-//! one; no moment is after the last accepted one. `table` is only for the report of a broken row.
+//! Checks of the order of rows. Ids and CRL numbers are 1, 2, 3 and so on. No row has an earlier moment than the row before it, or a moment after
+//! `last`, the last accepted command's. `table` and `why` (what is wrong) are only for the report of a broken row.
 
 ghost use Rattle.std.specs.Prelude.{◌≡◌, ◌≤◌, OnOk};
 ghost use Rattle.std.specs.List.{AllByRecursion};
@@ -10,7 +10,6 @@ use crate::fault::{CheckFault, broken_at};
 use crate::{Defect, RegisterTable};
 use reg_core::{CrlRow, Moment, OrderRow, RequestRow, RevocationRow, SubscriberRow};
 
-/// A row with an id, or with a CRL number.
 pub(crate) trait Numbered {
     ghost use Rattle.std.specs.Prelude.{ℕ, ◌≡◌};
 
@@ -52,7 +51,6 @@ impl Numbered for CrlRow {
     }
 }
 
-/// Checks that the rows have the numbers 1, 2, 3 and so on.
 pub(crate) fn in_order<T: Numbered>(table: RegisterTable, rows: &[T]) -> Result<(), CheckFault>
     ensures ok { OnOk result (NumberedFrom T.number 1 rows.now) }
     ensures broken { NotBrokenIf (NumberedFrom T.number 1 rows.now) result }
@@ -65,7 +63,6 @@ pub(crate) fn in_order<T: Numbered>(table: RegisterTable, rows: &[T]) -> Result<
     Ok(())
 }
 
-/// A row with a moment: that of a request's receipt, that of a revocation, or a CRL's thisUpdate (RFC 5280 5.1.2.4).
 pub(crate) trait Dated {
     ghost use Rattle.std.specs.Prelude.{ℕ, ◌≡◌};
 
@@ -99,7 +96,6 @@ impl Dated for CrlRow {
     }
 }
 
-/// Checks that moments do not fall; `why` is the defect of a row whose moment is before the previous row's.
 pub(crate) fn moments_never_decrease<T: Dated>(
     table: RegisterTable,
     rows: &[T],
@@ -119,7 +115,7 @@ pub(crate) fn moments_never_decrease<T: Dated>(
     Ok(())
 }
 
-/// Checks that no revocation's first CRL (the first that lists it) has a lower number than that of an earlier revocation.
+/// Checks that no row has a lower `first` than the row before it. `first` is the number of the first CRL that can list the row's revocation.
 pub(crate) fn firsts_never_decrease(revocations: &[RevocationRow]) -> Result<(), CheckFault>
     ensures ok { OnOk result (NeverDecreases (λ row. row.first) revocations.now) }
     ensures broken { NotBrokenIf (NeverDecreases (λ row. row.first) revocations.now) result }
@@ -134,7 +130,6 @@ pub(crate) fn firsts_never_decrease(revocations: &[RevocationRow]) -> Result<(),
     Ok(())
 }
 
-/// Checks that no moment is after the last accepted one, `last`.
 pub(crate) fn are_by_last<T: Dated>(
     table: RegisterTable,
     rows: &[T],

@@ -1,6 +1,6 @@
 use crate::broken_row::BrokenRow;
 
-/// The numbers of certificates, revocations and CRLs of a register in which an audit found no broken row.
+/// The result of an audit that found no row that breaks a rule: how many certificates, revocations and CRLs the register has.
 #[derive(Clone, Copy, PartialEq, Eq)]
 pub struct Audited {
     pub certificates: usize,
@@ -8,15 +8,13 @@ pub struct Audited {
     pub crls: usize,
 }
 
-/// The result of an audit of a register.
+/// The result of an audit of a register: no row breaks a rule (`Sound`), or one does (`Broken`), or most rows were not checked.
 #[derive(Clone, Copy, PartialEq, Eq)]
 pub enum AuditResult {
-    /// No row breaks a rule; the numbers of rows.
     Sound(Audited),
-    /// A row breaks a rule.
     Broken(BrokenRow),
-    /// The register is of version 1 or 2: only its row of `office` is checked.
+    /// The register is of version 1 or 2: only its row of the table `office` is checked.
     Older,
-    /// The version is the program's, but the schema is not a register's: only `office` and the schedule are checked.
+    /// The version is the program's, 3, but the schema is not exactly a register's: only `office` and the schedule are checked.
     OtherSchema,
 }

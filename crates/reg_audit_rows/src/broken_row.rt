@@ -1,4 +1,4 @@
-/// A table of a register that can have a broken row: each except `longest`, the schedule. If its rows make no schedule, the audit ends with an error.
+/// A table that can have a broken row. The schedule of longest validities (`longest`) can't: if it is invalid, the audit ends with an error.
 #[derive(Clone, Copy, PartialEq, Eq)]
 pub enum RegisterTable {
     Office,
@@ -8,26 +8,24 @@ pub enum RegisterTable {
     Request,
     Revocation,
     Crl,
-    /// Derived: the state of each certificate.
+    // Derived from the others. `Standing`: each certificate's state. `Kept`: how many have each state. `Listed`: CRL entries; which CRLs list them.
     Standing,
-    /// Derived: how many certificates are good, revoked and expired.
     Kept,
-    /// Derived: the CRL entry of each revocation, and which CRLs list it.
     Listed,
 }
 
-/// What is wrong with a row; `lines.rt` has the text of each.
+/// What is wrong with a row ("it"); `lines.rt` has a text for each. `SameName`: an earlier row has that name. `NoOrder`: there is no such order.
 #[derive(Clone, Copy, PartialEq, Eq)]
 pub enum Defect {
-    /// The last accepted moment is at or past `CLOCK_END`, 9999-12-22T00:00:00Z.
+    /// The last accepted moment is 9999-12-22T00:00:00Z or later. No command is accepted then (`E02`): a nextUpdate could be after the year 9999.
     PastClockEnd,
-    /// There is no subscriber, so only `crl` can have been accepted; but the last accepted moment is neither 0 nor the thisUpdate of a CRL.
+    /// There is no subscriber, so only the command `crl` can have been accepted; but the last accepted moment is neither 0 nor a CRL's thisUpdate.
     NeverAccepted,
-    /// There are more rows than the policy's cap, the most rows of a table.
+    /// The table has more rows than the policy allows.
     AboveCap,
     /// Its id, rowid or CRL number (RFC 5280 5.2.3) is not one more than the previous row's; in the first row, it is not 1.
     OutOfOrder,
-    /// Its name has a byte that no command takes.
+    /// Its name has a byte that the command `subscriber` refuses.
     BadName,
     SameName,
     /// The days of an order, or the column `days` of `office`, are not 1 to 398.
@@ -43,35 +41,32 @@ pub enum Defect {
     NoCertificate,
     /// There is no such request, or it is for another serial number.
     NoRequest,
+    // `ByDeclined`: its request was declined. `OtherReason`: its reasonCode is not that of its request's ground.
     ByDeclined,
     OtherReason,
-    /// Its moment is after the last accepted one.
+    // Its moment: `AfterLast`, after the last accepted one; `AfterEnd`, after the certificate's notAfter; `AfterRevocation`, after the revocation of
+    // its serial number; `Earlier`, before that of the previous row.
     AfterLast,
-    /// Its moment is after the certificate's notAfter.
     AfterEnd,
-    /// Its moment is after the revocation of its serial number.
     AfterRevocation,
-    /// Its moment is before that of the previous row.
     Earlier,
-    /// The number of the first CRL that can list it is neither that of an issued CRL nor that of the next one.
+    // A revocation has the number of the first CRL that can list it. `NoFirst`: that CRL is neither issued nor the next one. `WrongFirst`: a
+    // CRL below that number has a thisUpdate after the revocation, or a CRL from it on has one before. `EarlierFirst`: the previous number is higher.
     NoFirst,
-    /// Its first CRL is not the first after its moment: an earlier CRL has a thisUpdate after the moment, or this or a later CRL has one before it.
     WrongFirst,
-    /// Its first CRL is before that of the previous row.
     EarlierFirst,
-    /// Its thisUpdate (RFC 5280 5.1.2.4) is before that of the previous CRL.
     ThisUpdateDecreases,
-    /// It does not match the records, or a row with a lower serial number is missing.
+    /// A row of a derived table does not match the records, or one with a lower serial number is missing.
     DerivedMismatch,
     /// Its bytes are not those of a CRL with the entries that the records have for it (RFC 5280 5.1).
     OtherBytes,
-    /// The counts in `kept` are not those of the certificates' states by the records.
+    /// The counts in `kept` are not those of the states that the records give the certificates.
     WrongCounts,
     /// It has a value of another type or an invalid value, or a table that must have one row has none or several.
     NoValue,
 }
 
-/// A row that breaks a rule: its table, its number there, counted from 1, and why. A missing row can have the number after the last row.
+/// A row that breaks a rule: its table, its place there, counted from 1, and why. For a missing row, the place can be the one after the last row.
 #[derive(Clone, Copy, PartialEq, Eq)]
 pub struct BrokenRow {
     pub table: RegisterTable,

@@ -1,3 +1,6 @@
+//! Checks the bytes of a stored CRL: encodes the CRL anew from the rows of `listed`, with the stored signature, and compares.
+//! `number` is the CRL number. `take` gives a DER value and the bytes after it. For a `Broken` from here, `reg_audit` reports the CRL's row.
+
 ghost use Rattle.std.specs.Prelude.{◌≡◌, ◌+◌, ◌≤◌, ◌↔◌, ℕ, List, Some, length, IsTrue, OnOk, IfOk};
 ghost use Rattle.std.specs.List.Sorted.{IsPermutation};
 ghost use Rattle.reg_core.specs.Calendar.{IsMoment};
@@ -17,13 +20,12 @@ use reg_crl::{crl_tbs, crl_whole};
 use reg_der::{Issuer, take};
 use std::alloc::Global;
 
-/// The most octets of a signature that `crl_whole` takes.
+/// The most octets of a signature that `crl_whole` takes. `crl_whole` encodes a CRL, and `crl_tbs` the tbsCertList in it.
 const MOST_SIGNATURE: usize = 65_536;
 
-/// The most entries of a CRL, because no table has more rows.
 const MOST_ENTRIES: usize = 1_000_000;
 
-/// The octets of the signature in a CRL (RFC 5280 5.1.1.3), without the first octet of the BIT STRING, which counts unused bits.
+/// The signature in a CRL (RFC 5280 5.1.1.3), without the first octet of the BIT STRING, which counts unused bits.
 fn signature_in(crl: &[u8]) -> Option<&[u8]>
     ensures { AgreesWith (λ signature. signature.now) result (signature_at crl.now) }
 {
@@ -35,7 +37,7 @@ fn signature_in(crl: &[u8]) -> Option<&[u8]>
     Some(signature)
 }
 
-/// The octets of the signature; empty if there is none, and then the bytes are not those of any CRL.
+/// The signature in a CRL. It is empty if there is none: `crl` is then no CRL, and `check_bytes` finds other bytes.
 fn signature_of(crl: &[u8]) -> &[u8]
     ensures { (signature : List ℕ) → signature_at crl.now ≡ Some signature → result.now ≡ signature }
 {
@@ -45,6 +47,7 @@ fn signature_of(crl: &[u8]) -> &[u8]
     }
 }
 
+/// Whether the CRL with this number lists the revocation. CRLs `first` to `last` do. If `last` is `None` (not issued yet), all from `first` on do.
 fn is_listed_on(row: &Listed, number: u64) -> bool
     ensures { result ≡ lists_row number row.now }
 {
@@ -77,7 +80,7 @@ fn ascends(entries: &[Entry]) -> bool
     entries.is_sorted_by(|earlier, later| earlier.serial < later.serial)
 }
 
-/// The entries of a CRL, in ascending order of serial number (RFC 5280 5.1.2.6): at most 1,000,000.
+/// The entries of a CRL (RFC 5280 5.1.2.6), in ascending order of serial number: at most 1,000,000, because no table has more rows.
 fn entries_of(alloc: Global, listed: &[Listed], number: u64) -> Result<Vec<Entry>, CheckFault>
     ensures same { IfOk result (λ entries. IsPermutation (listed_entries number listed.now) entries.items) }
     ensures ascend { IfOk result (λ entries. EntriesAscend entries.items) }
@@ -96,7 +99,6 @@ fn entries_of(alloc: Global, listed: &[Listed], number: u64) -> Result<Vec<Entry
     Ok(entries)
 }
 
-/// Checks that the bytes are the CRL of these entries, with this algorithm and any signature: encodes it again with that signature, and compares.
 fn check_bytes(
     alloc: Global,
     issuer: &Issuer,
@@ -136,9 +138,8 @@ fn check_bytes(
     }
 }
 
-/// Checks that the bytes of a CRL are those of its entries by the rows of `listed`, with this algorithm and any signature of at most 65,536 bytes.
-/// `crl_life` is in seconds. Errors: `Memory`; `Broken` if the bytes differ, or if the CRL would have over 1,000,000 entries or two for one serial
-/// number. The row in `Broken` does not name the CRL, which the caller knows.
+/// Checks that `bytes` are the CRL `crl` with its entries by `listed`, this algorithm (AlgorithmIdentifier in DER), any signature of up to 65,536
+/// octets, and nextUpdate `crl_life` seconds after thisUpdate. `Broken` if not; also if it has over 1,000,000 entries, or two for one serial number.
 pub fn check_crl(
     alloc: Global,
     issuer: &Issuer,

@@ -23,7 +23,7 @@ pub enum Letter {
     Expired,
 }
 
-/// A row of `standing`: a certificate's state letter.
+/// A row of `standing`: a certificate's serial number, notAfter and state letter.
 #[derive(Clone, Copy)]
 pub struct Standing {
     pub serial: Serial,
@@ -31,7 +31,8 @@ pub struct Standing {
     pub letter: Letter,
 }
 
-/// A row of `listed`: a revocation's CRL entry, its certificate's notAfter, and the numbers of the first and last CRL with it (`None`: not issued).
+/// A row of `listed`: a revocation's CRL entry, its certificate's notAfter, and the numbers of the first and last CRL that list it. `last` is `None`
+/// until that CRL is issued.
 #[derive(Clone, Copy)]
 pub struct Listed {
     pub serial: Serial,
@@ -42,7 +43,7 @@ pub struct Listed {
     pub last: Option<u64>,
 }
 
-/// The rows of the derived tables, those of each table in the order of its rowids.
+/// The rows of the derived tables `standing`, `kept` and `listed`, each in the order of its rowids.
 #[derive(Clone, Copy)]
 pub struct StoredDerivedRows<'a> {
     pub letters: &'a [Standing],
@@ -93,7 +94,7 @@ impl HasSerial for Listed {
     }
 }
 
-/// The letter of a certificate's status, which is never `Unknown`.
+/// The letter of a certificate's status. `Unknown` does not occur, because the certificate exists.
 fn letter_of(status: Status) -> Letter
     ensures { result ≡ letter_by status }
 {
@@ -104,7 +105,7 @@ fn letter_of(status: Status) -> Letter
     }
 }
 
-/// The rows that `standing` must have, in the order of the certificates.
+/// The rows that `standing` must have at the last accepted moment, `last`, in the order of the certificates.
 pub(crate) fn standings(
     alloc: Global,
     certificates: &[CertRow],
@@ -135,8 +136,8 @@ fn can_be_last_listing(crl: &CrlRow, first: u64, not_after: Moment) -> bool
     first <= crl.number && not_after < crl.this_update
 }
 
-/// The number of the last CRL that lists a revocation: the earliest, numbered `first` or more, with a thisUpdate after `not_after` (RFC 5280 3.3).
-/// `None` if it is not issued yet. Right only if the numbers rise and the thisUpdates do not fall, because it is a binary search.
+/// The number of the last CRL that lists a revocation; `None` if not issued yet. That CRL is the first, from number `first` on, whose thisUpdate
+/// is after `not_after` (RFC 5280 3.3). The binary search requires that the numbers rise and the thisUpdates do not fall.
 fn last_listing(crls: &[CrlRow], first: u64, not_after: Moment) -> Option<u64>
     ensures { NumberedFrom (λ crl. crl.number) 1 crls.now → NeverDecreases (λ crl. crl.this_update) crls.now
         → result ≡ last_in crls.now first not_after }
@@ -198,7 +199,7 @@ fn count_of(rows: &[Standing], letter: Letter) -> u64
     count
 }
 
-/// Checks the table `kept`: how many certificates are good, revoked and expired.
+/// Checks that `counts`, the row of `kept`, has the number of rows of `standing` with each letter.
 pub(crate) fn check_counts(rows: &[Standing], counts: Counts) -> Result<(), CheckFault>
     ensures ok { OnOk result (counts ≡ found_counts rows.now) }
     ensures broken { NotBrokenIf (counts ≡ found_counts rows.now) result }
@@ -213,24 +214,23 @@ pub(crate) fn check_counts(rows: &[Standing], counts: Counts) -> Result<(), Chec
     }
 }
 
-/// The first index at which `held` and `wanted` differ, perhaps the end of one of them; `None` if they are equal.
-fn first_difference<T: HasSerial>(held: &[T], wanted: &[T]) -> Option<usize>
-    ensures { MatchOption result (held.now ≡ wanted.now) (λ _. held.now ≢ wanted.now) }
+/// The first index at which `stored` and `wanted` differ; `None` if they are equal. If one is the start of the other, its length is the index.
+fn first_difference<T: HasSerial>(stored: &[T], wanted: &[T]) -> Option<usize>
+    ensures { MatchOption result (stored.now ≡ wanted.now) (λ _. stored.now ≢ wanted.now) }
 {
-    for (row_index, row) in held.iter().enumerate() {
+    for (row_index, row) in stored.iter().enumerate() {
         match wanted.get(row_index) {
             Some(other) if row.is(other) => {}
             _ => return Some(row_index),
         }
     }
-    if held.len() == wanted.len() {
+    if stored.len() == wanted.len() {
         None
     } else {
-        Some(held.len())
+        Some(stored.len())
     }
 }
 
-/// The index of a row in `rows`, or the length of `rows` if it is not there. Only the report uses this index.
 fn index_of<T: HasSerial>(rows: &[T], row: Option<&T>) -> usize {
     let Some(row) = row else {
         return rows.len();
@@ -243,7 +243,8 @@ fn index_of<T: HasSerial>(rows: &[T], row: Option<&T>) -> usize {
     rows.len()
 }
 
-/// Checks that a table has the wanted rows, in any order.
+/// Checks that a table's `rows` are those of `wanted`, in any order. If not, sorts both by serial number, and reports the row of `rows` at the
+/// first difference; if `rows` has none there, the row after the last.
 pub(crate) fn same_rows<T: HasSerial>(
     alloc: Global,
     table: RegisterTable,
@@ -256,13 +257,13 @@ pub(crate) fn same_rows<T: HasSerial>(
 {
     let mut wanted = wanted;
     wanted.sort_unstable_by_key(|row| row.serial());
-    let mut held = Vec::from_slice(alloc, rows)?;
-    held.sort_unstable_by_key(|row| row.serial());
-    match first_difference(&held, &wanted) {
+    let mut stored = Vec::from_slice(alloc, rows)?;
+    stored.sort_unstable_by_key(|row| row.serial());
+    match first_difference(&stored, &wanted) {
         None => Ok(()),
         Some(row_index) => Err(broken_at(
             table,
-            index_of(rows, held.get(row_index)),
+            index_of(rows, stored.get(row_index)),
             Defect::DerivedMismatch,
         )),
     }

@@ -5,7 +5,7 @@ use crate::{BrokenRow, Defect, RegisterTable};
 use reg_core::Memory;
 use std::alloc::{AllocError, AllocFailed};
 
-/// Why a check fails: out of memory, or a row breaks a rule.
+/// Why a check fails: it is out of memory, or this row breaks a rule.
 #[derive(Clone, Copy, PartialEq, Eq)]
 pub enum CheckFault {
     Memory,
@@ -42,7 +42,7 @@ impl<T: Drop> From<AllocFailed<T>> for CheckFault {
     }
 }
 
-/// The fault for a row that has the defect `why`. `row_index` counts the rows of the table from 0, the fault's `row` from 1.
+/// The fault for a row that has the defect `why`. `row_index` counts the rows of the table from 0; `row`, in the fault, counts them from 1.
 pub(crate) fn broken_at(table: RegisterTable, row_index: usize, why: Defect) -> CheckFault
     ensures { IsBroken result }
 {
@@ -50,7 +50,7 @@ pub(crate) fn broken_at(table: RegisterTable, row_index: usize, why: Defect) -> 
     CheckFault::Broken(BrokenRow { table, row, why })
 }
 
-/// Checks that a table of `rows` rows has at most `cap`, the policy's limit. If it has more, its last row is reported.
+/// Checks that the number of rows of a table, `rows`, is at most `cap`, the policy's limit. If not, reports the last row.
 pub(crate) fn within_cap(table: RegisterTable, rows: usize, cap: u64) -> Result<(), CheckFault>
     ensures ok { OnOk result (rows ≤ cap) }
     ensures broken { NotBrokenIf (rows ≤ cap) result }

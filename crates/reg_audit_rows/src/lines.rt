@@ -1,4 +1,4 @@
-//! The lines of an audit's report.
+//! The line that reports an audit's result, with its LF. Errors: out of memory.
 
 ghost use Rattle.std.specs.Prelude.{◌≡◌, ◌++◌, IfOk};
 ghost use Rattle.std.specs.Fmt.{decimal};
@@ -9,7 +9,7 @@ use crate::broken_row::{BrokenRow, Defect, RegisterTable};
 use reg_core::Decimal;
 use std::alloc::{AllocError, Global};
 
-/// The line for a schema that is not that of a register, also if only a key, a CHECK, a view, a trigger or the order of creation differs.
+/// The line for a schema that is not a register's, even if only a key, a CHECK, a view, a trigger or the order of creation differs.
 pub const OTHER_SCHEMA: &str = "broken: schema: not exactly a register's tables and indexes\n";
 
 #[tactic(auto, unfolding(crate::specs::AuditLines::table_name))]
@@ -85,7 +85,7 @@ fn with_number(text: Vec<u8>, label: &[u8], number: u64) -> Result<Vec<u8>, Allo
     with(text, Decimal::of(number).as_bytes())
 }
 
-/// The line for a register in which no row breaks a rule. Error: out of memory.
+/// The line for a register in which no row breaks a rule.
 pub fn sound_line(alloc: Global, found: Audited) -> Result<Vec<u8>, AllocError>
     ensures { IfOk result (λ line. line.items ≡ sound_text found) }
 {
@@ -95,7 +95,7 @@ pub fn sound_line(alloc: Global, found: Audited) -> Result<Vec<u8>, AllocError>
     with(text, b" CRLs\n")
 }
 
-/// The line for a row that breaks a rule. Error: out of memory.
+/// The line for a row that breaks a rule.
 pub fn broken_line(alloc: Global, broken: BrokenRow) -> Result<Vec<u8>, AllocError>
     ensures { IfOk result (λ line. line.items ≡ broken_text broken) }
 {

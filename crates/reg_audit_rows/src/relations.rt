@@ -18,7 +18,7 @@ use std::collections::BTreeMap;
 
 const SECONDS_OF_DAY: u64 = 86_400;
 
-/// Whether one of `rows` rows has this id: `in_order` has checked that their ids are 1, 2, 3 and so on.
+/// Whether a table of `rows` rows has one with this id: `in_order` has checked before that their ids are 1, 2, 3 and so on.
 fn is_one_of(id: u64, rows: usize) -> bool
     ensures { IsTrue result ↔ ((1 ≤ id) × (id ≤ rows)) }
 {
@@ -42,7 +42,7 @@ pub(crate) fn subscribers_exist(
     Ok(())
 }
 
-/// The row with this number, whose index is one less: `in_order` has checked the numbers. `None` if there is none.
+/// The row with this id or CRL number, or `None`. Its index is one less: `in_order` has checked before that the numbers are 1, 2, 3 and so on.
 fn row_with<T: Numbered + Copy>(rows: &[T], number: u64) -> Option<T>
     ensures { NumberedFrom T.number 1 rows.now → result ≡ find (λ row. T.number row == number) rows.now }
 {
@@ -53,7 +53,7 @@ fn row_with<T: Numbered + Copy>(rows: &[T], number: u64) -> Option<T>
     }
 }
 
-/// Why a certificate does not match its order (`None`: there is none). The certificate is valid in the seconds of notBefore and of notAfter, too.
+/// Why a certificate does not match its order (`None`: there is no such order). A validity includes the seconds of both notBefore and notAfter.
 fn certificate_defect(certificate: &CertRow, order: Option<OrderRow>) -> Option<Defect>
     ensures { NoDefectIff (IsAsOrdered certificate.now order) result }
 {
@@ -68,7 +68,6 @@ fn certificate_defect(certificate: &CertRow, order: Option<OrderRow>) -> Option<
     None
 }
 
-/// Checks that each certificate's order exists, and that no validity is longer than its order's days.
 pub(crate) fn are_as_ordered(
     certificates: &[CertRow],
     orders: &[OrderRow],
@@ -87,7 +86,6 @@ pub(crate) fn are_as_ordered(
     Ok(())
 }
 
-/// Why a request can't have been received: its certificate does not exist (`None`), or was past notAfter.
 fn request_defect(request: &RequestRow, certificate: Option<CertRow>) -> Option<Defect>
     ensures { NoDefectIff (IsInTime request.now certificate) result }
 {
@@ -100,7 +98,6 @@ fn request_defect(request: &RequestRow, certificate: Option<CertRow>) -> Option<
     None
 }
 
-/// Checks that each request's certificate exists, and was not past notAfter when the request was received.
 pub(crate) fn are_in_time(
     requests: &[RequestRow],
     certificates: &BTreeMap<Serial, CertRow>,
@@ -126,7 +123,7 @@ fn is_before(request: &RequestRow, revocation: Option<RevocationRow>) -> bool
     }
 }
 
-/// Checks that no request was received after the revocation of its certificate. `revocations` has those by serial number.
+/// Checks that no request was received after the revocation of its certificate.
 pub(crate) fn none_after(
     requests: &[RequestRow],
     revocations: &BTreeMap<Serial, RevocationRow>,
@@ -143,7 +140,7 @@ pub(crate) fn none_after(
     Ok(())
 }
 
-/// Why this request can't have led to the revocation.
+/// Why this request can't have led to the revocation. A request for another serial number is reported as `NoRequest`, like a missing one.
 fn request_mismatch(request: &RequestRow, revocation: &RevocationRow) -> Option<Defect>
     ensures { NoDefectIff (LeadsTo revocation.now request.now) result }
 {
@@ -159,7 +156,7 @@ fn request_mismatch(request: &RequestRow, revocation: &RevocationRow) -> Option<
     None
 }
 
-/// Whether a CRL fits a revocation at `at` with the first CRL `first`: an earlier CRL's thisUpdate is not after `at`, another's is not before it.
+/// Whether `crl` fits a revocation at `at` whose first CRL is `first`: thisUpdate <= `at` if the CRL's number is below `first`, else >= `at`.
 fn is_around(crl: &CrlRow, first: u64, at: Moment) -> bool
     ensures { IsTrue result ↔ ((crl.now.number < first → crl.now.this_update ≤ at)
         × (first ≤ crl.now.number → at ≤ crl.now.this_update)) }
@@ -182,7 +179,8 @@ fn are_around(crls: &[CrlRow], first: u64, at: Moment) -> bool
     true
 }
 
-/// Why a revocation does not fit its certificate and its request (`None`: there is none), all CRLs, or the last accepted moment, `last`.
+/// Why a revocation does not fit its certificate, its request (`None`: it does not exist), the CRLs, or the last accepted moment, `last`. The first
+/// CRL that can list the revocation must be one of `crls`, or the next one, which is not issued yet.
 fn revocation_defect(
     revocation: &RevocationRow,
     certificate: Option<CertRow>,
@@ -217,7 +215,6 @@ fn revocation_defect(
     }
 }
 
-/// Checks that each revocation fits its certificate, its request, the CRLs and the last accepted moment, `last`.
 pub(crate) fn revocations_fit(
     revocations: &[RevocationRow],
     certificates: &BTreeMap<Serial, CertRow>,

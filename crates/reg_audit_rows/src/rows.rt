@@ -1,4 +1,5 @@
-//! The rows of a register's tables, and the check that they are those of sound records.
+//! The rows of a register's tables, and the check that they are those of sound records (records that obey all rules of a register). No table may
+//! have more than `cap` rows (`revocation` is not checked: it can't have more than `cert`). Ids and CRL numbers must be 1, 2, 3 and so on.
 
 ghost use Rattle.std.specs.Prelude.{◌≡◌, ◌<◌, ◌==◌, List, OnOk, IfOk};
 ghost use Rattle.std.specs.BTreeMap.{get};
@@ -14,8 +15,8 @@ ghost use Rattle.reg_audit_rows.specs.Faults.{NotBrokenIf};
 use crate::ascending::{are_by_last, firsts_never_decrease, in_order, moments_never_decrease};
 use crate::fault::{CheckFault, broken_at, within_cap};
 use crate::index::{
-    certificates_by_order, certificates_by_serial, names_differ, revocations_by_request,
-    revocations_by_serial,
+    certificates_by_order, certificates_by_serial, revocations_by_request, revocations_by_serial,
+    rows_differ,
 };
 use crate::relations::{
     are_as_ordered, are_in_time, none_after, revocations_fit, subscribers_exist,
@@ -28,7 +29,7 @@ use reg_core::{
 use std::alloc::Global;
 use std::collections::BTreeMap;
 
-/// The policy's cap (the most rows of a table), the last accepted moment, and the rows of the records in rowid order; CRLs are without their bytes.
+/// The rows of the records by rowid, CRLs without their bytes; the policy's most rows of a table, `cap`; and the last accepted moment, `last`.
 #[derive(Clone, Copy)]
 pub struct Rows<'a> {
     pub cap: u64,
@@ -41,7 +42,6 @@ pub struct Rows<'a> {
     pub crls: &'a [CrlRow],
 }
 
-/// Checks that ids are 1, 2, 3 and so on, names are valid and differ, and there are no more rows than the cap.
 fn check_subscribers(alloc: Global, rows: &[SubscriberRow], cap: u64) -> Result<(), CheckFault>
     ensures ok { OnOk result (ReachedSubscribers cap rows.now) }
     ensures broken { NotBrokenIf (ReachedSubscribers cap rows.now) result }
@@ -49,10 +49,9 @@ fn check_subscribers(alloc: Global, rows: &[SubscriberRow], cap: u64) -> Result<
     within_cap(RegisterTable::Subscriber, rows.len(), cap)?;
     in_order(RegisterTable::Subscriber, rows)?;
     names_are_good(rows)?;
-    names_differ(alloc, rows)
+    rows_differ(alloc, rows)
 }
 
-/// Checks that there are no more rows than the cap, ids are 1, 2, 3 and so on, each subscriber exists, and days are 1 to 398.
 fn check_orders(
     subscribers: &[SubscriberRow],
     rows: &[OrderRow],
@@ -69,8 +68,7 @@ fn check_orders(
     days_are_allowed(rows)
 }
 
-/// Checks that there are no more rows than the cap, and serial numbers differ (RFC 5280 4.1.2.2). Checks that each certificate fills an order
-/// of its own, no notBefore is after its notAfter, and no validity is longer than ordered. Returns the certificates by serial number.
+/// `certificates_by_order` also reports a second certificate for an order; `certificates_by_serial`, one with the same serial number.
 fn check_certificates(
     alloc: Global,
     orders: &[OrderRow],
@@ -90,8 +88,7 @@ fn check_certificates(
     certificates_by_serial(alloc, rows)
 }
 
-/// Checks that there are no more rows than the cap, ids are 1, 2, 3 and so on, and each request's certificate exists and was not past notAfter when
-/// the request was received. Checks that moments of receipt do not fall, and none is after the last accepted moment.
+/// `are_in_time` checks that each request's certificate exists, and was not past notAfter when the request was received.
 fn check_requests(
     certificates: &BTreeMap<Serial, CertRow>,
     rows: &[RequestRow],
@@ -112,7 +109,6 @@ fn check_requests(
     are_in_time(rows, certificates)
 }
 
-/// Checks that there are no more rows than the cap, numbers are 1, 2, 3 and so on, and thisUpdates do not fall or pass the last accepted moment.
 fn check_crls(rows: &[CrlRow], last: Moment, cap: u64) -> Result<(), CheckFault>
     ensures ok { OnOk result (AreCrls cap last rows.now) }
     ensures broken { NotBrokenIf (AreCrls cap last rows.now) result }
@@ -123,8 +119,7 @@ fn check_crls(rows: &[CrlRow], last: Moment, cap: u64) -> Result<(), CheckFault>
     are_by_last(RegisterTable::Crl, rows, last)
 }
 
-/// Checks that each revocation fits its certificate, its request and the CRLs, that moments and numbers of first CRLs do not fall, and that requests
-/// and serial numbers differ. Checks that no request was received after the revocation of its certificate. Returns the revocations by serial number.
+/// `revocations_by_..` also report a second revocation for a request or serial number. `none_after` reports a request received after the revocation.
 fn check_revocations(
     alloc: Global,
     certificates: &BTreeMap<Serial, CertRow>,
@@ -169,7 +164,7 @@ fn is_issued_at(crls: &[CrlRow], moment: Moment) -> bool
     crls.iter().any(|crl| crl.this_update == moment)
 }
 
-/// Checks the last accepted moment of a register without subscribers: it is 0 or the thisUpdate of a CRL, because only `crl` can have set it.
+/// Checks the last accepted moment of a register without subscribers: it is moment 0 or a CRL's thisUpdate, because only `crl` can have set it.
 fn check_last_set(rows: &Rows<'_>) -> Result<(), CheckFault>
     ensures ok { OnOk result (IsLastSet rows.now) }
     ensures broken { NotBrokenIf (IsLastSet rows.now) result }
@@ -182,14 +177,13 @@ fn check_last_set(rows: &Rows<'_>) -> Result<(), CheckFault>
     }
 }
 
-/// The certificates and the revocations, by their serial numbers.
 #[derive(Drop)]
 pub(crate) struct RowsBySerial {
     pub(crate) certificates: BTreeMap<Serial, CertRow>,
     pub(crate) revocations: BTreeMap<Serial, RevocationRow>,
 }
 
-/// Checks the records, table by table. The order matters: the check of orders, for example, relies on ids of subscribers that were checked before.
+/// Checks the records, table by table. The order matters: the check of orders, for example, relies on the ids of subscribers, checked before.
 pub(crate) fn check_rows(alloc: Global, rows: &Rows<'_>) -> Result<RowsBySerial, CheckFault>
     ensures ok { (records : Records) → AreOf rows.now records → OnOk result (ReachedRows records) }
     ensures found { IfOk result (IsIndexOf rows.now) }

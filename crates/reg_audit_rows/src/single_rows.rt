@@ -1,4 +1,4 @@
-//! Checks of each row by itself: the names of subscribers, the days of orders (1 to 398), the validities of certificates.
+//! Checks of each row by itself: names of subscribers have only allowed bytes, days of orders are 1 to 398, no notBefore is after its notAfter.
 
 ghost use Rattle.std.specs.Prelude.{◌≤◌, OnOk};
 ghost use Rattle.std.specs.List.{AllByRecursion};
@@ -34,7 +34,6 @@ pub(crate) fn days_are_allowed(orders: &[OrderRow]) -> Result<(), CheckFault>
     Ok(())
 }
 
-/// Checks that no notBefore is after its notAfter (RFC 5280 4.1.2.5).
 pub(crate) fn validities_are_forward(certificates: &[CertRow]) -> Result<(), CheckFault>
     ensures ok { OnOk result (AllByRecursion (λ row. row.not_before ≤ row.not_after) certificates.now) }
     ensures broken { NotBrokenIf

@@ -1,5 +1,3 @@
-//! Checks all rows that were read: those of the records, then the derived ones.
-
 ghost use Rattle.std.specs.Prelude.{◌≡◌, OnOk};
 ghost use Rattle.reg_core.specs.Records.{Records};
 ghost use Rattle.reg_core.specs.Reached.{ReachedRows};
@@ -16,42 +14,41 @@ use crate::fault::CheckFault;
 use crate::rows::{Rows, RowsBySerial, check_rows};
 use std::alloc::Global;
 
-/// Checks the derived rows, `beside`, against the sound records, `rows`; `found` has the certificates and revocations by serial number.
+/// Checks the derived rows against the sound records, `rows`. `found`: certificates and revocations by serial number. `letters`: rows of `standing`.
 fn check_derived(
     alloc: Global,
     rows: &Rows<'_>,
     found: &RowsBySerial,
-    beside: &StoredDerivedRows<'_>,
+    derived: &StoredDerivedRows<'_>,
 ) -> Result<(), CheckFault>
     ensures ok { IsIndexOf rows.now found.now → (records : Records) → AreOf rows.now records
-        → SoundRows records → (columns : DerivedRows) → AreDerivedRowsOf beside.now columns
+        → SoundRows records → (columns : DerivedRows) → AreDerivedRowsOf derived.now columns
         → OnOk result (Kept columns records) }
     ensures broken { IsIndexOf rows.now found.now → (records : Records) → AreOf rows.now records
-        → SoundRows records → (columns : DerivedRows) → AreDerivedRowsOf beside.now columns
+        → SoundRows records → (columns : DerivedRows) → AreDerivedRowsOf derived.now columns
         → NotBrokenIf (Kept columns records) result }
 {
     let letters = standings(alloc, rows.certificates, &found.revocations, rows.last)?;
-    check_counts(&letters, beside.counts)?;
-    same_rows(alloc, RegisterTable::Standing, beside.letters, letters)?;
+    check_counts(&letters, derived.counts)?;
+    same_rows(alloc, RegisterTable::Standing, derived.letters, letters)?;
     let listed = listings(alloc, rows.revocations, &found.certificates, rows.crls)?;
-    same_rows(alloc, RegisterTable::Listed, beside.listed, listed)
+    same_rows(alloc, RegisterTable::Listed, derived.listed, listed)
 }
 
-/// Checks that `rows` are those of sound records (`ReachedRows`), and that the derived rows, `beside`, match the records: the letter of each
-/// certificate (good, revoked or expired), the counts of letters, and the entries of CRLs. The bytes of CRLs are not checked. Errors: `Memory`;
-/// `Broken` with a row that breaks a rule. The check takes O(n log n) steps for n rows, and one step for each pair of a revocation and a CRL.
+/// Checks that `rows` obey all rules of a register (`ReachedRows`), and that the derived rows follow from them. Checks no bytes of CRLs. Takes
+/// O(n log n) steps for n rows, and one step for each pair of a revocation and a CRL.
 pub fn check(
     alloc: Global,
     rows: &Rows<'_>,
-    beside: &StoredDerivedRows<'_>,
+    derived: &StoredDerivedRows<'_>,
 ) -> Result<(), CheckFault>
     ensures sound { (records : Records) → AreOf rows.now records → OnOk result (ReachedRows records) }
     ensures kept { (records : Records) → AreOf rows.now records → (columns : DerivedRows)
-        → AreDerivedRowsOf beside.now columns → OnOk result (Kept columns records) }
+        → AreDerivedRowsOf derived.now columns → OnOk result (Kept columns records) }
     ensures broken { (records : Records) → AreOf rows.now records → (columns : DerivedRows)
-        → AreDerivedRowsOf beside.now columns
+        → AreDerivedRowsOf derived.now columns
         → NotBrokenIf (ReachedRows records × Kept columns records) result }
 {
     let found = check_rows(alloc, rows)?;
-    check_derived(alloc, rows, &found, beside)
+    check_derived(alloc, rows, &found, derived)
 }

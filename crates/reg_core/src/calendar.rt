@@ -20,7 +20,7 @@ pub struct Civil {
 impl Civil {
     ghost use Rattle.reg_core.specs.Calendar.{IsCivil, IsCivilAt, HasDigits, civil_of, date_time};
 
-    /// The date and time at this many seconds after 1970-01-01T00:00:00Z.
+    /// The date and time this many seconds after 1970-01-01T00:00:00Z.
     pub(crate) fn at(seconds: u64) -> Civil
         requires { IsMoment seconds }
         ensures exact { result ≡ civil_of seconds }
@@ -39,7 +39,7 @@ impl Civil {
         }
     }
 
-    /// The seconds since 1970-01-01T00:00:00Z; `None` if no such date and time exists in the years 1970 to 9999.
+    /// The seconds from 1970-01-01T00:00:00Z to this date and time; `None` if there is no such date or time, or its year is not 1970 to 9999.
     pub(crate) fn seconds(self) -> Option<u64>
         ensures { MatchOption result ((s : ℕ) → IsMoment s → civil_of s ≢ self)
             (λ s. IsMoment s × (civil_of s ≡ self)) }
@@ -81,7 +81,7 @@ impl Civil {
         ]
     }
 
-    /// The fields of a text `YYYY-MM-DDTHH:MM:SSZ`, even if there is no such date or time; `None` for other bytes.
+    /// The fields of a text `YYYY-MM-DDTHH:MM:SSZ`, even if there is no such date or time; `None` for a text of another form.
     #[tactic(auto, unfolding(crate::specs::Calendar::date_time))]
     pub(crate) fn read(text: &[u8]) -> Option<Civil>
         ensures { MatchOption result ((c : Civil) → HasDigits c → text.now ≢ date_time c)
@@ -90,8 +90,8 @@ impl Civil {
         if text.len() != 20 {
             return None;
         }
-        let signs = [text[4], text[7], text[10], text[13], text[16], text[19]];
-        if signs != *b"--T::Z" {
+        let separators = [text[4], text[7], text[10], text[13], text[16], text[19]];
+        if separators != *b"--T::Z" {
             return None;
         }
         Some(Civil {
@@ -105,7 +105,7 @@ impl Civil {
     }
 }
 
-/// The date so many days after 1970-01-01. 10000-01-01 is 2,932,897 days after it.
+/// The date this many days after 1970-01-01. 10000-01-01, the first day that is too late for a moment, is 2,932,897 days after it.
 fn date_after_epoch(days: u64) -> Date
     requires { days < 2932897 }
     ensures { epoch_day result ≡ pos days }
@@ -116,7 +116,7 @@ fn date_after_epoch(days: u64) -> Date
     }
 }
 
-/// The days from 1970-01-01 to a day; `None` if it is earlier.
+/// The number of days from 1970-01-01 to `day`; `None` if `day` is earlier.
 fn days_since_epoch(day: Date) -> Option<u64>
     ensures { MatchOption result (epoch_day day <ℤ pos 0)
         (λ n. (n < 2932897) × (epoch_day day ≡ pos n)) }

@@ -4,36 +4,33 @@ ghost use Rattle.reg_core.specs.Causes.{cause_line, policy_cause};
 use crate::Label;
 use std::io::ErrorKind;
 
-/// Why a file, a port or the clock can't be used, why a signer doesn't fit a register, or which option or schedule of a policy is invalid.
+/// Why a file, a port or the clock can't be used, why a signer doesn't fit a register (`OtherAlgorithm` to `OtherKey`), or which part of a policy is
+/// invalid (`Days` to `Steps`; `Steps` are those of its schedule of longest validities). [`line`](Cause::line) explains each.
 #[derive(Clone, Copy, PartialEq, Eq)]
 pub enum Cause {
     NoFile,
     NoPermission,
     /// Another program has the file open, or listens at the socket.
     InUse,
-    /// The file is not what was written, or not a database.
     Damaged,
     DiskFull,
     PathExists,
     PortInUse,
     Clock,
-    /// The latest CRL is signed with another algorithm than the signer's, or there is no signer now.
+    /// The latest CRL is signed, but the signer has another algorithm, or there is no signer now.
     OtherAlgorithm,
-    /// The latest CRL has an algorithm that this program doesn't know, or that can't be read.
+    /// This program doesn't know the algorithm of the latest CRL, or can't read it.
     UnknownAlgorithm,
-    /// The issuer's key is not of the signer's algorithm.
     OtherKey,
-    /// The option `--days` is out of its range. The next three are for `--crl-life`, `--ocsp-life` and `--cap`.
     Days,
     CrlLife,
     OcspLife,
     Cap,
-    /// The steps of a schedule are invalid.
     Steps,
 }
 
 impl Cause {
-    /// The line for standard error, without LF: two spaces and the text, together at most 64 bytes.
+    /// The line about the cause for standard error: two spaces and the text, without LF.
     #[tactic(auto, unfolding(crate::specs::Causes::cause_line))]
     pub fn line(&self) -> Label
         ensures { result ≡ cause_line self.now }
@@ -73,7 +70,7 @@ fn line_of(text: &[u8]) -> Label
     Label::joined(text, b"")
 }
 
-/// The cause of a failed system call, by the kind of its error; `None` if the kind has no cause here.
+/// The cause of a failed system call, by the kind of its error; `None` for a kind without a cause.
 pub fn io_cause_of(kind: ErrorKind) -> Option<Cause>
     ensures no_file { kind ≡ ErrorKind.NotFound → result ≡ Some Cause.NoFile }
     ensures no_right { kind ≡ ErrorKind.PermissionDenied → result ≡ Some Cause.NoPermission }
@@ -90,7 +87,7 @@ pub fn io_cause_of(kind: ErrorKind) -> Option<Cause>
     }
 }
 
-/// Why a new file could not be created, by the kind of the error; `None` if the kind has no cause here.
+/// As [`io_cause_of`], for the call that creates a new file.
 pub fn create_cause_of(kind: ErrorKind) -> Option<Cause>
     ensures taken { kind ≡ ErrorKind.AlreadyExists → result ≡ Some Cause.PathExists }
     ensures no_right { kind ≡ ErrorKind.PermissionDenied → result ≡ Some Cause.NoPermission }
@@ -102,7 +99,7 @@ pub fn create_cause_of(kind: ErrorKind) -> Option<Cause>
     }
 }
 
-/// Why a port could not be bound, by the kind of the error; `None` if the kind has no cause here.
+/// As [`io_cause_of`], for the call that binds a port.
 pub fn port_cause_of(kind: ErrorKind) -> Option<Cause>
     ensures in_use { kind ≡ ErrorKind.AddrInUse → result ≡ Some Cause.PortInUse }
     ensures no_right { kind ≡ ErrorKind.PermissionDenied → result ≡ Some Cause.NoPermission }
@@ -113,7 +110,7 @@ pub fn port_cause_of(kind: ErrorKind) -> Option<Cause>
     }
 }
 
-/// The cause for the first value out of its range, as in [`Policy::new`](crate::Policy::new), which has the units, too; `None` if all are in range.
+/// The cause for the first value out of its range (see `Policy::new`), or `None`. `days`: the longest validity. `cap`: the most rows of a table.
 #[tactic(auto, unfolding(crate::specs::Causes::policy_cause))]
 pub fn policy_cause_of(days: u64, crl_life: u64, ocsp_life: u64, cap: u64) -> Option<Cause>
     ensures { result ≡ policy_cause days crl_life ocsp_life cap }

@@ -1,19 +1,17 @@
 use crate::moment::Moment;
 use crate::rows::{CertRow, CrlRow, OrderRow, RequestRow, RevocationRow, SubscriberRow};
 
-/// The change of the records by an accepted command. Each change also sets the last accepted moment.
+/// What an accepted command changes in the records: mostly the row that it adds. Each change also makes the command's moment the last accepted one.
+/// `Revocation` also has the certificate's notAfter, which decides the last CRL with the entry. `Crl` also has the DER. `Decline` has a request's id.
 #[derive(Clone, Copy)]
 pub enum Change<'a> {
-    /// Only the last accepted moment: the certificate was registered already.
+    /// Only the last accepted moment: the command `register` named a certificate that is registered already.
     Touch,
     Subscriber(SubscriberRow),
     Order(OrderRow),
     Certificate(CertRow),
     Request(RequestRow),
-    /// The request with this id is declined.
     Decline(u64),
-    /// A new revocation, and its certificate's notAfter, which decides the last CRL that lists it.
     Revocation(RevocationRow, Moment),
-    /// A new CRL, with its DER.
     Crl(CrlRow, &'a [u8]),
 }

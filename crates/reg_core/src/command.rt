@@ -1,17 +1,15 @@
-//! Commands, queries, and their replies.
-
 use crate::label::Label;
 use crate::moment::Moment;
 use crate::refusal::Fault;
 use crate::serial::Serial;
 
-/// A command, which changes the register. The fields `subscriber`, `order` and `request` are ids.
+/// A command, which changes the register. `Crl` issues the next CRL. The fields `subscriber`, `order` and `request` are ids.
 #[derive(Clone, Copy, PartialEq, Eq)]
 pub enum Command {
     Subscriber {
         name: Label,
     },
-    /// Enters a subscriber's order for one certificate, with its longest validity in days.
+    /// Enters a subscriber's order for one certificate; `days` is the certificate's longest validity.
     Order {
         subscriber: u64,
         days: u64,
@@ -31,38 +29,31 @@ pub enum Command {
     Decline {
         request: u64,
     },
-    /// Revokes the certificate of a request.
     Revoke {
         request: u64,
     },
-    /// Issues the next CRL.
     Crl,
 }
 
-/// A query, which reads the register and changes nothing.
+/// A query, which reads the register and changes nothing. `Listing`: which CRLs list a serial number. `Overdue`: the open requests past their
+/// deadline (open: not declined, and the certificate neither revoked nor expired). `NextCrl`: when the next CRL is due.
 #[derive(Clone, Copy, PartialEq, Eq)]
 pub enum Query {
     Status(Serial),
-    /// How many registered certificates are good, revoked and expired.
     Counts,
-    /// Which CRLs list a serial number.
     Listing(Serial),
-    /// The open requests past their deadline (open: not declined, and the certificate neither revoked nor expired).
     Overdue,
-    /// When the next CRL is due.
     NextCrl,
 }
 
-/// The status of a serial number at a moment.
+/// The status of a serial number at a moment. `Unknown`: no registered certificate has it. `Good`: registered, not revoked, and not past notAfter,
+/// even if before notBefore. `Revoked`: since the moment `at`, permanently; `reason` is the reasonCode (RFC 5280 5.3.1).
 #[derive(Clone, Copy, PartialEq, Eq)]
 pub enum Status {
-    /// No certificate has the serial number.
     Unknown,
-    /// Registered, not revoked, and not past notAfter; also before notBefore.
     Good,
     /// Registered, not revoked, and past notAfter.
     Expired,
-    /// Revoked at this moment, permanently; `reason` is the reasonCode (RFC 5280 5.3.1).
     Revoked { at: Moment, reason: u8 },
 }
 
@@ -74,37 +65,31 @@ pub struct Counts {
     pub expired: u64,
 }
 
-/// The CRLs that list a revoked serial number.
+/// The CRLs that list a revoked serial number: `first` is the number of the first one, even if it isn't issued yet; `last` the last one's, if issued.
 #[derive(Clone, Copy, PartialEq, Eq)]
 pub struct Listing {
-    /// The number of the first CRL that lists it, which may not be issued yet.
     pub first: u64,
-    /// The number of the last CRL that lists it; `None` until that is issued.
     pub last: Option<u64>,
 }
 
-/// The open requests past their deadline: at least one.
+/// The open requests past their deadline: `count` is how many there are (at least one), `first` the lowest of their ids.
 #[derive(Clone, Copy, PartialEq, Eq)]
 pub struct Overdue {
     pub count: u64,
-    /// The lowest of their ids.
     pub first: u64,
 }
 
-/// The reply to an accepted command or to a query.
+/// The reply to an accepted command or a query. `due`: a request's deadline; `late`: the revocation was after it; `entries`: how many the CRL has.
 #[derive(Clone, Copy, PartialEq, Eq)]
 pub enum Reply {
     Subscriber { id: u64 },
     Order { id: u64 },
     Registered,
-    /// The same certificate, equal in all fields, was registered already.
+    /// The certificate of `Register` was registered already, equal in all fields.
     Same,
-    /// The id of the request, and its deadline.
     Request { id: u64, due: Moment },
     Declined,
-    /// The certificate was revoked; `late` if that was after the request's deadline.
     Revoked { late: bool },
-    /// The number of the CRL that was issued, and how many entries it has.
     Crl { number: u64, entries: u64 },
     Status(Status),
     Counts(Counts),
@@ -116,5 +101,5 @@ pub enum Reply {
     NextCrl(Option<Moment>),
 }
 
-/// The reply to a command or query, or a [`Fault`]: a refusal or a failure.
+/// The reply to a command or query, or why there is none: a refusal or a failure.
 pub type Outcome = Result<Reply, Fault>;

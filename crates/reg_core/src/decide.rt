@@ -1,5 +1,6 @@
-//! The pure decisions: each takes the rows that the caller looked up for one command, and gives the first refusal that applies, or the row to write.
-//! `head` has the moments, the policy, and in `held` the number of rows in the table to which the command would add a row.
+//! The pure decisions, one for each command. Each takes the rows that the caller looked up (`None`: there is no such row), and returns the row to
+//! write or the first refusal that applies. [`clock`] refuses first; each decision's comment lists its other refusals in the order of their checks.
+//! `head` has the moments, the policy, and in `held` the number of rows in the table to which the command would add one; a new id is `held` + 1.
 
 ghost use Rattle.std.specs.Prelude.{◌≡◌, ℕ, ◌+◌, ◌<◌, ◌^◌, false, IfSome, ⊤};
 ghost use Rattle.reg_core.specs.Checks.{clock_checks, first_refusal, live_checks, pending_request_checks, validity_checks, refused_if};
@@ -14,7 +15,7 @@ use crate::rows::{CertRow, CrlRow, Head, OrderRow, RequestRow, RevocationRow, Su
 
 const SECONDS_OF_DAY: u64 = 86_400;
 
-/// Checks the moment of a command. Refusals: `ClockEnd` from 9999-12-22T00:00:00Z on; else `ClockBack` if it is before `last`, the last accepted one.
+/// Checks a command's or query's moment, `now`. Refusals: `ClockEnd` from 9999-12-22T00:00:00Z on; `ClockBack` before the last accepted one, `last`.
 pub fn clock(now: Moment, last: Moment) -> Result<(), Refusal>
     ensures { IsDecidedBy (first_refusal (clock_checks now last)) (λ _. ⊤) result }
 {
@@ -27,8 +28,7 @@ pub fn clock(now: Moment, last: Moment) -> Result<(), Refusal>
     Ok(())
 }
 
-/// The row of the new subscriber. `by_name` is the subscriber that has the name already.
-/// Refusals: those of [`clock`]; then `BadName`, `NameTaken`, `Full`.
+/// The row of the new subscriber. `by_name` is the subscriber that has the name already. Refusals: `BadName`, `NameTaken`, `Full`.
 pub fn decide_subscriber(
     head: &Head,
     name: Label,
@@ -47,8 +47,7 @@ pub fn decide_subscriber(
     Ok(SubscriberRow { id, name })
 }
 
-/// The row of the new order. `subscriber` is the subscriber with the id in the command; `days` is the longest validity to order.
-/// Refusals: those of [`clock`]; then `NoSubscriber`, `BadDays`, `Full`.
+/// The row of the new order, by `subscriber`, for a certificate with a validity of at most `days`. Refusals: `NoSubscriber`, `BadDays`, `Full`.
 pub fn decide_order(
     head: &Head,
     subscriber: Option<SubscriberRow>,
@@ -72,9 +71,9 @@ pub fn decide_order(
     })
 }
 
-/// The row of the new certificate `wanted`, or `None` if one equal in all fields is registered already: then only [`clock`] can refuse.
+/// The row of the new certificate, `wanted`; `None` if it is registered already, equal in all fields: then only [`clock`] can refuse.
 /// `order` is the order to fill, `by_order` the certificate that fills it already, `by_serial` the one that has the serial number already.
-/// Refusals: those of [`clock`]; then `NoOrder`, `OrderFilled`, `SerialTaken`, `BadValidity`, `TooLong`, `Ended`, `Full`.
+/// Refusals: `NoOrder`, `OrderFilled`, `SerialTaken`, `BadValidity`, `TooLong`, `Ended`, `Full`.
 pub fn decide_register(
     head: &Head,
     wanted: CertRow,
@@ -100,27 +99,27 @@ pub fn decide_register(
         return Err(Refusal::SerialTaken);
     }
     check_validity(head, &wanted, &order)?;
-    // Only for its refusal `Full`: a certificate has no id.
+    // For the refusal `Full` alone: a certificate has no id.
     next_id(head)?;
     Ok(Some(wanted))
 }
 
-/// The row of the new request, on the ground with the name `word`. `certificate` and `revocation` are those of the command's serial number.
-/// Refusals: those of [`clock`]; then `UnknownSerial`, `NoHold`, `BadGround`, `RevokedBefore`, `Expired`, `Full`.
+/// The row of the new request, on the ground with the name `ground_name`. `certificate` and `revocation` are those of the command's serial number.
+/// Refusals: `UnknownSerial`, `NoHold`, `BadGround`, `RevokedBefore`, `Expired`, `Full`.
 pub fn decide_request(
     head: &Head,
     certificate: Option<CertRow>,
-    word: Label,
+    ground_name: Label,
     revocation: Option<RevocationRow>,
 ) -> Result<RequestRow, Refusal>
-    ensures { DecidesRequest head.entry.now certificate word revocation result }
+    ensures { DecidesRequest head.entry.now certificate ground_name revocation result }
 {
     clock(head.now, head.last)?;
     let Some(certificate) = certificate else {
         return Err(Refusal::UnknownSerial);
     };
     let serial = certificate.serial;
-    let ground = Ground::read(word.as_bytes())?;
+    let ground = Ground::read(ground_name.as_bytes())?;
     check_live(head.now, Some(certificate), revocation)?;
     let id = next_id(head)?;
     Ok(RequestRow {
@@ -132,8 +131,7 @@ pub fn decide_request(
     })
 }
 
-/// The row of the request, declined. `certificate` and `revocation` are those of its serial number.
-/// Refusals: those of [`clock`]; then `NoRequest`, `DeclinedBefore`, `RevokedBefore`, `Expired`.
+/// The request's row, now declined. `certificate` and `revocation` are those of its serial number. Refusals: as for [`decide_revoke`].
 pub fn decide_decline(
     head: &Head,
     request: Option<RequestRow>,
@@ -152,9 +150,9 @@ pub fn decide_decline(
     })
 }
 
-/// The row of the new revocation, whose `first` is the number of the first CRL to list it; and whether it is late. `certificate` and `revocation`
-/// are of the request's serial number, `latest` the newest CRL.
-/// Refusals: those of [`clock`]; then `NoRequest`, `DeclinedBefore`, `RevokedBefore`, `Expired`.
+/// The row of the new revocation, and whether it is after the request's deadline. Field `first`: the number of the next CRL, the first to list it.
+/// `certificate` and `revocation` are those of the request's serial number; `latest` is the newest CRL. Refusals: `NoRequest`, `DeclinedBefore`,
+/// `RevokedBefore`, `Expired`.
 pub fn decide_revoke(
     head: &Head,
     request: Option<RequestRow>,
@@ -166,7 +164,7 @@ pub fn decide_revoke(
     ensures { DecidesRevoke head.entry.now request certificate revocation latest result }
 {
     let request = pending_request(head, request, certificate, revocation)?;
-    // Not by `deadline()`, which requires that receipt is before the clock's end.
+    // Not `request.deadline()`: it requires a receipt before `CLOCK_END`, and no precondition here says that of the request.
     let late = head.now.secs() > request.received.secs() + request.ground.limit_secs();
     let row = RevocationRow {
         serial: request.serial,
@@ -178,8 +176,7 @@ pub fn decide_revoke(
     Ok((row, late))
 }
 
-/// The row of the new CRL, whose thisUpdate is the moment of the command. `latest` is the CRL that was issued last.
-/// Refusals: those of [`clock`]; then `Full`.
+/// The row of the new CRL, whose thisUpdate is the command's moment. `latest` is the newest CRL, with a number of at most 18 digits. Refusal: `Full`.
 pub fn decide_crl(head: &Head, latest: Option<CrlRow>) -> Result<CrlRow, Refusal>
     requires { IfSome latest (λ crl. crl.number < 10 ^ 18) }
     ensures { DecidesCrl head.entry.now latest result }
@@ -194,7 +191,6 @@ pub fn decide_crl(head: &Head, latest: Option<CrlRow>) -> Result<CrlRow, Refusal
     })
 }
 
-/// The id of the new row; `Full` if the table is full.
 fn next_id(head: &Head) -> Result<u64, Refusal>
     ensures { IsDecidedBy (refused_if (table_is_full head.entry.now) Refusal.Full)
         (λ id. id ≡ head.entry.now.held + 1) result }
@@ -212,7 +208,6 @@ fn is_full(head: &Head) -> bool
     head.held >= head.policy.cap()
 }
 
-/// The number of the next CRL; the first one has number 1.
 fn next_number(latest: Option<CrlRow>) -> u64
     requires { IfSome latest (λ crl. crl.number < 10 ^ 18) }
     ensures { result ≡ number_after latest }
@@ -244,7 +239,7 @@ fn check_validity(head: &Head, wanted: &CertRow, order: &OrderRow) -> Result<(),
     Ok(())
 }
 
-/// Checks that there is no revocation, and that the certificate, if there is one (in sound records there is), isn't past notAfter.
+/// Refuses if there is a revocation, or the certificate is past notAfter. `None` would pass, but the certificate of a request is always registered.
 fn check_live(
     now: Moment,
     certificate: Option<CertRow>,
@@ -261,7 +256,7 @@ fn check_live(
     }
 }
 
-/// Checks the clock; then returns the request, if it exists, is not declined, and its certificate is not revoked or expired.
+/// The request, if [`clock`] accepts the moment, and the request exists, is not declined, and its certificate is not revoked or expired.
 fn pending_request(
     head: &Head,
     request: Option<RequestRow>,

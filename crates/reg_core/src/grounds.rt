@@ -3,33 +3,27 @@ ghost use Rattle.reg_core.specs.Grounds.{ground_or_refusal, limit_of, reason_of}
 
 use crate::refusal::Refusal;
 
-/// A ground of revocation: why a certificate is to be revoked (docs/RULES.md, "Grounds").
+/// A ground of revocation: why a certificate is to be revoked (docs/RULES.md, "Grounds"). `Unauthorized`: the subscriber did not authorize the order.
+/// `ControlLost`: the subscriber's control of the certificate's names can't be relied on. `NameNotPermitted`: one of the names may no longer be used.
+/// `Nonconforming`: the certificate was not issued as the rules for the CA require. `Inaccurate`: the certificate has inaccurate information.
 #[derive(Clone, Copy, PartialEq, Eq)]
 pub enum Ground {
-    /// The subscriber asks for it.
+    /// The subscriber asks for the revocation.
     Asked,
-    /// The subscriber did not authorize the order of the certificate.
     Unauthorized,
-    /// The private key is no longer the subscriber's alone.
     KeyCompromise,
-    /// The control of the certificate's names can't be relied upon.
     ControlLost,
-    /// The affiliation of the certificate's subject has changed (affiliationChanged).
     Affiliation,
     Superseded,
-    /// The operation for which the certificate was issued has ended.
     Cessation,
     Misuse,
-    /// A name in the certificate may no longer be used.
     NameNotPermitted,
-    /// The certificate was not issued as the rules for the CA require.
     Nonconforming,
-    /// The certificate has inaccurate information.
     Inaccurate,
 }
 
 impl Ground {
-    /// The ground with this name. `NoHold` for `hold`, since no certificate is put on hold; `BadGround` if no ground has the name.
+    /// The ground with the name `word`. `NoHold` for `hold`, because a register has no certificateHold; `BadGround` if no ground has the name.
     pub fn read(word: &[u8]) -> Result<Ground, Refusal>
         ensures { result ≡ ground_or_refusal word.now }
     {

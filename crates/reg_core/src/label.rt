@@ -8,10 +8,9 @@ use std::marker::Model;
 
 const MAX_BYTES: usize = 64;
 
-/// A short text, such as a name or a line of a reply, in an array: 1 to 64 bytes of any value. Its model in contracts is the list of its bytes.
+/// A short text of 1 to 64 bytes of any value, such as a name or a line of a reply. Zeros fill up the array. Contracts see only the `len` bytes.
 #[derive(Clone, Copy, Eq)]
 pub struct Label {
-    /// The text, of `len` bytes, then zeros.
     bytes: [u8; MAX_BYTES],
     len: usize,
 }
@@ -77,7 +76,7 @@ impl Label {
         &self.bytes[..self.len]
     }
 
-    /// Whether the text is allowed as a name: each byte is an ASCII letter, a digit, `.`, `-` or `_`.
+    /// Whether the text is allowed as a subscriber's name: each byte is an ASCII letter, a digit, `.`, `-` or `_`.
     pub fn is_name(&self) -> bool
         ensures { result ≡ is_name self.now }
     {

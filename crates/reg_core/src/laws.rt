@@ -4,8 +4,7 @@ ghost use Rattle.reg_core.specs.Laws.{OctetsAreDigits, OctetsAreBelow, ZerosCoun
 ghost use Rattle.reg_core.specs.Laws.{IntegersAreSpelled, OneInteger, OneNumber, IntegersAreShort, SerialsInOrder, OneSerial};
 ghost use Rattle.reg_core.specs.Laws.{OneMoment, NumbersAreRead, SerialsAreRead, WrittenNumbersAreRead, WrittenSerialsAreRead};
 
-/// Big-endian octets are the digits of a number in base 256: n octets encode each number below 256^n once, and leading zeros don't change the
-/// number. The lowest n octets of a number encode its remainder by 256^n.
+/// n octets, big-endian, encode each number below 256^n once. Leading zeros don't change a number. Its lowest n octets encode it modulo 256^n.
 pub fn octets_are_digits()
     ensures places { OctetsAreDigits }
     ensures below { OctetsAreBelow }
@@ -14,12 +13,12 @@ pub fn octets_are_digits()
     ensures lowest { OctetsAreLowest }
 {}
 
-/// Octets of the same count, compared one by one, are in the order of the numbers that they encode.
+/// Two lists of equally many octets, compared octet by octet, are in the order of the numbers that they encode.
 pub fn octets_in_order()
     ensures { OctetsInOrder }
 {}
 
-/// Each number below 2^160 has one INTEGER (X.690 8.3), which no other has: at most 21 contents octets, 20 for a serial number (RFC 5280 4.1.2.2).
+/// Each number below 2^160 has one INTEGER (X.690 8.3), which no other number has. Its contents are at most 21 octets, 20 for a serial number.
 pub fn one_integer()
     ensures spelled { IntegersAreSpelled }
     ensures one { OneInteger }
@@ -27,7 +26,7 @@ pub fn one_integer()
     ensures short { IntegersAreShort }
 {}
 
-/// The 20 octets of serial numbers, compared one by one, are in the order of the numbers, and no two serial numbers have the same octets.
+/// No two serial numbers have the same 20 octets, and these, compared octet by octet, are in the order of the serial numbers.
 pub fn serials_in_order()
     ensures order { SerialsInOrder }
     ensures one { OneSerial }
@@ -38,7 +37,7 @@ pub fn one_moment()
     ensures { OneMoment }
 {}
 
-/// A number, or a serial number, is read from exactly the texts that spell it; `Decimal` (below 10^18) and `Serial` write one of them.
+/// A number, or a serial number, is read from exactly the texts that spell it. `Decimal` (for a number below 10^18) and `Serial` write one of these.
 pub fn texts_are_read()
     ensures numbers { NumbersAreRead }
     ensures serials { SerialsAreRead }

@@ -1,3 +1,3 @@
-/// Out of memory: the only error of calls that can't fail otherwise.
+/// Out of memory: the error of calls that can fail in no other way.
 #[derive(Clone, Copy, PartialEq, Eq)]
 pub struct Memory;

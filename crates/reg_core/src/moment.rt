@@ -21,7 +21,7 @@ impl Model for Moment {
     ghost inverse = { λ seconds. record { seconds = seconds } };
 }
 
-/// The first second that is no moment: 10000-01-01T00:00:00Z.
+/// 10000-01-01T00:00:00Z, the first second that is no moment.
 const END: u64 = 253_402_300_800;
 
 impl Moment {
@@ -30,7 +30,7 @@ impl Moment {
     /// 1970-01-01T00:00:00Z, the last accepted moment of a new register.
     pub const EPOCH: Moment = Moment { seconds: 0 };
 
-    /// 9999-12-22T00:00:00Z. The register accepts no moment from then on (`ClockEnd`), so that each nextUpdate, under ten days later, is a moment.
+    /// 9999-12-22T00:00:00Z. From then on commands and queries are refused (`ClockEnd`), so that each nextUpdate, under ten days later, is a moment.
     pub const CLOCK_END: Moment = Moment {
         seconds: 253_401_436_800,
     };
@@ -64,7 +64,7 @@ impl Moment {
         self.seconds
     }
 
-    /// The date of the Gregorian calendar and the time of day in UTC, in days of 86,400 seconds.
+    /// The date of the Gregorian calendar and the time of day in UTC; each day has 86,400 seconds.
     pub fn civil(self) -> Civil
         ensures exact { result ≡ civil_of self }
         ensures shown { IsCivilAt self result }
@@ -73,7 +73,7 @@ impl Moment {
         Civil::at(self.secs())
     }
 
-    /// Reads `YYYY-MM-DDTHH:MM:SSZ` (RFC 3339 5.6), a date and time that exist, from 1970 on, and no leap second; `None` for any other bytes.
+    /// Reads `YYYY-MM-DDTHH:MM:SSZ` (RFC 3339 5.6). `None` for other bytes, a year before 1970, a leap second, or a date or time that does not exist.
     pub fn read(bytes: &[u8]) -> Option<Moment>
         ensures found { IfSome result (λ m. IsMoment m × (bytes.now ≡ moment_text m)) }
         ensures none { IfNone result ((m : ℕ) → IsMoment m → bytes.now ≢ moment_text m) }

@@ -1,5 +1,3 @@
-//! Numbers: read from digits, and written as decimal digits into an array, both without an allocation.
-
 ghost use Rattle.std.specs.Prelude.{◌≡◌, ℕ, ◌^◌, ◌<◌, ◌≤◌, length, IfSome, IfNone, MatchOption, SomeIff};
 ghost use Rattle.std.specs.Fmt.{decimal};
 ghost use Rattle.std.specs.Str.Parse.{AllDigits, digits_value};
@@ -7,9 +5,10 @@ ghost use Rattle.reg_core.specs.Number.{IsNumberText, number_of};
 
 use std::marker::Model;
 
-/// The most digits that [`read_number`] takes: each number of that many digits is below 10^18, so SQLite can store it as an INTEGER.
+/// The most digits that [`read_number`] takes. A number of so many digits is below 10^18, so SQLite can store it as an INTEGER.
 const MOST_DIGITS: usize = 18;
 
+/// The most decimal digits of a `u64`.
 const MOST_DECIMAL_DIGITS: usize = 20;
 
 /// Reads 1 to 18 decimal digits; leading zeros are allowed. `None` for any other text.
@@ -24,7 +23,7 @@ pub fn read_number(text: &[u8]) -> Option<u64>
     Some(read_digits(text, 10)? as u64)
 }
 
-/// The number in at most 32 digits (so below 2^128) of a base from 2 to 16, in either case; 0 without digits, `None` if a byte is not a digit.
+/// Reads at most 32 digits (a `u128` has room for them) to a base of 2 to 16, in upper or lower case. 0 for no digits; `None` if a byte is no digit.
 pub(crate) fn read_digits(digits: &[u8], base: u32) -> Option<u128>
     requires base { (2 ≤ base) × (base ≤ 16) }
     requires short { length digits.now ≤ 32 }
@@ -38,10 +37,9 @@ pub(crate) fn read_digits(digits: &[u8], base: u32) -> Option<u128>
     Some(number)
 }
 
-/// The decimal text of a `u64`, in an array, so without an allocation. Its model in contracts is the list of its bytes.
+/// The decimal text of a `u64`: the array's bytes from the index `start` on. Those before are 0. Its model in contracts is the list of its digits.
 #[derive(Clone, Copy)]
 pub struct Decimal {
-    /// Zeros up to the index `start`, then the text.
     bytes: [u8; MOST_DECIMAL_DIGITS],
     start: usize,
 }

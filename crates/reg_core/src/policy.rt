@@ -1,5 +1,3 @@
-//! The policy of a register: the validities, lifetimes and table sizes that it allows.
-
 ghost use Rattle.std.specs.Prelude.{◌≡◌, ◌≤◌, ◌↔◌, IsSome, IfSome};
 ghost use Rattle.reg_core.specs.Policy.{IsPolicy};
 ghost use Rattle.reg_core.specs.Schedule.{IsSchedule, one_step};
@@ -14,10 +12,10 @@ const LONGEST_LIFE: u64 = 863_999;
 /// Eight hours, the minimum of the Baseline Requirements 4.9.10.
 const SHORTEST_OCSP_LIFE: u64 = 28_800;
 
-/// The most rows of a table that a policy may allow.
 const LARGEST_CAP: u64 = 1_000_000;
 
-/// The policy of a register. Lives are seconds from thisUpdate to nextUpdate; `cap` is the most rows of a table. Its model is the record `Terms`.
+/// The policy of a register: the longest validities, the lives of CRLs and OCSP responses (the seconds from thisUpdate to nextUpdate), and `cap`, the
+/// most rows of a table. The model in contracts is the record `Terms`.
 #[derive(Clone, Copy, PartialEq, Eq)]
 pub struct Policy {
     schedule: Schedule,
@@ -54,8 +52,8 @@ impl Model for Policy {
 }
 
 impl Policy {
-    /// The policy with a longest validity of 1 to 398 days at any notBefore, 1 to 863,999 seconds from thisUpdate to nextUpdate of CRLs and
-    /// 28,800 to 863,999 of OCSP responses, and a limit of 1 to 1,000,000 rows for each table; `None` if a value is out of its range.
+    /// The policy with a longest validity of 1 to 398 days at any notBefore, lives of 1 to 863,999 seconds for CRLs and 28,800 to 863,999 for OCSP
+    /// responses, and a limit of 1 to 1,000,000 rows for each table; `None` if a value is out of its range.
     pub fn new(longest_days: u64, crl_life: u64, ocsp_life: u64, cap: u64) -> Option<Policy>
         ensures some { IsSome result ↔ IsPolicy (record {
           schedule = one_step longest_days;
@@ -75,7 +73,7 @@ impl Policy {
         Policy::with(schedule, crl_life, ocsp_life, cap)
     }
 
-    /// As [`Policy::new`], but with a schedule of longest validities.
+    /// As [`Policy::new`], but with a schedule of longest validities, which depend on notBefore.
     pub fn with(schedule: Schedule, crl_life: u64, ocsp_life: u64, cap: u64) -> Option<Policy>
         ensures some { IsSome result ↔ IsPolicy (record {
           schedule = schedule;
@@ -90,7 +88,7 @@ impl Policy {
           cap = cap;
         }) }
     {
-        // Called only for its contract, which says that these are a schedule's steps.
+        // Called only for the contract of `steps`: the steps are those of a valid schedule. `with_schedule` does the same.
         let _steps = schedule.steps();
         let in_range = (1..=LONGEST_LIFE).contains(&crl_life)
             && (SHORTEST_OCSP_LIFE..=LONGEST_LIFE).contains(&ocsp_life)
@@ -118,12 +116,11 @@ impl Policy {
     pub fn with_schedule(self, schedule: Schedule) -> Policy
         ensures { result ≡ record self { schedule = schedule } }
     {
-        // Called only for its contract, which says that these are a schedule's steps.
         let _steps = schedule.steps();
         Policy { schedule, ..self }
     }
 
-    /// States that the values of a policy are in their ranges. It does nothing: only its contract matters.
+    /// Does nothing: its contract states that the values of a policy are in their ranges.
     pub fn prove_ranges(self)
         ensures { IsPolicy self }
     {}

@@ -1,5 +1,3 @@
-//! Why a command or query was not carried out.
-
 ghost use Rattle.std.specs.Prelude.{◌≡◌, ℕ, ◌+◌, ◌≤◌, ◌++◌, length};
 ghost use Rattle.reg_core.specs.Lines.{fault_line, refusal_line};
 
@@ -8,52 +6,40 @@ use crate::memory::Memory;
 use crate::moment::Moment;
 use crate::number::Decimal;
 
-/// A refusal: the register stays as it is.
+/// Why a command or query is refused; the register stays as it is. Its code, such as E01, begins its [`line`](Refusal::line).
 #[derive(Clone, Copy, PartialEq, Eq)]
 pub enum Refusal {
-    /// E01: the moment is before the last accepted one.
+    // E01: the moment is before the last accepted one, `last`. E02: it is 9999-12-22T00:00:00Z or later, so a nextUpdate might be no moment.
     ClockBack { last: Moment },
-    /// E02: the moment is 9999-12-22T00:00:00Z or later, so a nextUpdate might be no moment.
     ClockEnd,
     /// E03: the table that would grow has reached the policy's limit of rows.
     Full,
     /// E04: the name has a byte that is not a letter, digit, dot, hyphen or underscore.
     BadName,
-    /// E05: the subscriber with this id has the name.
+    // E05: the subscriber with this id has the name already. E06: no subscriber has the id.
     NameTaken { id: u64 },
-    /// E06: there is no such subscriber.
     NoSubscriber,
-    /// E07: the days are 0, or more than `most`, the most that any step of the schedule allows.
+    /// E07: the days of an order are 0, or more than `most`, the most that any step of the schedule allows.
     BadDays { most: u64 },
-    /// E08: there is no such order.
+    // E08: no order has the id. E09: a certificate fills the order already. E10: another certificate has the serial number.
     NoOrder,
-    /// E09: the order has a certificate already.
     OrderFilled,
-    /// E10: another certificate has the serial number.
     SerialTaken,
-    /// E11: notAfter is before notBefore.
+    // E11: notAfter is before notBefore. E12: a longer validity than ordered or than the policy allows. E13: notAfter is before the command's moment.
     BadValidity,
-    /// E12: the validity is longer than was ordered, or than the policy allows.
     TooLong,
-    /// E13: notAfter is before the moment of the command.
     Ended,
-    /// E14: no certificate has the serial number.
+    // E14: no certificate has the serial number. E15: the ground is `hold`, but no certificate is put on hold. E16: no ground has the name.
     UnknownSerial,
-    /// E15: the ground is `hold`, and no certificate is put on hold.
     NoHold,
-    /// E16: the word is not the name of a ground of revocation.
     BadGround,
-    /// E17: there is no such request.
+    // E17: no request has the id. E18: the request was declined. E19: the certificate was revoked at `at`. E20: it is past notAfter.
     NoRequest,
-    /// E18: the request was declined.
     DeclinedBefore,
-    /// E19: the serial number is revoked.
     RevokedBefore { at: Moment },
-    /// E20: the certificate is past notAfter.
     Expired,
-    /// E21: no CRL was issued, or none with this number.
+    // E21: no CRL was issued, or none with this number. E22: the line, the row of an import, or the path or body of an HTTP request can't be read.
     NoCrl,
-    /// E22: the line, row, path or body can't be read.
     Syntax,
 }
 
@@ -61,15 +47,12 @@ pub enum Refusal {
 #[derive(Clone, Copy, PartialEq, Eq)]
 pub enum Fault {
     Refused(Refusal),
-    /// F1: out of memory.
+    // F1: out of memory. F2: the store (the SQL tables) failed, or has an invalid value. F3: the signer failed. F4: the input, the clock or a socket
+    // failed, or the input is longer than allowed. F5: the output failed.
     Memory,
-    /// F2: the store failed, or has an invalid value.
     Store,
-    /// F3: the signer failed.
     Signer,
-    /// F4: the input, the clock or a socket failed, or the input is longer than allowed.
     Read,
-    /// F5: the output failed.
     Write,
 }
 
@@ -104,7 +87,7 @@ fn line_of(text: &[u8]) -> Label
 }
 
 impl Refusal {
-    /// The line of the refusal, without LF.
+    /// The line that reports the refusal, without LF.
     #[tactic(auto, unfolding(crate::specs::Lines::refusal_line))]
     pub fn line(&self) -> Label
         ensures { result ≡ refusal_line self.now }
@@ -143,7 +126,7 @@ impl Refusal {
 }
 
 impl Fault {
-    /// The line of the fault, without LF.
+    /// The line that reports the fault, without LF.
     #[tactic(auto, unfolding(crate::specs::Lines::fault_line))]
     pub fn line(&self) -> Label
         ensures { result ≡ fault_line self.now }

@@ -1,4 +1,4 @@
-//! The rows of the register's tables.
+//! The rows of the register's tables. The ids of subscribers, of orders and of requests are 1, 2, 3 and so on, in the order of entry.
 
 ghost use Rattle.std.specs.Prelude.{◌≡◌, ℕ, ◌<◌};
 ghost use Rattle.reg_core.specs.Calendar.{clock_end};
@@ -13,41 +13,33 @@ use crate::serial::Serial;
 /// A subscriber, which orders certificates.
 #[derive(Clone, Copy, PartialEq, Eq)]
 pub struct SubscriberRow {
-    /// 1, 2, 3 and so on, in the order of entry.
     pub id: u64,
     pub name: Label,
 }
 
-/// An order for one certificate.
+/// An order for one certificate. `subscriber` is the id of the subscriber who ordered, `days` the longest validity that was ordered.
 #[derive(Clone, Copy, PartialEq, Eq)]
 pub struct OrderRow {
-    /// 1, 2, 3 and so on, in the order of entry.
     pub id: u64,
-    /// The id of the subscriber who ordered.
     pub subscriber: u64,
-    /// The longest validity that was ordered, in days.
     pub days: u64,
 }
 
-/// A registered certificate: its serial number and its validity (RFC 5280 4.1.2.2, 4.1.2.5).
+/// A registered certificate (RFC 5280 4.1.2.2, 4.1.2.5). `order` is the id of the order that it fills, `not_after` its last valid second.
 #[derive(Clone, Copy, PartialEq, Eq)]
 pub struct CertRow {
     pub serial: Serial,
-    /// The id of the order that it fills.
     pub order: u64,
     pub not_before: Moment,
-    /// The last second at which the certificate is valid.
     pub not_after: Moment,
 }
 
-/// A request for revocation.
+/// A request for revocation, on a ground (why the certificate is to be revoked). `received` is the moment of the command that entered it.
 #[derive(Clone, Copy, PartialEq, Eq)]
 pub struct RequestRow {
-    /// 1, 2, 3 and so on, in the order of entry.
     pub id: u64,
     pub serial: Serial,
     pub ground: Ground,
-    /// The moment of the command that entered the request.
     pub received: Moment,
     pub declined: bool,
 }
@@ -62,47 +54,38 @@ impl RequestRow {
     }
 }
 
-/// A revocation.
+/// A revocation. `at` is its moment (revocationDate, RFC 5280 5.1.2.6), `reason` the reasonCode (5.3.1), `request` the id of the request that led to
+/// it, and `first` the number of the first CRL that lists it, which may not be issued yet.
 #[derive(Clone, Copy, PartialEq, Eq)]
 pub struct RevocationRow {
     pub serial: Serial,
-    /// The moment of revocation (revocationDate, RFC 5280 5.1.2.6).
     pub at: Moment,
-    /// The reasonCode (RFC 5280 5.3.1).
     pub reason: u8,
-    /// The id of the request that led to it.
     pub request: u64,
-    /// The number of the first CRL that lists it, which may not be issued yet.
     pub first: u64,
 }
 
-/// An issued CRL, without its bytes.
+/// An issued CRL, without its bytes: its CRL number (RFC 5280 5.2.3), which is 1, 2, 3 and so on, and its thisUpdate (5.1.2.4).
 #[derive(Clone, Copy, PartialEq, Eq)]
 pub struct CrlRow {
-    /// The CRL number (RFC 5280 5.2.3): 1, 2, 3 and so on.
     pub number: u64,
-    /// thisUpdate (RFC 5280 5.1.2.4).
     pub this_update: Moment,
 }
 
-/// One entry of a CRL (revokedCertificates, RFC 5280 5.1.2.6).
+/// One entry of a CRL (revokedCertificates, RFC 5280 5.1.2.6): `at` is revocationDate, `reason` the reasonCode (5.3.1).
 #[derive(Clone, Copy, PartialEq, Eq)]
 pub struct Entry {
     pub serial: Serial,
-    /// revocationDate.
     pub at: Moment,
-    /// reasonCode (RFC 5280 5.3.1).
     pub reason: u8,
 }
 
-/// What each decision takes besides the looked-up rows and the command's own fields. To decline or revoke, `policy` and `held` are not used.
+/// What a decision (`decide.rt`) takes besides looked-up rows and the command's fields: the command's moment, `now`; the last accepted one, `last`;
+/// the policy; and `held`, how many rows the table has that the command adds to. `revoke` and `decline` use only the moments: they are never `Full`.
 #[derive(Clone, Copy, PartialEq, Eq)]
 pub struct Head {
-    /// The moment of the command.
     pub now: Moment,
-    /// The last accepted moment.
     pub last: Moment,
     pub policy: Policy,
-    /// The number of rows in the table to which the command would add a row.
     pub held: u64,
 }

@@ -5,18 +5,16 @@ ghost use Rattle.std.specs.List.{AllByRecursion};
 use crate::moment::Moment;
 use std::marker::Model;
 
-/// The most steps of a schedule. It has an array of this length, and no `Vec`, so that a policy is `Copy`.
+/// The most steps of a schedule, and the length of its array (no `Vec`, so that it is `Copy`). Each unused element has 0 days at moment 0.
 const MAX_STEPS: usize = 16;
 
-/// The longest validity in days that a step may allow: the first limit in the CA/Browser Forum Baseline Requirements 6.3.2.
+/// The longest validity in days that a step may allow: the limit of CA/Browser Forum Baseline Requirements 6.3.2 for issuance before 2026-03-15.
 const MAX_DAYS: u64 = 398;
 
-/// A schedule of longest validities, as the CA/Browser Forum Baseline Requirements 6.3.2 lower them by date: 1 to 16 steps. Each is a moment and the
-/// longest validity, 1 to 398 days, of certificates with a notBefore from that moment to the next step's. The first step is at moment 0, and the
-/// moments ascend strictly. Its model in contracts is the list of the steps.
+/// A schedule of longest validities: 1 to 16 steps, with strictly ascending moments, the first [`Moment::EPOCH`]. A step is a moment, and the longest
+/// validity (1 to 398 days) of certificates with a notBefore from that moment on, but before the next step's. Contracts see the list of the steps.
 #[derive(Clone, Copy)]
 pub struct Schedule {
-    /// The steps, then padding: 0 days at moment 0.
     steps: [(Moment, u64); MAX_STEPS],
     len: usize,
 }
@@ -88,7 +86,7 @@ impl Schedule {
         &self.steps[..self.len]
     }
 
-    /// The longest validity in days of a certificate with this notBefore: the days of the last step that is not after it.
+    /// The longest validity in days of a certificate whose notBefore is `moment`: the days of the last step that begins at `moment` or before.
     pub fn longest(&self, moment: Moment) -> u64
         ensures days { result ≡ longest_at self.now moment }
         ensures at_least_1 { 1 ≤ result }

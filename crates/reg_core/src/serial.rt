@@ -1,5 +1,3 @@
-//! Serial numbers of certificates.
-
 ghost use Rattle.std.specs.Prelude.{◌≡◌, ◌≢◌, ℕ, ◌+◌, ◌*◌, ◌^◌, ◌<◌, ◌≤◌, ◌==◌, ◌↔◌, IsTrue, length, IfSome, IfNone, MatchOption, SomeIff};
 ghost use Rattle.std.specs.Str.Parse.{AllDigits, digits_value};
 ghost use Rattle.std.specs.Ordering.{nat_cmp, as_partial_cmp};
@@ -16,20 +14,17 @@ use std::marker::Model;
 /// The number of bytes that [`Serial::bytes20`] returns.
 const BYTES: usize = 20;
 
-/// The number of bytes of the lowest 128 bits.
+/// The number of bytes of `low`, the lowest 128 bits of a [`Serial`].
 const LOW_BYTES: usize = 16;
 
-/// The most hexadecimal digits of a serial number in [`Serial::read`].
 const MOST_DIGITS: usize = 2 * BYTES;
 
 const LOW_DIGITS: usize = 2 * LOW_BYTES;
 
-/// A certificate's serial number, from 1 to 2^159 - 1 (RFC 5280 4.1.2.2). Its model in contracts is the number.
+/// A certificate's serial number, from 1 to 2^159 - 1 (RFC 5280 4.1.2.2): `high` * 2^128 + `low`. Its model in contracts is the number.
 #[derive(Clone, Copy)]
 pub struct Serial {
-    /// The bits above the lowest 128.
     high: u32,
-    /// The lowest 128 bits.
     low: u128,
 }
 
@@ -147,7 +142,6 @@ impl Serial {
         text
     }
 
-    /// The serial number in at most 20 big-endian bytes. `None` for more bytes, and for a number out of range.
     fn from_big_endian(bytes: &[u8]) -> Option<Serial>
         ensures { SomeIff result ((length bytes.now ≤ 20) × IsSerial (value bytes.now)) (value bytes.now) }
     {
@@ -187,7 +181,6 @@ fn is_shortest(octets: &[u8]) -> bool
     }
 }
 
-/// The number in at most 16 big-endian bytes.
 fn big_endian(bytes: &[u8]) -> u128
     requires { length bytes.now ≤ 16 }
     ensures { result ≡ value bytes.now }

@@ -1,5 +1,3 @@
-//! The status of a serial number, and when the next CRL is due.
-
 ghost use Rattle.std.specs.Prelude.{◌≡◌, ℕ, ◌<◌, IfSome};
 ghost use Rattle.reg_core.specs.Calendar.{clock_end};
 ghost use Rattle.reg_core.specs.Status.{status_by};
@@ -10,12 +8,12 @@ use crate::moment::Moment;
 use crate::policy::Policy;
 use crate::rows::{CertRow, CrlRow, RevocationRow};
 
-/// A week: the next CRL is due at most this long after thisUpdate of the latest one (CA/Browser Forum Baseline Requirements 4.9.7).
+/// The next CRL is due at most a week after thisUpdate of the latest one (CA/Browser Forum Baseline Requirements 4.9.7).
 const SECONDS_OF_WEEK: u64 = 604_800;
-/// A day: the next CRL is due at most this long after a revocation that no CRL has listed (Baseline Requirements 4.9.7).
+/// The next CRL is due at most a day after a revocation that no CRL has listed (Baseline Requirements 4.9.7).
 const SECONDS_OF_DAY: u64 = 86_400;
 
-/// The status at `now`: `Unknown` without a certificate, else `Revoked` with a revocation, else `Expired` after notAfter, else `Good`.
+/// The status of a serial number at `now`. `certificate` and `revocation` are those with this serial number, each `None` if there is none.
 pub fn status_of(
     now: Moment,
     certificate: Option<CertRow>,
@@ -34,8 +32,8 @@ pub fn status_of(
     }
 }
 
-/// When the next CRL is due: a week after thisUpdate of the latest one, at its nextUpdate (RFC 5280 5.1.2.5), or a day after `earliest_unlisted`, the
-/// earliest revocation that no CRL has listed, whichever is first. `None` if there is no CRL: then one is due at once.
+/// When the next CRL is due, whichever is first: a week after thisUpdate of the latest one; its nextUpdate; or a day after `earliest_unlisted`, the
+/// moment of the earliest revocation that no CRL has listed. `None` if there is no CRL: then one is due at once.
 pub fn due_of(
     policy: &Policy,
     latest: Option<CrlRow>,

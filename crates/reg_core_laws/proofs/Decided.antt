@@ -61,9 +61,9 @@ says None IsAnswer (Err told) decides = absurd decides
 says None IsAnswer (Ok answer) decides = (refl, decides)
 
 -- what is told of a command: the refusal that applies, or that it is accepted so
-abbrev pub Told : {Answer : Type 0} → (CertList → List ℕ → Type 0) → Records → ℕ → Command → (Answer → Type 0) → Result Answer Refusal → Type 0
-Told signed records now command IsAccepted (Err refused) = Refuses signed records now command refused
-Told signed records now command IsAccepted (Ok answer) = IsAccepted answer
+abbrev pub RevocationsOnCrls : {Answer : Type 0} → (CertList → List ℕ → Type 0) → Records → ℕ → Command → (Answer → Type 0) → Result Answer Refusal → Type 0
+RevocationsOnCrls signed records now command IsAccepted (Err refused) = Refuses signed records now command refused
+RevocationsOnCrls signed records now command IsAccepted (Ok answer) = IsAccepted answer
 
 module _ (signed : CertList → List ℕ → Type 0) (records : Records) (now : ℕ) (command : Command) where
   -- the refusal that applies is what a step answers
@@ -85,19 +85,19 @@ module _ (signed : CertList → List ℕ → Type 0) (records : Records) (now : 
 
   -- what follows from what was decided
   told : {Answer : Type 0} (IsAnswer IsAccepted : Answer → Type 0) (result : Result Answer Refusal) → IsDecidedBy (refusal records now command) IsAnswer result
-      → ((answer : Answer) → refusal records now command ≡ None → IsAnswer answer → IsAccepted answer) → Told signed records now command IsAccepted result
+      → ((answer : Answer) → refusal records now command ≡ None → IsAnswer answer → IsAccepted answer) → RevocationsOnCrls signed records now command IsAccepted result
   told IsAnswer IsAccepted (Err refused) decides accepted = step_refused refused (says (refusal records now command) IsAnswer (Err refused) decides)
   told IsAnswer IsAccepted (Ok answer) decides accepted = let is = says (refusal records now command) IsAnswer (Ok answer) decides in accepted answer is.0 is.1
 
 -- a row that was looked up and is there, with its number, as a decision speaks of it
-known_of : {Row : Type 0} (key : Row → ℕ) (rows : List Row) (sought : ℕ) (P : Row → Type 0) → IsSome (find (λ row. key row == sought) rows)
-    → IfSome (find (λ row. key row == sought) rows) P → (known : Row) × (find (λ row. key row == sought) rows ≡ Some known) × (key known ≡ sought) × P known
-known_of {Row} key rows sought P = go (find (λ row. key row == sought) rows) refl
+known_of : {Row : Type 0} (key : Row → ℕ) (rows : List Row) (target : ℕ) (P : Row → Type 0) → IsSome (find (λ row. key row == target) rows)
+    → IfSome (find (λ row. key row == target) rows) P → (known : Row) × (find (λ row. key row == target) rows ≡ Some known) × (key known ≡ target) × P known
+known_of {Row} key rows target P = go (find (λ row. key row == target) rows) refl
   where
-    go : (found : Option Row) → find (λ row. key row == sought) rows ≡ found → IsSome found → IfSome found P
-        → (known : Row) × (find (λ row. key row == sought) rows ≡ Some known) × (key known ≡ sought) × P known
+    go : (found : Option Row) → find (λ row. key row == target) rows ≡ found → IsSome found → IfSome found P
+        → (known : Row) × (find (λ row. key row == target) rows ≡ Some known) × (key known ≡ target) × P known
     go None is some holds = cc
-    go (Some known) is some holds = (known, is, key_found key rows sought known is, holds)
+    go (Some known) is some holds = (known, is, key_found key rows target known is, holds)
 
 -- SUBSCRIBERS
 
@@ -107,7 +107,7 @@ pub record AcceptsSubscriber (signed : CertList → List ℕ → Type 0) (record
   pub accepts : Accepts signed records now (Subscriber name) (SubscriberEntered row.id) (with_subscriber records now row)
 
 abbrev pub SubscriberSays : (CertList → List ℕ → Type 0) → Records → ℕ → List ℕ → Result SubscriberRow Refusal → Type 0
-SubscriberSays signed records now name result = Told signed records now (Subscriber name) (AcceptsSubscriber signed records now name) result
+SubscriberSays signed records now name result = RevocationsOnCrls signed records now (Subscriber name) (AcceptsSubscriber signed records now name) result
 
 -- a head, one look-up and the decision
 pub subscriber_decided : (signed : CertList → List ℕ → Type 0) (records : Records) (now : ℕ) (head : Head) (name : List ℕ)
@@ -127,7 +127,7 @@ pub record AcceptsOrder (signed : CertList → List ℕ → Type 0) (records : R
   pub accepts : Accepts signed records now (Order subscriber days) (OrderEntered row.id) (with_order records now row)
 
 abbrev pub OrderSays : (CertList → List ℕ → Type 0) → Records → ℕ → ℕ → ℕ → Result OrderRow Refusal → Type 0
-OrderSays signed records now subscriber days result = Told signed records now (Order subscriber days) (AcceptsOrder signed records now subscriber days) result
+OrderSays signed records now subscriber days result = RevocationsOnCrls signed records now (Order subscriber days) (AcceptsOrder signed records now subscriber days) result
 
 -- a head, one look-up and the decision
 pub order_decided : (signed : CertList → List ℕ → Type 0) (records : Records) (now : ℕ) (head : Head) (subscriber days : ℕ)
@@ -152,7 +152,7 @@ pub record AcceptsRequest (signed : CertList → List ℕ → Type 0) (records :
   pub accepts : Accepts signed records now (Request serial word) (RequestEntered row.id (deadline row)) (with_request records now row)
 
 abbrev pub RequestSays : (CertList → List ℕ → Type 0) → Records → ℕ → ℕ → List ℕ → Result RequestRow Refusal → Type 0
-RequestSays signed records now serial word result = Told signed records now (Request serial word) (AcceptsRequest signed records now serial word) result
+RequestSays signed records now serial word result = RevocationsOnCrls signed records now (Request serial word) (AcceptsRequest signed records now serial word) result
 
 -- the ground that is found, or a refusal
 abbrev or_told : Refusal → Option Ground → Result Ground Refusal
@@ -208,7 +208,7 @@ pub record AcceptsDecline (signed : CertList → List ℕ → Type 0) (records :
   pub accepts : Accepts signed records now (Decline id) Declined (with_declined records now id)
 
 abbrev pub DeclineSays : (CertList → List ℕ → Type 0) → Records → ℕ → ℕ → Result RequestRow Refusal → Type 0
-DeclineSays signed records now id result = Told signed records now (Decline id) (AcceptsDecline signed records now id) result
+DeclineSays signed records now id result = RevocationsOnCrls signed records now (Decline id) (AcceptsDecline signed records now id) result
 
 -- a request that a command settles is there
 settles : (records : Records) (now id : ℕ) → refusal records now (Decline id) ≡ None → IsSome (request_in records.requests id)
@@ -245,7 +245,7 @@ pub record AcceptsRevocation (signed : CertList → List ℕ → Type 0) (record
   pub accepts : Accepts signed records now (Revoke id) (RevokedNow answer.1) (with_revocation records now answer.0)
 
 abbrev pub RevokeSays : (CertList → List ℕ → Type 0) → Records → ℕ → ℕ → Result (RevocationRow × Bool) Refusal → Type 0
-RevokeSays signed records now id result = Told signed records now (Revoke id) (AcceptsRevocation signed records now id) result
+RevokeSays signed records now id result = RevocationsOnCrls signed records now (Revoke id) (AcceptsRevocation signed records now id) result
 
 -- a head, the request, what was looked up by its serial number, the latest CRL, and the decision
 pub revoke_decided : (signed : CertList → List ℕ → Type 0) (records : Records) (now : ℕ) (head : Head) (held id : ℕ)
@@ -284,7 +284,7 @@ pub record AcceptsCrl (signed : CertList → List ℕ → Type 0) (records : Rec
       → Step signed records now IssueCrl (Ok (CrlIssued row.number (length (listed_revocations records row.number)))) after
 
 abbrev pub CrlSays : (CertList → List ℕ → Type 0) → Records → ℕ → Result CrlRow Refusal → Type 0
-CrlSays signed records now result = Told signed records now IssueCrl (AcceptsCrl signed records now) result
+CrlSays signed records now result = RevocationsOnCrls signed records now IssueCrl (AcceptsCrl signed records now) result
 
 -- a head, the latest CRL and the decision
 pub crl_decided : (signed : CertList → List ℕ → Type 0) (records : Records) (now : ℕ) (head : Head) (newest : Option CrlRow)
@@ -325,7 +325,7 @@ AcceptsRegister signed records now wanted None = AcceptsSame signed records now 
 AcceptsRegister signed records now wanted (Some row) = AcceptsRegistration signed records now wanted row
 
 abbrev pub RegisterSays : (CertList → List ℕ → Type 0) → Records → ℕ → CertRow → Result (Option CertRow) Refusal → Type 0
-RegisterSays signed records now wanted result = Told signed records now (register wanted) (AcceptsRegister signed records now wanted) result
+RegisterSays signed records now wanted result = RevocationsOnCrls signed records now (register wanted) (AcceptsRegister signed records now wanted) result
 
 -- a head, three look-ups and the decision, over sound records
 pub register_decided : (signed : CertList → List ℕ → Type 0) (records : Records) (now : ℕ) (head : Head) (wanted : CertRow)

@@ -15,6 +15,6 @@ pub mod Lists
 pub mod Outcomes
 pub mod Revoked
 pub mod Runs
-pub mod Told
+pub mod RevocationsOnCrls
 pub mod Worked
 pub mod PublicLaws

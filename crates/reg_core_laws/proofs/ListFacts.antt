@@ -29,14 +29,14 @@ keys_map key f [] differ = tt
 keys_map key f (first ∷ rest) differ = (all_map _ f rest differ.0, keys_map key f rest differ.1)
 
 -- among the rows that are kept, a key is found where the row that it finds among all is kept
-pub any_with_key : {Row : Type 0} (key : Row → ℕ) (keep : Row → Bool) (sought : ℕ) (rows : List Row) (found : Row) → KeysDiffer key rows
-    → find (λ row. key row == sought) rows ≡ Some found
-    → list_any (λ row. key row == sought) (filter keep rows) ≡ keep found
-any_with_key key keep sought [] found differ is = cc
-any_with_key key keep sought (first ∷ rest) found differ is =
-    grind (arith, nat_tests, no_other, any_with_key key keep sought rest found differ.1)
+pub any_with_key : {Row : Type 0} (key : Row → ℕ) (keep : Row → Bool) (target : ℕ) (rows : List Row) (found : Row) → KeysDiffer key rows
+    → find (λ row. key row == target) rows ≡ Some found
+    → list_any (λ row. key row == target) (filter keep rows) ≡ keep found
+any_with_key key keep target [] found differ is = cc
+any_with_key key keep target (first ∷ rest) found differ is =
+    grind (arith, nat_tests, no_other, any_with_key key keep target rest found differ.1)
   where
-    no_other : key first ≡ sought → list_any (λ row. key row == sought) (filter keep rest) ≡ false
+    no_other : key first ≡ target → list_any (λ row. key row == target) (filter keep rest) ≡ false
     no_other same = any_kept _ keep rest (any_none _ rest (all_weaker _ _ (λ row differs. grind (arith, nat_tests)) rest differ.0))
 
 pub numbered_back : {Row : Type 0} (number : Row → ℕ) (from : ℕ) (rows more : List Row) → NumberedFrom number from (rows ++ more)

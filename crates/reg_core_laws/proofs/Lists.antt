@@ -233,20 +233,20 @@ few_keys key from (suc m) rows differ above below =
 -- LOOK-UPS BY A NUMBER
 
 -- the row that a key finds has the key
-pub key_found : {Row : Type 0} (key : Row → ℕ) (rows : List Row) (sought : ℕ) (row : Row) → find (λ other. key other == sought) rows ≡ Some row
-    → key row ≡ sought
-key_found key rows sought row found = grind (arith, nat_tests, find_passes (λ other. key other == sought) rows row found)
+pub key_found : {Row : Type 0} (key : Row → ℕ) (rows : List Row) (target : ℕ) (row : Row) → find (λ other. key other == target) rows ≡ Some row
+    → key row ≡ target
+key_found key rows target row found = grind (arith, nat_tests, find_passes (λ other. key other == target) rows row found)
 
 -- a key that finds no row is none of theirs
-pub key_new : {Row : Type 0} (key : Row → ℕ) (rows : List Row) (sought : ℕ) → find (λ other. key other == sought) rows ≡ None
-    → AllByRecursion (λ row. key row ≢ sought) rows
-key_new key rows sought none = all_weaker _ _ (λ row fails. grind (arith, nat_tests)) rows (none_passes _ rows none)
+pub key_new : {Row : Type 0} (key : Row → ℕ) (rows : List Row) (target : ℕ) → find (λ other. key other == target) rows ≡ None
+    → AllByRecursion (λ row. key row ≢ target) rows
+key_new key rows target none = all_weaker _ _ (λ row fails. grind (arith, nat_tests)) rows (none_passes _ rows none)
 
 -- where its key is free, a row that comes behind is found by it, and no other look-up changes
-pub key_pushed : {Row : Type 0} (key : Row → ℕ) (rows : List Row) (row : Row) (sought : ℕ) → find (λ other. key other == key row) rows ≡ None
-    → find (λ other. key other == sought) (rows ++ row ∷ []) ≡ cond (key row == sought) (Some row) (find (λ other. key other == sought) rows)
-key_pushed key [] row sought free = refl
-key_pushed key (first ∷ rest) row sought free = grind (arith, nat_tests, key_pushed key rest row sought)
+pub key_pushed : {Row : Type 0} (key : Row → ℕ) (rows : List Row) (row : Row) (target : ℕ) → find (λ other. key other == key row) rows ≡ None
+    → find (λ other. key other == target) (rows ++ row ∷ []) ≡ cond (key row == target) (Some row) (find (λ other. key other == target) rows)
+key_pushed key [] row target free = refl
+key_pushed key (first ∷ rest) row target free = grind (arith, nat_tests, key_pushed key rest row target)
 
 -- OPTIONS
 

@@ -1,8 +1,7 @@
-//! Worked examples over the definitions. The prover computes each example, and rejects one that doesn't agree with the definitions.
-
 ghost use Rattle.reg_core_laws.specs.Examples.{ANewRegisterIsEmpty, TheLongestValidity, ASecondRegisterIsTheSame, NotAfterIsTheLastGoodSecond, TimeMovesTheCounts, TheDeadlineIsInTime, ASecondLaterIsLate, EachCrlListsARevocation, TheLastListingIsPastTheEnd, ALateCrlListsOnce, OneRevocationOfASerialNumber, TheNextCrlIsDue, TheNextCrlIsDueByNextUpdate, EachGroundHasItsLimitAndReason, AFullTableTakesNoMore, ADeclinedRequestStaysSo, EachRefusalHasItsCase, TheClockEnds, TheScheduleGoesByNotBefore};
 
-/// Example days of a register: the outcome of each command, the answer to each query, and the entries of CRLs. The function does nothing.
+/// Example days of a register: outcomes of commands, answers to queries, and entries of CRLs. The function does nothing: its contract is the
+/// examples. The prover computes each, and rejects one that doesn't agree with the definitions of reg_core.
 pub fn worked_examples()
     ensures a_new_register_is_empty { ANewRegisterIsEmpty }
     ensures the_longest_validity { TheLongestValidity }

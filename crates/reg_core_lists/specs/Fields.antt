@@ -163,7 +163,7 @@ abbrev pub row_fields : Row → List (List ℕ × Cell)
 row_fields (kind.Certificate line) = certificate_fields line
 row_fields (kind.Revoked line) = revoked_fields line
 row_fields (kind.Request line) = request_fields line
-row_fields (kind.History history) = request_with_state_fields history
+row_fields (kind.AnyRequest history) = request_with_state_fields history
 row_fields (kind.Subscriber subscriber) = subscriber_fields subscriber
 row_fields (kind.Order line) = order_fields line
 row_fields (kind.Crl crl) = crl_fields crl

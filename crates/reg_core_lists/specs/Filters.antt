@@ -7,7 +7,7 @@ use Rattle.reg_core_lists.specs.declared.cursor.Cursor.{Cursor}
 use Rattle.reg_core_lists.specs.declared.cursor.Cursor.TheVariants as cursor
 use Rattle.reg_core_lists.specs.declared.filter.Filter.{Filter}
 use Rattle.reg_core_lists.specs.declared.rows.Row.{Row}
-use Rattle.reg_core_lists.specs.declared.rows.Row.TheVariants.{Certificate, Revoked, Request, History, Subscriber, Order, Crl}
+use Rattle.reg_core_lists.specs.declared.rows.Row.TheVariants.{Certificate, Revoked, Request, AnyRequest, Subscriber, Order, Crl}
 
 -- the filter without conditions, which all rows pass
 abbrev pub all_rows : Filter
@@ -20,7 +20,7 @@ abbrev pub name_of_row : Row → Option (List ℕ)
 name_of_row (Certificate line) = Some line.subscriber.name
 name_of_row (Revoked line) = Some line.certificate.subscriber.name
 name_of_row (Request line) = Some line.subscriber.name
-name_of_row (History history) = Some history.request.subscriber.name
+name_of_row (AnyRequest history) = Some history.request.subscriber.name
 name_of_row (Subscriber subscriber) = Some subscriber.name
 name_of_row (Order line) = Some line.subscriber.name
 name_of_row (Crl crl) = None
@@ -30,7 +30,7 @@ abbrev pub serial_of_row : Row → Option ℕ
 serial_of_row (Certificate line) = Some line.certificate.serial
 serial_of_row (Revoked line) = Some line.revocation.serial
 serial_of_row (Request line) = Some line.request.serial
-serial_of_row (History history) = Some history.request.request.serial
+serial_of_row (AnyRequest history) = Some history.request.request.serial
 serial_of_row (Subscriber subscriber) = None
 serial_of_row (Order line) = line.serial
 serial_of_row (Crl crl) = None
@@ -40,7 +40,7 @@ abbrev pub time_of_row : Row → Option ℕ
 time_of_row (Certificate line) = Some line.certificate.not_before
 time_of_row (Revoked line) = Some line.revocation.at
 time_of_row (Request line) = Some line.request.received
-time_of_row (History history) = Some history.request.request.received
+time_of_row (AnyRequest history) = Some history.request.request.received
 time_of_row (Subscriber subscriber) = None
 time_of_row (Order line) = None
 time_of_row (Crl crl) = Some crl.this_update

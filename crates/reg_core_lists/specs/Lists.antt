@@ -144,7 +144,7 @@ overdue_row records now request = cond (nat_lt (deadline request) now) (open_row
 -- the row for any request
 abbrev pub history_row : Records → ℕ → RequestRow → Option Row
 history_row records now request =
-    option_map (λ history. kind.History history) (request_with_state records now request)
+    option_map (λ history. kind.AnyRequest history) (request_with_state records now request)
 
 abbrev pub subscriber_row : SubscriberRow → Option Row
 subscriber_row subscriber = Some (kind.Subscriber subscriber)

@@ -1,5 +1,5 @@
 -- A page of the changes feed as it is received: its text, and which pages can be read.
-use Rattle.std.specs.Prelude.{◌≡◌, ℕ, ◌^◌, ◌<◌, false, List, [], ◌∷◌, ◌++◌, codes, flat_map, length, Option, Some, None, option_map, Result, Ok, Err}
+use Rattle.std.specs.Prelude.{◌≡◌, ℕ, ◌^◌, ◌<◌, false, List, [], ◌∷◌, ◌++◌, codes, flat_map, length, Option, Some, None, option_map, Result, Ok, Err, IfOk, IfSome, MatchOption}
 use Rattle.std.specs.List.{AllByRecursion}
 use Rattle.hex.specs.Hex.{IsBytes, encode_lower}
 use Rattle.reg_core.specs.Calendar.{IsMoment}
@@ -196,3 +196,11 @@ pub record ReadsRows (rows : RowLists) (text : List ℕ) : Type 0 where
 abbrev pub ReadsAs : Result ReceivedPage PageFault → Received → Type 0
 ReadsAs (Ok read) page = received_of read ≡ page
 ReadsAs (Err fault) page = fault ≡ Memory
+
+-- what a reader of a part has read, if it has read one
+abbrev pub IfRead : {A E : Type 0} → Result (Option A) E → (A → Type 0) → Type 0
+IfRead result P = IfOk result (λ found. IfSome found P)
+
+-- a reader has read a part, unless memory runs out; and what that part is
+abbrev pub MustRead : {A E : Type 0} → Result (Option A) E → (A → Type 0) → Type 0
+MustRead result P = IfOk result (λ found. MatchOption found ⊥ P)

@@ -3,22 +3,20 @@ ghost use Rattle.reg_core_lists.specs.Cursors.{cursor_named, cursor_past, list_n
 
 use reg_core::{Moment, Serial, read_number};
 
-/// A list, and the key (a serial number, an id or a CRL number, above 0) after which it continues; with `None` or 0, from its first row on.
+/// A list, and the key of the row after which it continues: a serial number, id or CRL number. Rows ascend by key. `None` or 0: from the first row.
 #[derive(Clone, Copy)]
 pub enum Cursor {
-    /// The revocations, in the order of their serial numbers.
     Revoked(Option<Serial>),
     Certificates(Option<Serial>),
-    /// The good certificates whose notAfter is before a moment, in the order of their serial numbers.
+    /// The good certificates whose notAfter is before the moment `before`.
     Ending {
         before: Moment,
         after: Option<Serial>,
     },
-    /// The open requests (not declined, and the certificate neither revoked nor expired), in the order of their ids.
+    /// The requests that are not declined, and whose certificate is neither revoked nor expired.
     OpenRequests(u64),
-    /// The open requests whose deadline is past, in the order of their ids.
+    /// The open requests that are past their deadline.
     Overdue(u64),
-    /// All requests, in the order of their ids.
     Requests(u64),
     Subscribers(u64),
     Orders(u64),
@@ -26,7 +24,7 @@ pub enum Cursor {
 }
 
 impl Cursor {
-    /// The list with this name, from its first row on. `None` for an unknown name, for `ending` without `before`, and for another list with it.
+    /// The list with this name, from its first row on. `None` for an unknown name, for `ending` without `before`, and for another list with `before`.
     pub fn named(name: &[u8], before: Option<Moment>) -> Option<Cursor>
         ensures { result ≡ cursor_named name.now before }
     {
@@ -36,8 +34,7 @@ impl Cursor {
         }
     }
 
-    /// The same list, after the row with this key: 1 to 40 hexadecimal digits of a serial number, or 1 to 18 decimal digits
-    /// of an id or a CRL number. `None` for any other text.
+    /// The same list, after the row with this key: a serial number (1 to 40 hexadecimal digits), an id or a CRL number (1 to 18 digits). Else `None`.
     pub fn past(self, key: &[u8]) -> Option<Cursor>
         ensures { result ≡ cursor_past key.now self }
     {
@@ -74,7 +71,6 @@ impl Cursor {
     }
 }
 
-/// The list `ending`, the only one that takes a moment; `None` for another name.
 fn ending(name: &[u8], before: Moment) -> Option<Cursor>
     ensures { result ≡ cursor_named name.now (Some before) }
 {
@@ -88,7 +84,6 @@ fn ending(name: &[u8], before: Moment) -> Option<Cursor>
     }
 }
 
-/// The list with this name that takes no moment; `None` if there is none.
 fn without_moment(name: &[u8]) -> Option<Cursor>
     ensures { result ≡ cursor_named name.now None }
 {

@@ -1,4 +1,5 @@
-//! The rows of a page of the changes feed, their text, and the positions after them: how far a copy of the register has got.
+//! Pages of the changes feed, by which a copy of a register is kept up to date: the rows of a page, their text, and the positions after them, that is
+//! how far the copy has got. Calls that append to `out` give `AllocError` if out of memory: then `out` may have some of the bytes.
 
 ghost use Rattle.std.specs.Prelude.{◌≡◌, ◌+◌, codes, cond, length, option_map, IfOk, IfSome};
 ghost use Rattle.std.specs.List.{before_first, position};
@@ -12,20 +13,19 @@ use reg_core::{CertRow, CrlRow, OrderRow, RequestRow, RevocationRow, SubscriberR
 use sha2::{Digest, Sha256};
 use std::alloc::{AllocError, Global};
 
-/// The most rows of a page.
+/// The most rows of a page of the changes feed.
 pub const MOST_ROWS: u64 = 1_000;
 
-/// How many of the last octets of the last CRL, in which its signature ends, the digest of positions covers, at most.
+/// The digest in positions ([`digest_of`]) covers at most this many octets of the last CRL: its last ones, which are the end of its signature.
 const END_OCTETS: usize = 64;
 
-/// Rows of the changes feed, without CRLs.
+/// Rows of the changes feed, without CRLs. `declined` has the ids of declined requests.
 #[derive(Drop)]
 pub struct FeedRows {
     pub subscribers: Vec<SubscriberRow>,
     pub orders: Vec<OrderRow>,
     pub certificates: Vec<CertRow>,
     pub requests: Vec<RequestRow>,
-    /// The ids of declined requests.
     pub declined: Vec<u64>,
     pub revocations: Vec<RevocationRow>,
 }
@@ -38,7 +38,7 @@ pub struct FeedCrl {
 }
 
 impl FeedRows {
-    /// How many rows more fit into a page.
+    /// How many more rows fit into a page.
     pub fn room(&self) -> u64
         ensures { result ≡ room (feed_rows_of self.now) }
     {
@@ -51,7 +51,7 @@ impl FeedRows {
             .saturating_sub(self.revocations.len() as u64)
     }
 
-    /// Appends their lines. `AllocError` if out of memory: then `out` may have some of the bytes.
+    /// Appends the lines of the rows.
     #[tactic(auto, unfolding(crate::specs::Feed::feed_rows_text))]
     pub fn put(&self, out: &mut Vec<u8>) -> Result<(), AllocError>
         ensures { AppendsOnOk out.old out.new result (feed_rows_text (feed_rows_of self.now)) }
@@ -64,41 +64,41 @@ impl FeedRows {
         put_lines(out, &self.revocations)
     }
 
-    /// `counts` with these rows and `crls` CRLs added. `None` if a number is above 2^64 - 1.
+    /// The counts of rows in a copy that had `counts`, after these rows and `crls` CRLs. `None` if a number is above 2^64 - 1.
     pub fn counts_after(&self, counts: &RowCounts, crls: u64) -> Option<RowCounts>
         ensures { IfSome result (λ reached. reached ≡ counts_after counts.now (feed_rows_of self.now) crls) }
     {
         Some(RowCounts {
-            subscribers: after(counts.subscribers, &self.subscribers)?,
-            orders: after(counts.orders, &self.orders)?,
-            certificates: after(counts.certificates, &self.certificates)?,
-            requests: after(counts.requests, &self.requests)?,
-            revocations: after(counts.revocations, &self.revocations)?,
+            subscribers: count_after(counts.subscribers, &self.subscribers)?,
+            orders: count_after(counts.orders, &self.orders)?,
+            certificates: count_after(counts.certificates, &self.certificates)?,
+            requests: count_after(counts.requests, &self.requests)?,
+            revocations: count_after(counts.revocations, &self.revocations)?,
             crls: counts.crls.checked_add(crls)?,
         })
     }
 
-    /// `declines` with those of these rows added. `None` if a number is above 2^64 - 1.
+    /// The declines in a copy that had `declines`, after these rows (`last`: the last id in `declined`). `None` if the count is above 2^64 - 1.
     pub fn declines_after(&self, declines: &Declines) -> Option<Declines>
         ensures { IfSome result (λ reached. reached ≡ declines_after declines.now self.now.declined.items) }
     {
         Some(Declines {
-            count: after(declines.count, &self.declined)?,
+            count: count_after(declines.count, &self.declined)?,
             last: self.declined.last().copied().unwrap_or(declines.last),
         })
     }
 }
 
-/// `count` plus the number of these rows. `None` if that is above 2^64 - 1.
-fn after<T>(count: u64, rows: &[T]) -> Option<u64>
+fn count_after<T>(count: u64, rows: &[T]) -> Option<u64>
     ensures { IfSome result (λ number. number ≡ count + length rows.now) }
 {
     count.checked_add(rows.len() as u64)
 }
 
-/// The revocations before the first one whose `first` is above `crls` + 1. The copy has `crls` CRLs, and the next one comes before such a revocation.
+/// The revocations that a copy with `crls` CRLs gets before the next CRL, whose number is `crls` + 1. They end before the first row whose `first`
+/// (the number of the first CRL that lists it) is above that number.
 #[tactic(auto, using(crate::proofs::FeedCuts::cut_at, crate::proofs::FeedCuts::cut_nowhere))]
-pub fn before_later(mut rows: Vec<RevocationRow>, crls: u64) -> Vec<RevocationRow>
+pub fn revocations_until_next_crl(mut rows: Vec<RevocationRow>, crls: u64) -> Vec<RevocationRow>
     ensures { result.items ≡ before_first (is_later crls) rows.items }
 {
     match later_in(&rows, crls) {
@@ -119,17 +119,16 @@ fn later_in(rows: &[RevocationRow], crls: u64) -> Option<usize>
 #[derive(Drop)]
 pub struct FeedPage {
     rows: FeedRows,
-    /// The CRL, if the page has one: then it has no other row.
+    /// A page with a CRL has no other row.
     crl: Option<FeedCrl>,
-    /// Whether there is nothing after the page.
+    /// Whether nothing comes after the page. `counts` and `declines`: the positions after it, without their digest.
     ends: bool,
-    /// The positions after it, but for their digest.
     counts: RowCounts,
     declines: Declines,
 }
 
 impl FeedPage {
-    /// The page after the positions `counts` and `declines`: `rows`, or the CRL `next` if there are none. `None` if a number is above 2^64 - 1.
+    /// The page after the positions `counts` and `declines`: `rows`, or if there are none the next CRL, `next`. `None` if a number is above 2^64 - 1.
     pub fn of(
         rows: FeedRows,
         next: Option<FeedCrl>,
@@ -140,7 +139,7 @@ impl FeedPage {
             page_parts_of page ≡ page_parts (feed_rows_of rows) (option_map feed_crl_of next) counts.now declines.now) }
     {
         let room = rows.room();
-        // `next` comes after the rows, or is on this page and revocations may come after it. More rows may come after a full page.
+        // A full page isn't the end. A page before the CRL `next` isn't either, nor is the page with that CRL: revocations may follow it.
         let ends = next.is_none() && room > 0;
         let crl = if room == MOST_ROWS { next } else { None };
         let reached = rows.counts_after(counts, count_of(&crl))?;
@@ -161,7 +160,7 @@ impl FeedPage {
         &self.counts
     }
 
-    /// Appends the page, with the digest of the positions after it. `AllocError` if out of memory: then `out` may have some of the bytes.
+    /// Appends the page without its head. `digest` is that of the positions after it.
     #[tactic(auto, unfolding(crate::specs::Feed::page_parts_text))]
     pub fn put(&self, alloc: Global, out: &mut Vec<u8>, digest: [u8; 32]) -> Result<(), AllocError>
         ensures { AppendsOnOk out.old out.new result (page_parts_text (page_parts_of self.now) digest) }
@@ -195,7 +194,7 @@ fn put_crl_part(out: &mut Vec<u8>, crl: &Option<FeedCrl>) -> Result<(), AllocErr
     }
 }
 
-/// The last line: whether there is nothing after the page, and the positions after it.
+/// Appends the last line of a page: `end` if nothing comes after it (`ends`), else `more`; and the positions after it.
 #[tactic(auto, unfolding(crate::specs::Feed::last_line))]
 pub(crate) fn put_last_line(
     alloc: Global,
@@ -221,9 +220,8 @@ fn put_ending(out: &mut Vec<u8>, ends: bool) -> Result<(), AllocError>
     }
 }
 
-// ---- the digest of positions
-
-/// The digest of positions: the SHA-256 of the issuer's Name and key, the counts, the last rows of each table, and the end of the last CRL, `der`.
+/// The digest of positions: the SHA-256 of the issuer's Name (`name`, in DER) and the bits of its subjectPublicKey (`key`), the counts, the last
+/// counted rows of each table (`rows`, at most 32 of each: `WINDOW`), and the end of the last CRL (`der`; `None` if there is none).
 #[tactic(auto, unfolding(crate::specs::Feed::digest_text))]
 pub fn digest_of(
     alloc: Global,
@@ -233,7 +231,8 @@ pub fn digest_of(
     rows: &FeedRows,
     der: &Option<Vec<u8>>,
 ) -> Result<[u8; 32], AllocError>
-    ensures { IfOk result (λ digest. digest ≡ sha256 (digest_text name.now key.now counts.now (feed_rows_of rows.now)
+    ensures { IfOk result (λ digest. digest
+        ≡ sha256 (digest_text name.now key.now counts.now (feed_rows_of rows.now)
         (option_map (λ bytes. bytes.items) der.now))) }
 {
     let mut text = Vec::new(alloc);

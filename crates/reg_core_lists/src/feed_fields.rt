@@ -1,5 +1,5 @@
-//! Reads the fields of a line of the changes feed, and the lines that are no rows. It accepts more than a desk writes, such as numbers with leading
-//! zeros: `feed_reader.rt` then writes what was read, and refuses a page whose text differs.
+//! Reads lines of the changes feed (pages of rows, as text, for copies of a register) and their fields. Also reads some texts that no feed has, such
+//! as numbers with leading zeros. So `feed_reader.rt` writes each part of a page again from what was read, and refuses a page whose text differs.
 
 ghost use Rattle.std.specs.Prelude.{◌≡◌, ◌≢◌, ◌<◌, ◌+◌, ◌++◌, ℕ, List, IfSome, MatchOption, length, option_map};
 ghost use Rattle.reg_core.specs.Calendar.{moment_of};
@@ -12,9 +12,7 @@ use crate::list_parameters::{index_of, position_of};
 use crate::positions::Positions;
 use reg_core::{CrlRow, Ground, Label, Moment, Serial, read_number};
 
-// ---- the lines that are no rows
-
-/// Whether the page's first line, `changes N`, has another version N of the feed than 1. A page without a number is malformed instead.
+/// Whether the page's first line is `changes N` with a version N other than 1. Without a number there, the page is malformed.
 pub(crate) fn is_other_version(page: &[u8]) -> bool
     ensures { result ≡ is_other_version page.now }
 {
@@ -32,7 +30,7 @@ fn read_version(page: &[u8]) -> Option<u64>
     next_value(&mut fields)
 }
 
-/// A CRL without its octets, by its line, and how many octets follow that line.
+/// The CRL whose line begins the text (its number and thisUpdate), and how many octets of its DER follow that line.
 #[tactic(auto, unfolding(crate::specs::FeedReading::crl_line_read))]
 pub(crate) fn read_crl_line(text: &[u8]) -> Option<(CrlRow, u64)>
     ensures { result ≡ crl_line_read text.now }
@@ -45,7 +43,7 @@ pub(crate) fn read_crl_line(text: &[u8]) -> Option<(CrlRow, u64)>
     Some((row, next_value(&mut fields)?))
 }
 
-/// The last line: whether there is nothing after the page (`end`, else `more`), and the positions after the page.
+/// The last line of a page: whether the page is the last one (`end`, not `more`), and the positions, which say how far a copy has got with the page.
 #[tactic(auto, unfolding(crate::specs::FeedReading::last_line_read))]
 pub(crate) fn read_last_line(text: &[u8]) -> Option<(bool, Positions)>
     ensures { result ≡ last_line_read text.now }
@@ -65,16 +63,16 @@ fn read_positions(word: &[u8], text: &[u8]) -> Option<Positions>
     Positions::read(positions)
 }
 
-/// The fields of the lines before the rows. Lives are in seconds, `cap` is the most rows of a table, and `last` the last accepted moment.
+/// The fields of the lines before the rows: the columns `name` and `pubkey` (`key`) of the table `office`, in hexadecimal digits; the lives of CRLs
+/// and OCSP answers in seconds; the most rows of a table (`cap`); the text of the schedule, whose steps `MOMENT=DAYS` give the longest validity of a
+/// certificate by its notBefore; the moment of the last accepted command.
 #[derive(Clone, Copy)]
 pub(crate) struct HeadFields<'a> {
-    /// The columns `name` and `pubkey` of the table `office`, in hexadecimal digits.
     pub(crate) name: &'a [u8],
     pub(crate) key: &'a [u8],
     pub(crate) crl_life: u64,
     pub(crate) ocsp_life: u64,
     pub(crate) cap: u64,
-    /// The text of the schedule's steps.
     pub(crate) steps: &'a [u8],
     pub(crate) last: Moment,
 }
@@ -100,7 +98,6 @@ pub(crate) fn read_head_fields(text: &[u8]) -> Option<HeadFields<'_>>
     })
 }
 
-/// The issuer's name and key, in hexadecimal digits, and the text after their line.
 #[tactic(auto, unfolding(crate::specs::FeedReading::issuer_read))]
 fn read_issuer(text: &[u8]) -> Option<(&[u8], &[u8], &[u8])>
     ensures { option_map (λ it. (it.0.now, it.1.now, it.2.now)) result ≡ issuer_read text.now }
@@ -111,7 +108,6 @@ fn read_issuer(text: &[u8]) -> Option<(&[u8], &[u8], &[u8])>
     Some((name, key, behind))
 }
 
-/// The numbers `crl_life`, `ocsp_life` and `cap` of the policy, and the text after their line.
 #[tactic(auto, unfolding(crate::specs::FeedReading::policy_read))]
 fn read_policy(text: &[u8]) -> Option<(u64, u64, u64, &[u8])>
     ensures { option_map (λ it. (it.0, it.1, it.2, it.3.now)) result ≡ policy_read text.now }
@@ -122,15 +118,12 @@ fn read_policy(text: &[u8]) -> Option<(u64, u64, u64, &[u8])>
     Some((crl_life, ocsp_life, next_value(&mut fields)?, behind))
 }
 
-// ---- fields
-
-/// A type that the value of a field can have.
 pub(crate) trait FieldValue: Copy {
     ghost use Rattle.std.specs.Prelude.{ℕ, List, Option, ◌≡◌};
 
     ghost value: { List ℕ → Option Self };
 
-    /// The value with this text; `None` if there is none. A `Label` must be allowed as a name.
+    /// The value with this text; `None` if no value has it. A `Label` must be allowed as a subscriber's name.
     fn of(text: &[u8]) -> Option<Self>
         ensures { result ≡ value text.now };
 }
@@ -192,7 +185,7 @@ impl FieldValue for Ground {
     }
 }
 
-/// The value of the first field, `None` if it has none; the other fields remain in `fields`.
+/// The value of the first field, or `None` if the field is missing or is no `T`. The other fields remain in `fields`.
 #[tactic(auto, unfolding(crate::specs::FeedReading::value_read))]
 pub(crate) fn next_value<'a, T: FieldValue>(fields: &mut &'a [u8]) -> Option<T>
     ensures { option_map (λ it. (it, fields.new.now)) result ≡ value_read T.value fields.old.now }
@@ -202,7 +195,7 @@ pub(crate) fn next_value<'a, T: FieldValue>(fields: &mut &'a [u8]) -> Option<T>
     T::of(text)
 }
 
-/// The text of the first field, without the space before it, and the other fields.
+/// The text of the first field, without the space before it; and the other fields. `index_of` gives the index of the next space, or else the length.
 #[tactic(auto, unfolding(crate::specs::FeedReading::field_read))]
 pub(crate) fn take_field(fields: &[u8]) -> Option<(&[u8], &[u8])>
     ensures value { option_map (λ it. (it.0.now, it.1.now)) result ≡ field_read fields.now }
@@ -213,7 +206,7 @@ pub(crate) fn take_field(fields: &[u8]) -> Option<(&[u8], &[u8])>
     Some((&rest[..end], &rest[end..]))
 }
 
-/// The fields of the first line, each with a space before it, if the line begins with this word; and the text after the line.
+/// The fields of the first line, each with a space before it, and the text after that line; `None` if the line lacks `word` in front or an LF.
 #[tactic(auto, unfolding(crate::specs::FeedReading::line_read))]
 pub(crate) fn line_after<'a>(word: &[u8], text: &'a [u8]) -> Option<(&'a [u8], &'a [u8])>
     ensures value { option_map (λ it. (it.0.now, it.1.now)) result ≡ line_read word.now text.now }
@@ -224,10 +217,10 @@ pub(crate) fn line_after<'a>(word: &[u8], text: &'a [u8]) -> Option<(&'a [u8], &
     Some((&rest[..end], &rest[end + 1..]))
 }
 
-/// The text after this beginning; `None` if the text has another one.
 pub(crate) fn after_prefix<'a>(prefix: &[u8], text: &'a [u8]) -> Option<&'a [u8]>
     ensures value { option_map (λ rest. rest.now) result ≡ after_prefix prefix.now text.now }
-    ensures text { MatchOption result ((rest : List ℕ) → text.now ≢ prefix.now ++ rest) (λ rest. text.now ≡ prefix.now ++ rest.now) }
+    ensures text { MatchOption result ((rest : List ℕ)
+        → text.now ≢ prefix.now ++ rest) (λ rest. text.now ≡ prefix.now ++ rest.now) }
     ensures shorter { IfSome result (λ rest. length rest.now + length prefix.now ≡ length text.now) }
 {
     text.strip_prefix(prefix)

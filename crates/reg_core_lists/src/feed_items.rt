@@ -1,5 +1,5 @@
-//! Reads the rows of a page of the changes feed, and the steps of a schedule. It accepts more than a desk writes, such as numbers with leading zeros:
-//! `feed_reader.rt` then writes the rows that were read, and refuses a page whose text differs.
+//! Reads the rows of a page of the changes feed, each a line of a word and fields, and the steps of a schedule. `line_after(word, text)` gives the
+//! fields of the first line if `word` begins it, and the text after. `next_value` reads a field. `feed_reader.rt` refuses what `desk` wouldn't write.
 
 ghost use Rattle.std.specs.Prelude.{◌≡◌, ◌<◌, ◌+◌, ℕ, List, IfOk, codes, length};
 ghost use Rattle.reg_core_lists.specs.FeedReading.{ReadsItems, certificate_row_of, declined_id_of, order_row_of, request_row_of, revocation_row_of, row_read, step_read, subscriber_row_of};
@@ -8,21 +8,21 @@ use crate::feed_fields::{after_prefix, line_after, next_value, take_field};
 use reg_core::{CertRow, Moment, OrderRow, RequestRow, RevocationRow, SubscriberRow, read_number};
 use std::alloc::{AllocError, Global};
 
+/// The octets of a moment, `YYYY-MM-DDTHH:MM:SSZ`.
 const MOMENT_OCTETS: usize = 20;
 
-/// What can be read at the beginning of a text.
 pub(crate) trait Leading: Copy {
     ghost use Rattle.std.specs.Prelude.{ℕ, List, Option, ◌≡◌, ◌<◌, IfSome, length, option_map};
 
     ghost read: { List ℕ → Option (Self × List ℕ) };
 
-    /// The value at the beginning of the text, and the text after it.
+    /// The value at the beginning of the text, and the text after it; `None` if no such value is there.
     fn read(text: &[u8]) -> Option<(Self, &[u8])>
         ensures value { option_map (λ it. (it.0, it.1.now)) result ≡ read text.now }
         ensures shorter { IfSome result (λ it. length it.1.now < length text.now) };
 }
 
-/// The values at the beginning of the text, as many as there are, and the text after them.
+/// The values of the kind `T` at the beginning of the text, as many as there are, and the text after them.
 pub(crate) fn read_all<T: Leading>(
     alloc: Global,
     text: &[u8],
@@ -37,8 +37,6 @@ pub(crate) fn read_all<T: Leading>(
     }
     Ok((items, rest))
 }
-
-// ---- rows
 
 impl Leading for SubscriberRow {
     ghost read = { row_read (codes "subscriber") subscriber_row_of };
@@ -85,6 +83,7 @@ impl Leading for CertRow {
     }
 }
 
+/// `ground`: why to revoke (docs/RULES.md, "Grounds"). `declined` is `false` here: the id of a declined request has a line of its own.
 impl Leading for RequestRow {
     ghost read = { row_read (codes "request") request_row_of };
 
@@ -113,7 +112,7 @@ impl Leading for u64 {
     }
 }
 
-/// The last field, `first`, is the number of the first CRL that can list the revocation.
+/// `reason` is the reasonCode of the request's ground, `first` the number of the first CRL that lists the revocation, issued or not.
 impl Leading for RevocationRow {
     ghost read = { row_read (codes "revocation") revocation_row_of };
 
@@ -131,7 +130,7 @@ impl Leading for RevocationRow {
     }
 }
 
-/// A step of a schedule.
+/// A step of a schedule, `MOMENT=DAYS`: the longest validity of certificates with a notBefore from that moment up to the next step's.
 impl Leading for (Moment, u64) {
     ghost read = { step_read };
 

@@ -1,5 +1,5 @@
-//! The lines of a page of the changes feed. No field has a space or an LF. The octets of a CRL may have any byte; its line says how many there are.
-//! Each call appends to a text. `AllocError` if out of memory: then the text may have some of the bytes.
+//! The lines of a page of the changes feed. No field has a space or an LF. The octets of a CRL may be any bytes; its line says how many there are.
+//! Each call appends to `out`. `AllocError` if out of memory: then `out` may have some of the bytes.
 
 ghost use Rattle.std.specs.Prelude.{◌≡◌, flat_map};
 ghost use Rattle.reg_core.specs.Buffers.{AppendsOnOk};
@@ -66,7 +66,7 @@ impl FeedLine for CertRow {
     }
 }
 
-/// The line does not say whether the request is declined: that is a line of its own.
+/// The line does not say whether the request is declined: a declined request has another line, `declined`.
 impl FeedLine for RequestRow {
     ghost line = { request_line };
 
@@ -85,6 +85,7 @@ impl FeedLine for RequestRow {
     }
 }
 
+/// `first` is the number of the first CRL that lists the revocation, issued or not.
 impl FeedLine for RevocationRow {
     ghost line = { revocation_line };
 
@@ -114,7 +115,6 @@ pub(crate) fn put_declined(out: &mut Vec<u8>, ids: &[u64]) -> Result<(), AllocEr
     Ok(())
 }
 
-/// A CRL: its line, which has the number of its octets; the octets, `der`; and an LF.
 #[tactic(auto, unfolding(crate::specs::FeedLines::crl_feed_text))]
 pub(crate) fn put_crl(out: &mut Vec<u8>, row: &CrlRow, der: &[u8]) -> Result<(), AllocError>
     ensures { AppendsOnOk out.old out.new result (crl_feed_text row.now der.now) }
@@ -132,7 +132,6 @@ pub(crate) fn put_crl_line(out: &mut Vec<u8>, row: &CrlRow, octets: u64) -> Resu
     put_fields(out, "crl", &[number, this_update, Cell::Number(octets)])
 }
 
-/// A line: the word, then each field after a space.
 #[tactic(auto, unfolding(crate::specs::FeedLines::feed_line))]
 fn put_fields(out: &mut Vec<u8>, word: &str, fields: &[Cell]) -> Result<(), AllocError>
     ensures { AppendsOnOk out.old out.new result (feed_line word.now fields.now) }
@@ -153,10 +152,8 @@ fn put_each(out: &mut Vec<u8>, fields: &[Cell]) -> Result<(), AllocError>
     Ok(())
 }
 
-// ---- the lines before the rows
-
-/// The lines before the rows: the version of the feed, 1; the issuer; the policy; its schedule; the last accepted moment, `last`. `stored_name` and
-/// `key` are the octets in the columns `name` and `pubkey` of the table `office`.
+/// The lines before the rows: the version of the feed, 1; the issuer; the policy; its schedule; `last`, the moment of the last accepted command.
+/// `stored_name` (the issuer's Name, then any key identifiers) and `key` are the columns `name` and `pubkey` of the table `office`.
 #[tactic(auto, unfolding(crate::specs::FeedLines::page_head))]
 pub fn put_head(
     alloc: Global,
@@ -175,7 +172,7 @@ pub fn put_head(
     put_fields(out, "last", &[Cell::At(last)])
 }
 
-/// The line with an issuer's name and key, which it encodes in hexadecimal digits. For a digest of positions, `stored_name` is only the Name.
+/// The line of the issuer, in hexadecimal digits. In the text that a digest of positions covers, `stored_name` has no key identifiers.
 #[tactic(auto, unfolding(crate::specs::FeedLines::issuer_line))]
 pub(crate) fn put_issuer(
     alloc: Global,

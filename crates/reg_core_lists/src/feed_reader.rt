@@ -1,7 +1,7 @@
-//! Reads a page of the changes feed. A page is read exactly if its text is the one that `put_head` and `FeedPage::put` write for what is read: the
-//! reader writes each part that it has read, and compares.
+//! Reads a page of the changes feed. It writes each part that it has read, by the functions that write a feed, and refuses a page whose text differs.
+//! `None` as a result means that the text is malformed. Most results have what was read, and the text after it.
 
-ghost use Rattle.std.specs.Prelude.{◌≡◌, ◌≢◌, ◌++◌, ◌∷◌, [], ◌↔◌, ℕ, Bool, List, Option, Some, None, IfErr, IfOk, IfSome, IsTrue, MatchOption, codes, length, option_map};
+ghost use Rattle.std.specs.Prelude.{◌≡◌, ◌≢◌, ◌++◌, ◌∷◌, [], ◌↔◌, ℕ, Bool, List, Option, Some, None, IfErr, IfOk, IsTrue, MatchOption, codes, length, option_map};
 ghost use Rattle.std.specs.Result.{result_ok};
 ghost use Rattle.hex.specs.Hex.{decode_of};
 ghost use Rattle.reg_core.specs.Policy.{IsPolicy, Terms};
@@ -9,7 +9,7 @@ ghost use Rattle.reg_core.specs.Crls.{row_of};
 ghost use Rattle.reg_core.specs.Records.{Crl};
 ghost use Rattle.reg_core_lists.specs.Feed.{RowLists, crl_alone, crl_part, feed_crl_of, feed_rows_of, feed_rows_text, last_line, page_parts_text};
 ghost use Rattle.reg_core_lists.specs.FeedReading.{crl_line_read, is_other_version};
-ghost use Rattle.reg_core_lists.specs.ReceivedPages.{HasNoRow, HeadTerms, IsAlone, IsReadable, IsReadableCrlPart, IsReadableHead, IsReadablePositions, IsReadableRows, ReadsAs, ReadsRows, Received, fields_of_terms, head_fields_of, head_terms_of, head_terms_text, positions_of, received_of, received_text};
+ghost use Rattle.reg_core_lists.specs.ReceivedPages.{HasNoRow, HeadTerms, IfRead, IsAlone, IsReadable, IsReadableCrlPart, IsReadableHead, IsReadablePositions, IsReadableRows, MustRead, ReadsAs, ReadsRows, Received, fields_of_terms, head_fields_of, head_terms_of, head_terms_text, positions_of, received_of, received_text};
 ghost use Rattle.reg_core_lists.specs.declared.positions.Positions.{Positions};
 ghost use Rattle.reg_core_lists.specs.declared.feed_reader.PageFault.TheVariants.{Memory, Version};
 
@@ -24,37 +24,30 @@ use hex::FromHexError;
 use reg_core::{CrlRow, Moment, Policy, Schedule};
 use std::alloc::{AllocError, Global};
 
-/// The lines before the rows of a page.
+/// The lines before the rows. `stored_name` and `key`: the columns `name` and `pubkey` of `office` (the issuer). `last`: the last accepted moment.
 #[derive(Drop)]
 pub struct FeedHead {
-    /// The columns `name` and `pubkey` of the table `office`.
     pub stored_name: Vec<u8>,
     pub key: Vec<u8>,
     pub policy: Policy,
-    /// The last accepted moment.
     pub last: Moment,
 }
 
-/// A page of the changes feed, as it was received.
+/// A page of the changes feed, as it was received. A page with a CRL has no other row. `rows.declined` has the ids of declined requests: no request
+/// in `rows` is marked as declined. `ends`: this is the last page. `positions`: how far a copy has got with this page.
 #[derive(Drop)]
 pub struct ReceivedPage {
     pub head: FeedHead,
-    /// No request among them is marked as declined: the ids of declined requests are rows of their own.
     pub rows: FeedRows,
-    /// The CRL, if the page has one: then it has no other row.
     pub crl: Option<FeedCrl>,
-    /// Whether there is nothing after the page.
     pub ends: bool,
-    /// The positions after it.
     pub positions: Positions,
 }
 
-/// Why a page can't be read.
+/// Why a page can't be read: it is of another version of the feed, it is not the text of a page, or the reader is out of memory.
 #[derive(Clone, Copy, PartialEq, Eq, Debug)]
 pub enum PageFault {
-    /// It is of another version of the feed.
     Version,
-    /// It is not the text of a page of this version.
     Malformed,
     Memory,
 }
@@ -69,12 +62,13 @@ impl From<AllocError> for PageFault {
     }
 }
 
-/// Reads a page. Its numbers must be below 10^18, and its policy and names those that the register allows. A text is that of at most one such page.
+/// Reads a page. Its numbers must be below 10^18, and a register must allow its policy and names. No two pages have the same text.
 pub fn read_feed_page(alloc: Global, page: &[u8]) -> Result<ReceivedPage, PageFault>
     ensures text { IfOk result (λ read. page.now ≡ received_text (received_of read)) }
     ensures alone { IfOk result (λ read. IsAlone (received_of read).parts) }
     ensures only { (it : Received) → IsReadable it → page.now ≡ received_text it → ReadsAs result it }
-    ensures version { IfErr result (λ fault. fault ≢ Memory → (fault ≡ Version) ↔ IsTrue (is_other_version page.now)) }
+    ensures version { IfErr result (λ fault. fault ≢ Memory
+        → (fault ≡ Version) ↔ IsTrue (is_other_version page.now)) }
 {
     if is_other_version(page) {
         return Err(PageFault::Version);
@@ -85,12 +79,11 @@ pub fn read_feed_page(alloc: Global, page: &[u8]) -> Result<ReceivedPage, PageFa
     }
 }
 
-/// Reads a page of this version; `None` if it is malformed.
 fn read_parts(alloc: Global, page: &[u8]) -> Result<Option<ReceivedPage>, AllocError>
-    ensures text { IfOk result (λ found. IfSome found (λ read. page.now ≡ received_text (received_of read))) }
-    ensures alone { IfOk result (λ found. IfSome found (λ read. IsAlone (received_of read).parts)) }
+    ensures text { IfRead result (λ read. page.now ≡ received_text (received_of read)) }
+    ensures alone { IfRead result (λ read. IsAlone (received_of read).parts) }
     ensures only { (it : Received) → IsReadable it → page.now ≡ received_text it
-        → IfOk result (λ found. MatchOption found ⊥ (λ read. received_of read ≡ it)) }
+        → MustRead result (λ read. received_of read ≡ it) }
 {
     let (head, rest) = match read_head(alloc, page)? {
         Some(found) => found,
@@ -102,7 +95,7 @@ fn read_parts(alloc: Global, page: &[u8]) -> Result<Option<ReceivedPage>, AllocE
     }
 }
 
-/// The page with these parts; `None` if it has both a CRL and other rows. Without rows, `room` is `MOST_ROWS`.
+/// The page with these parts; `None` if it has both a CRL and other rows. `room`, how many more rows a page may have, is `MOST_ROWS` without rows.
 fn page_with(
     head: FeedHead,
     rows: FeedRows,
@@ -110,8 +103,10 @@ fn page_with(
     ends: bool,
     positions: Positions,
 ) -> Option<ReceivedPage>
-    ensures { MatchOption result (crl_alone (feed_rows_of rows) (option_map feed_crl_of crl) ≢ option_map feed_crl_of crl)
-        (λ page. (page ≡ record { head = head; rows = rows; crl = crl; ends = ends; positions = positions }) × IsAlone (received_of page).parts) }
+    ensures { MatchOption result (crl_alone (feed_rows_of rows) (option_map feed_crl_of crl)
+        ≢ option_map feed_crl_of crl)
+        (λ page. (page ≡ record { head = head; rows = rows; crl = crl; ends = ends; positions = positions })
+        × IsAlone (received_of page).parts) }
 {
     if crl.is_some() && rows.room() != MOST_ROWS {
         return None;
@@ -125,16 +120,17 @@ fn page_with(
     })
 }
 
-/// The rows, the CRL if there is one, and the last line (whether nothing follows the page, and the positions after it), up to the end of the page.
+/// The rows, the CRL if there is one, and the last line (whether this is the last page, and the positions after it), up to the end of the page.
 fn read_after_head(
     alloc: Global,
     text: &[u8],
 ) -> Result<Option<(FeedRows, Option<FeedCrl>, bool, Positions)>, AllocError>
-    ensures text { IfOk result (λ found. IfSome found (λ it. text.now ≡ feed_rows_text (feed_rows_of it.0)
-        ++ (crl_part (option_map feed_crl_of it.1) ++ last_line it.2 it.3))) }
+    ensures text { IfRead result (λ it. text.now ≡ feed_rows_text (feed_rows_of it.0)
+        ++ (crl_part (option_map feed_crl_of it.1) ++ last_line it.2 it.3)) }
     ensures only { (it : Received) → IsReadable it → text.now ≡ page_parts_text it.parts it.digest
-        → IfOk result (λ found. MatchOption found ⊥ (λ read. (feed_rows_of read.0 ≡ it.parts.rows)
-        × (option_map feed_crl_of read.1 ≡ it.parts.crl) × (read.2 ≡ it.parts.ends) × (read.3 ≡ positions_of it))) }
+        → MustRead result (λ read. (feed_rows_of read.0 ≡ it.parts.rows)
+        × (option_map feed_crl_of read.1 ≡ it.parts.crl) × (read.2 ≡ it.parts.ends)
+        × (read.3 ≡ positions_of it)) }
 {
     let (rows, rest) = match read_rows(alloc, text)? {
         Some(found) => found,
@@ -146,15 +142,16 @@ fn read_after_head(
     }
 }
 
-/// The CRL, if there is one, and the last line, up to the end of the page.
 fn read_after_rows(
     alloc: Global,
     text: &[u8],
 ) -> Result<Option<(Option<FeedCrl>, bool, Positions)>, AllocError>
-    ensures text { IfOk result (λ found. IfSome found (λ it. text.now ≡ crl_part (option_map feed_crl_of it.0) ++ last_line it.1 it.2)) }
-    ensures only { (crl : Option Crl) (ends : Bool) (positions : Positions) → IsReadableCrlPart crl → IsReadablePositions positions
+    ensures text { IfRead result (λ it. text.now ≡ crl_part (option_map feed_crl_of it.0)
+        ++ last_line it.1 it.2) }
+    ensures only { (crl : Option Crl) (ends : Bool) (positions : Positions) → IsReadableCrlPart crl
+        → IsReadablePositions positions
         → text.now ≡ crl_part crl ++ last_line ends positions
-        → IfOk result (λ found. MatchOption found ⊥ (λ it. (option_map feed_crl_of it.0 ≡ crl) × (it.1 ≡ ends) × (it.2 ≡ positions))) }
+        → MustRead result (λ it. (option_map feed_crl_of it.0 ≡ crl) × (it.1 ≡ ends) × (it.2 ≡ positions)) }
 {
     let (crl, rest) = match read_crl(alloc, text)? {
         Some(found) => found,
@@ -166,12 +163,11 @@ fn read_after_rows(
     }
 }
 
-// ---- the parts of a page: each call gives the part and the text after it, or `None` if the part is malformed
-
 fn read_head(alloc: Global, page: &[u8]) -> Result<Option<(FeedHead, &[u8])>, AllocError>
-    ensures text { IfOk result (λ found. IfSome found (λ it. page.now ≡ head_terms_text (head_terms_of it.0) ++ it.1.now)) }
-    ensures only { (head : HeadTerms) (rest : List ℕ) → IsReadableHead head → page.now ≡ head_terms_text head ++ rest
-        → IfOk result (λ found. MatchOption found ⊥ (λ it. (head_terms_of it.0 ≡ head) × (it.1.now ≡ rest))) }
+    ensures text { IfRead result (λ it. page.now ≡ head_terms_text (head_terms_of it.0) ++ it.1.now) }
+    ensures only { (head : HeadTerms) (rest : List ℕ) → IsReadableHead head
+        → page.now ≡ head_terms_text head ++ rest
+        → MustRead result (λ it. (head_terms_of it.0 ≡ head) × (it.1.now ≡ rest)) }
 {
     let fields = match read_head_fields(page) {
         Some(fields) => fields,
@@ -196,10 +192,11 @@ fn read_head(alloc: Global, page: &[u8]) -> Result<Option<(FeedHead, &[u8])>, Al
     }
 }
 
-/// The head with these fields; `None` if one is invalid. A step that can't be read ends the steps: `read_head` then finds another text.
+/// The head with these fields; `None` if one is invalid. `read_all` stops at a step that it can't read: then `read_head` finds that the text differs.
 fn head_with(alloc: Global, fields: &HeadFields) -> Result<Option<FeedHead>, AllocError>
-    ensures only { (head : HeadTerms) → IsReadableHead head → head_fields_of fields.now ≡ fields_of_terms head
-        → IfOk result (λ found. MatchOption found ⊥ (λ it. head_terms_of it ≡ head)) }
+    ensures only { (head : HeadTerms) → IsReadableHead head
+        → head_fields_of fields.now ≡ fields_of_terms head
+        → MustRead result (λ it. head_terms_of it ≡ head) }
 {
     let stored_name = match decode(alloc, fields.name)? {
         Some(octets) => octets,
@@ -223,13 +220,15 @@ fn head_with(alloc: Global, fields: &HeadFields) -> Result<Option<FeedHead>, All
 
 fn policy_with(steps: &[(Moment, u64)], crl_life: u64, ocsp_life: u64, cap: u64) -> Option<Policy>
     ensures { (terms : Terms) → IsPolicy terms
-        → terms ≡ record { schedule = steps.now; crl_life = crl_life; ocsp_life = ocsp_life; cap = cap } → result ≡ Some terms }
+        → terms ≡ record { schedule = steps.now; crl_life = crl_life; ocsp_life = ocsp_life; cap = cap }
+        → result ≡ Some terms }
 {
     Policy::with(Schedule::new(steps)?, crl_life, ocsp_life, cap)
 }
 
 fn decode(alloc: Global, digits: &[u8]) -> Result<Option<Vec<u8>>, AllocError>
-    ensures { IfOk result (λ found. option_map (λ octets. octets.items) found ≡ result_ok (decode_of digits.now)) }
+    ensures { IfOk result (λ found. option_map (λ octets. octets.items) found
+        ≡ result_ok (decode_of digits.now)) }
 {
     match hex::decode(alloc, digits) {
         Ok(octets) => Ok(Some(octets)),
@@ -239,9 +238,10 @@ fn decode(alloc: Global, digits: &[u8]) -> Result<Option<Vec<u8>>, AllocError>
 }
 
 fn read_rows(alloc: Global, text: &[u8]) -> Result<Option<(FeedRows, &[u8])>, AllocError>
-    ensures text { IfOk result (λ found. IfSome found (λ it. text.now ≡ feed_rows_text (feed_rows_of it.0) ++ it.1.now)) }
-    ensures only { (rows : RowLists) (rest : List ℕ) → IsReadableRows rows → HasNoRow rest → text.now ≡ feed_rows_text rows ++ rest
-        → IfOk result (λ found. MatchOption found ⊥ (λ it. (feed_rows_of it.0 ≡ rows) × (it.1.now ≡ rest))) }
+    ensures text { IfRead result (λ it. text.now ≡ feed_rows_text (feed_rows_of it.0) ++ it.1.now) }
+    ensures only { (rows : RowLists) (rest : List ℕ) → IsReadableRows rows → HasNoRow rest
+        → text.now ≡ feed_rows_text rows ++ rest
+        → MustRead result (λ it. (feed_rows_of it.0 ≡ rows) × (it.1.now ≡ rest)) }
 {
     let rows = rows_in(alloc, text)?;
     let mut written = Vec::new(alloc);
@@ -252,7 +252,6 @@ fn read_rows(alloc: Global, text: &[u8]) -> Result<Option<(FeedRows, &[u8])>, Al
     }
 }
 
-/// The rows at the beginning of the text, table after table.
 fn rows_in(alloc: Global, text: &[u8]) -> Result<FeedRows, AllocError>
     ensures { IfOk result (λ rows. ReadsRows (feed_rows_of rows) text.now) }
 {
@@ -272,12 +271,13 @@ fn rows_in(alloc: Global, text: &[u8]) -> Result<FeedRows, AllocError>
     })
 }
 
-/// The CRL; the inner `None` if there is none.
+/// The CRL, and the text after it. The inner `None` means that the page has no CRL.
 fn read_crl(alloc: Global, text: &[u8]) -> Result<Option<(Option<FeedCrl>, &[u8])>, AllocError>
-    ensures text { IfOk result (λ found. IfSome found (λ it.
-        text.now ≡ crl_part (option_map feed_crl_of it.0) ++ it.1.now)) }
-    ensures only { (crl : Option Crl) (rest : List ℕ) → IsReadableCrlPart crl → crl_line_read rest ≡ None → text.now ≡ crl_part crl ++ rest
-        → IfOk result (λ found. MatchOption found ⊥ (λ it. (option_map feed_crl_of it.0 ≡ crl) × (it.1.now ≡ rest))) }
+    ensures text { IfRead result (λ it.
+        text.now ≡ crl_part (option_map feed_crl_of it.0) ++ it.1.now) }
+    ensures only { (crl : Option Crl) (rest : List ℕ) → IsReadableCrlPart crl
+        → crl_line_read rest ≡ None → text.now ≡ crl_part crl ++ rest
+        → MustRead result (λ it. (option_map feed_crl_of it.0 ≡ crl) × (it.1.now ≡ rest)) }
 {
     match read_crl_line(text) {
         Some((row, octets)) => read_crl_octets(alloc, text, row, octets),
@@ -285,7 +285,7 @@ fn read_crl(alloc: Global, text: &[u8]) -> Result<Option<(Option<FeedCrl>, &[u8]
     }
 }
 
-/// The CRL at the beginning of the text. Its line was read as `row`, and as the number of octets after the line, `octets`.
+/// The CRL at the beginning of the text. Its line was read as `row`, and as `octets`, how many octets of DER follow the line.
 #[tactic(auto, unfolding(crate::specs::FeedLines::crl_feed_text))]
 fn read_crl_octets(
     alloc: Global,
@@ -293,10 +293,11 @@ fn read_crl_octets(
     row: CrlRow,
     octets: u64,
 ) -> Result<Option<(Option<FeedCrl>, &[u8])>, AllocError>
-    ensures text { IfOk result (λ found. IfSome found (λ it.
-        text.now ≡ crl_part (option_map feed_crl_of it.0) ++ it.1.now)) }
-    ensures only { (crl : Crl) (rest : List ℕ) → row ≡ row_of crl → octets ≡ length crl.bytes → text.now ≡ crl_part (Some crl) ++ rest
-        → IfOk result (λ found. MatchOption found ⊥ (λ it. (option_map feed_crl_of it.0 ≡ Some crl) × (it.1.now ≡ rest))) }
+    ensures text { IfRead result (λ it.
+        text.now ≡ crl_part (option_map feed_crl_of it.0) ++ it.1.now) }
+    ensures only { (crl : Crl) (rest : List ℕ) → row ≡ row_of crl → octets ≡ length crl.bytes
+        → text.now ≡ crl_part (Some crl) ++ rest
+        → MustRead result (λ it. (option_map feed_crl_of it.0 ≡ Some crl) × (it.1.now ≡ rest)) }
 {
     let mut line = Vec::new(alloc);
     put_crl_line(&mut line, &row, octets)?;
@@ -309,9 +310,10 @@ fn read_crl_octets(
     }
 }
 
-/// The `octets` octets after the line, and the text after the LF that follows them; `None` if the text does not begin so.
+/// If the text is `line`, so many octets, an LF, and more: these octets, and the text after the LF.
 fn octets_after<'a>(line: &[u8], octets: u64, text: &'a [u8]) -> Option<(&'a [u8], &'a [u8])>
-    ensures { MatchOption result ((der rest : List ℕ) → length der ≡ octets → text.now ≢ line.now ++ der ++ 10 ∷ rest)
+    ensures { MatchOption result ((der rest : List ℕ) → length der ≡ octets
+        → text.now ≢ line.now ++ der ++ 10 ∷ rest)
         (λ it. (length it.0.now ≡ octets) × (text.now ≡ line.now ++ it.0.now ++ 10 ∷ it.1.now)) }
 {
     let rest = after_prefix(line, text)?;
@@ -322,11 +324,11 @@ fn octets_after<'a>(line: &[u8], octets: u64, text: &'a [u8]) -> Option<(&'a [u8
     Some((der, after_prefix(b"\n", rest)?))
 }
 
-/// The last line, up to the end of the page.
 fn read_end(alloc: Global, text: &[u8]) -> Result<Option<(bool, Positions)>, AllocError>
-    ensures text { IfOk result (λ found. IfSome found (λ it. text.now ≡ last_line it.0 it.1)) }
-    ensures only { (ends : Bool) (positions : Positions) → IsReadablePositions positions → text.now ≡ last_line ends positions
-        → IfOk result (λ found. MatchOption found ⊥ (λ it. (it.0 ≡ ends) × (it.1 ≡ positions))) }
+    ensures text { IfRead result (λ it. text.now ≡ last_line it.0 it.1) }
+    ensures only { (ends : Bool) (positions : Positions) → IsReadablePositions positions
+        → text.now ≡ last_line ends positions
+        → MustRead result (λ it. (it.0 ≡ ends) × (it.1 ≡ positions)) }
 {
     let (ends, positions) = match read_last_line(text) {
         Some(read) => read,

@@ -1,4 +1,4 @@
-//! The fields of a row of a list (docs/RULES.md, "Lists"): their names and values. Each parameter `line` is such a row.
+//! The fields of a row of a list (docs/RULES.md, "Lists"): their names, as in the CSV header and in JSON, and their values.
 
 ghost use Rattle.std.specs.Prelude.{◌≡◌, ◌≤◌, ◌-◌, IfOk, length, map};
 ghost use Rattle.reg_core_lists.specs.Fields.{certificate_fields, crl_fields, decided_cell, first_listing_cell, ground_name, request_with_state_fields, last_listing_cell, number_or_empty, order_fields, reason_cell, request_fields, revoked_at_cell, revoked_fields, row_fields, serial_or_empty, state_name, status_name, subscriber_fields, field_of_text};
@@ -9,14 +9,13 @@ use crate::rows::{
 use reg_core::{CrlRow, Ground, Label, Listing, Moment, Serial, Status, SubscriberRow};
 use std::alloc::{AllocError, Global};
 
-/// The value of a field.
+/// The value of a field. A `Text` is the name of a status, a state or a ground, or a subscriber's name.
 #[derive(Clone, Copy)]
 pub(crate) enum Cell {
     Empty,
     Number(u64),
     Serial(Serial),
     At(Moment),
-    /// The name of a status, a state or a ground, or a subscriber's name.
     Text(Label),
 }
 
@@ -30,59 +29,59 @@ pub(crate) fn fields_of(alloc: Global, row: &Row) -> Result<Vec<Field>, AllocErr
     ensures { IfOk result (λ fields. map field_of_text fields.items ≡ row_fields row.now) }
 {
     match row {
-        Row::Certificate(line) => of_certificate(alloc, line),
-        Row::Revoked(line) => of_revocation(alloc, line),
-        Row::Request(line) => of_request(alloc, line),
-        Row::History(history) => of_history(alloc, history),
+        Row::Certificate(listed) => of_certificate(alloc, listed),
+        Row::Revoked(listed) => of_revocation(alloc, listed),
+        Row::Request(listed) => of_request(alloc, listed),
+        Row::AnyRequest(listed) => of_request_with_state(alloc, listed),
         Row::Subscriber(subscriber) => of_subscriber(alloc, subscriber),
-        Row::Order(line) => of_order(alloc, line),
+        Row::Order(listed) => of_order(alloc, listed),
         Row::Crl(crl) => of_crl(alloc, crl),
     }
 }
 
-fn of_certificate(alloc: Global, line: &ListedCertificate) -> Result<Vec<Field>, AllocError>
-    ensures { IfOk result (λ fields. map field_of_text fields.items ≡ certificate_fields line.now) }
+fn of_certificate(alloc: Global, listed: &ListedCertificate) -> Result<Vec<Field>, AllocError>
+    ensures { IfOk result (λ fields. map field_of_text fields.items ≡ certificate_fields listed.now) }
 {
-    let certificate = &line.certificate;
+    let certificate = &listed.certificate;
     Vec::from_slice(
         alloc,
         &[
             field_with("serial", Cell::Serial(certificate.serial)),
-            field_with("subscriber", Cell::Number(line.subscriber.id)),
-            field_with("name", Cell::Text(line.subscriber.name)),
+            field_with("subscriber", Cell::Number(listed.subscriber.id)),
+            field_with("name", Cell::Text(listed.subscriber.name)),
             field_with("order", Cell::Number(certificate.order)),
             field_with("notBefore", Cell::At(certificate.not_before)),
             field_with("notAfter", Cell::At(certificate.not_after)),
-            field_with("status", status_cell(line.status)),
-            field_with("revokedAt", revoked_at_cell_of(line.status)),
-            field_with("reason", reason_cell_of(line.status)),
-            field_with("firstCrl", first_crl_cell(line.listing)),
-            field_with("lastCrl", last_crl_cell(line.listing)),
+            field_with("status", status_cell(listed.status)),
+            field_with("revokedAt", revoked_at_cell_of(listed.status)),
+            field_with("reason", reason_cell_of(listed.status)),
+            field_with("firstCrl", first_crl_cell(listed.listing)),
+            field_with("lastCrl", last_crl_cell(listed.listing)),
         ],
     )
 }
 
-fn of_revocation(alloc: Global, line: &ListedRevocation) -> Result<Vec<Field>, AllocError>
-    ensures { IfOk result (λ fields. map field_of_text fields.items ≡ revoked_fields line.now) }
+fn of_revocation(alloc: Global, listed: &ListedRevocation) -> Result<Vec<Field>, AllocError>
+    ensures { IfOk result (λ fields. map field_of_text fields.items ≡ revoked_fields listed.now) }
 {
-    let mut fields = of_certificate(alloc, &line.certificate)?;
+    let mut fields = of_certificate(alloc, &listed.certificate)?;
     fields.extend_from_slice(&[
-        field_with("request", Cell::Number(line.request.id)),
-        field_with("ground", ground_cell(line.request.ground)),
-        field_with("received", Cell::At(line.request.received)),
-        field_with("due", Cell::At(line.due)),
+        field_with("request", Cell::Number(listed.request.id)),
+        field_with("ground", ground_cell(listed.request.ground)),
+        field_with("received", Cell::At(listed.request.received)),
+        field_with("due", Cell::At(listed.due)),
         field_with(
             "lateness",
-            Cell::Number(seconds_past(line.due, line.revocation.at)),
+            Cell::Number(seconds_past(listed.due, listed.revocation.at)),
         ),
     ])?;
     Ok(fields)
 }
 
-fn of_request(alloc: Global, line: &ListedRequest) -> Result<Vec<Field>, AllocError>
-    ensures { IfOk result (λ fields. map field_of_text fields.items ≡ request_fields line.now) }
+fn of_request(alloc: Global, listed: &ListedRequest) -> Result<Vec<Field>, AllocError>
+    ensures { IfOk result (λ fields. map field_of_text fields.items ≡ request_fields listed.now) }
 {
-    let request = &line.request;
+    let request = &listed.request;
     Vec::from_slice(
         alloc,
         &[
@@ -90,25 +89,25 @@ fn of_request(alloc: Global, line: &ListedRequest) -> Result<Vec<Field>, AllocEr
             field_with("serial", Cell::Serial(request.serial)),
             field_with("ground", ground_cell(request.ground)),
             field_with("received", Cell::At(request.received)),
-            field_with("due", Cell::At(line.due)),
-            field_with("subscriber", Cell::Number(line.subscriber.id)),
-            field_with("name", Cell::Text(line.subscriber.name)),
-            field_with("order", Cell::Number(line.certificate.order)),
-            field_with("notBefore", Cell::At(line.certificate.not_before)),
-            field_with("notAfter", Cell::At(line.certificate.not_after)),
+            field_with("due", Cell::At(listed.due)),
+            field_with("subscriber", Cell::Number(listed.subscriber.id)),
+            field_with("name", Cell::Text(listed.subscriber.name)),
+            field_with("order", Cell::Number(listed.certificate.order)),
+            field_with("notBefore", Cell::At(listed.certificate.not_before)),
+            field_with("notAfter", Cell::At(listed.certificate.not_after)),
         ],
     )
 }
 
-fn of_history(alloc: Global, history: &RequestWithState) -> Result<Vec<Field>, AllocError>
-    ensures { IfOk result (λ fields. map field_of_text fields.items ≡ request_with_state_fields history.now) }
+fn of_request_with_state(alloc: Global, listed: &RequestWithState) -> Result<Vec<Field>, AllocError>
+    ensures { IfOk result (λ fields. map field_of_text fields.items ≡ request_with_state_fields listed.now) }
 {
-    let declined = history.request.request.declined;
-    let mut fields = of_request(alloc, &history.request)?;
+    let declined = listed.request.request.declined;
+    let mut fields = of_request(alloc, &listed.request)?;
     fields.extend_from_slice(&[
-        field_with("state", state_cell(declined, history.status)),
-        field_with("decided", decided_cell_of(declined, history.status)),
-        field_with("lateness", number_cell(history.lateness)),
+        field_with("state", state_cell(declined, listed.status)),
+        field_with("decided", decided_cell_of(declined, listed.status)),
+        field_with("lateness", number_cell(listed.lateness)),
     ])?;
     Ok(fields)
 }
@@ -125,17 +124,17 @@ fn of_subscriber(alloc: Global, subscriber: &SubscriberRow) -> Result<Vec<Field>
     )
 }
 
-fn of_order(alloc: Global, line: &ListedOrder) -> Result<Vec<Field>, AllocError>
-    ensures { IfOk result (λ fields. map field_of_text fields.items ≡ order_fields line.now) }
+fn of_order(alloc: Global, listed: &ListedOrder) -> Result<Vec<Field>, AllocError>
+    ensures { IfOk result (λ fields. map field_of_text fields.items ≡ order_fields listed.now) }
 {
     Vec::from_slice(
         alloc,
         &[
-            field_with("order", Cell::Number(line.order.id)),
-            field_with("subscriber", Cell::Number(line.subscriber.id)),
-            field_with("name", Cell::Text(line.subscriber.name)),
-            field_with("days", Cell::Number(line.order.days)),
-            field_with("serial", serial_cell(line.serial)),
+            field_with("order", Cell::Number(listed.order.id)),
+            field_with("subscriber", Cell::Number(listed.subscriber.id)),
+            field_with("name", Cell::Text(listed.subscriber.name)),
+            field_with("days", Cell::Number(listed.order.days)),
+            field_with("serial", serial_cell(listed.serial)),
         ],
     )
 }
@@ -177,7 +176,6 @@ fn status_cell(status: Status) -> Cell
     }
 }
 
-/// The state of a request: declined, open, or else the status of its certificate, revoked or expired.
 fn state_cell(declined: bool, status: Status) -> Cell
     ensures { result ≡ Cell.Text (state_name declined status) }
 {
@@ -188,7 +186,7 @@ fn state_cell(declined: bool, status: Status) -> Cell
     }
 }
 
-/// When a request was decided: the moment of the revocation, if there is one; empty if declined, because no record says when.
+/// When a request was decided: the moment of the revocation, if there is one. Empty if the request is declined, because no record says when.
 fn decided_cell_of(declined: bool, status: Status) -> Cell
     ensures { result ≡ decided_cell declined status }
 {
@@ -199,7 +197,6 @@ fn decided_cell_of(declined: bool, status: Status) -> Cell
     }
 }
 
-/// How many seconds `at` is after the deadline `due`; 0 if it is not.
 fn seconds_past(due: Moment, at: Moment) -> u64
     ensures { result ≡ at - due }
 {
@@ -215,7 +212,6 @@ fn revoked_at_cell_of(status: Status) -> Cell
     }
 }
 
-/// The reasonCode of a revocation (RFC 5280 5.3.1).
 fn reason_cell_of(status: Status) -> Cell
     ensures { result ≡ reason_cell status }
 {
@@ -285,6 +281,7 @@ pub fn ground_word(ground: Ground) -> Label
     }
 }
 
+/// The label with this text. Not by `Label::of`, whose result may be `None`: `Label::joined` (here with an empty second text) always gives a label.
 fn word_label(text: &[u8]) -> Label
     requires not_empty { 1 ≤ length text.now }
     requires short { length text.now ≤ 64 }

@@ -7,22 +7,22 @@ use crate::rows::Row;
 use reg_core::{Label, Moment, Serial};
 use std::alloc::{AllocError, Global};
 
-/// A filter of a list's rows: a row must satisfy each condition that is given.
+/// A filter of a list's rows: a row must satisfy each condition that is given (not `None`).
 #[derive(Clone, Copy)]
 pub struct Filter {
     /// The exact name of the subscriber.
     pub subscriber: Option<Label>,
-    /// The first hexadecimal digits of the serial number, in either case: of all 40, as in lists, or of those after the leading zeros.
+    /// The first hexadecimal digits (upper or lower case) of the serial number, written with 40 digits as in lists, or without leading zeros.
     pub serial: Option<Label>,
-    /// The first second of a period in which the row's time must be: notBefore of a certificate, the moment of a revocation, receipt of a
-    /// request, or thisUpdate of a CRL.
+    /// The row's time must be at or after `from`, and before `to`. That time is the notBefore of a certificate, the moment of a revocation, the
+    /// receipt of a request, or the thisUpdate of a CRL.
     pub from: Option<Moment>,
-    /// The first second after that period.
     pub to: Option<Moment>,
 }
 
 impl Filter {
-    /// Whether the list's rows have the fields that the filter needs. A CRL has only a time, a subscriber only a name, and an order no time.
+    /// Whether the rows of the list that a cursor names have the fields that the filter needs. A CRL has only a time, a subscriber only a name. An
+    /// order has no time.
     pub fn fits(&self, list: Cursor) -> bool
         ensures { result ≡ fits self.now list }
     {
@@ -59,18 +59,16 @@ impl Filter {
     }
 }
 
-// ---- the fields of a row that a filter uses
-
 fn name_of_row(row: &Row) -> Option<Label>
     ensures { result ≡ name_of_row row.now }
 {
     match row {
-        Row::Certificate(line) => Some(line.subscriber.name),
-        Row::Revoked(line) => Some(line.certificate.subscriber.name),
-        Row::Request(line) => Some(line.subscriber.name),
-        Row::History(history) => Some(history.request.subscriber.name),
+        Row::Certificate(listed) => Some(listed.subscriber.name),
+        Row::Revoked(listed) => Some(listed.certificate.subscriber.name),
+        Row::Request(listed) => Some(listed.subscriber.name),
+        Row::AnyRequest(listed) => Some(listed.request.subscriber.name),
         Row::Subscriber(subscriber) => Some(subscriber.name),
-        Row::Order(line) => Some(line.subscriber.name),
+        Row::Order(listed) => Some(listed.subscriber.name),
         Row::Crl(_) => None,
     }
 }
@@ -79,11 +77,11 @@ fn serial_of_row(row: &Row) -> Option<Serial>
     ensures { result ≡ serial_of_row row.now }
 {
     match row {
-        Row::Certificate(line) => Some(line.certificate.serial),
-        Row::Revoked(line) => Some(line.revocation.serial),
-        Row::Request(line) => Some(line.request.serial),
-        Row::History(history) => Some(history.request.request.serial),
-        Row::Order(line) => line.serial,
+        Row::Certificate(listed) => Some(listed.certificate.serial),
+        Row::Revoked(listed) => Some(listed.revocation.serial),
+        Row::Request(listed) => Some(listed.request.serial),
+        Row::AnyRequest(listed) => Some(listed.request.request.serial),
+        Row::Order(listed) => listed.serial,
         Row::Subscriber(_) | Row::Crl(_) => None,
     }
 }
@@ -92,18 +90,15 @@ fn time_of_row(row: &Row) -> Option<Moment>
     ensures { result ≡ time_of_row row.now }
 {
     match row {
-        Row::Certificate(line) => Some(line.certificate.not_before),
-        Row::Revoked(line) => Some(line.revocation.at),
-        Row::Request(line) => Some(line.request.received),
-        Row::History(history) => Some(history.request.request.received),
+        Row::Certificate(listed) => Some(listed.certificate.not_before),
+        Row::Revoked(listed) => Some(listed.revocation.at),
+        Row::Request(listed) => Some(listed.request.received),
+        Row::AnyRequest(listed) => Some(listed.request.request.received),
         Row::Crl(crl) => Some(crl.this_update),
         Row::Subscriber(_) | Row::Order(_) => None,
     }
 }
 
-// ---- whether a field satisfies a condition
-
-/// Whether the name is the wanted one, if one is wanted.
 fn is_wanted_name(wanted: &Option<Label>, name: Option<Label>) -> bool
     ensures { result ≡ wanted_field bytes_eq wanted.now name }
 {
@@ -116,7 +111,6 @@ fn is_wanted_name(wanted: &Option<Label>, name: Option<Label>) -> bool
     }
 }
 
-/// Whether the serial number begins with the wanted digits, if digits are wanted.
 fn has_wanted_prefix(wanted: &Option<Label>, serial: Option<Serial>) -> bool
     ensures { result ≡ wanted_field begins_with wanted.now serial }
 {

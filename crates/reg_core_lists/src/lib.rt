@@ -15,7 +15,7 @@ mod rows;
 mod texts;
 
 pub use cursor::Cursor;
-pub use feed::{FeedCrl, FeedPage, FeedRows, MOST_ROWS, before_later, digest_of};
+pub use feed::{FeedCrl, FeedPage, FeedRows, MOST_ROWS, digest_of, revocations_until_next_crl};
 pub use feed_lines::{FeedLine, put_head};
 pub use feed_reader::{FeedHead, PageFault, ReceivedPage, read_feed_page};
 pub use fields::ground_word;

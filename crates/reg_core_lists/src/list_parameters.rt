@@ -1,5 +1,6 @@
-//! The query for a page of a list, by the list's name and its parameters: `after=KEY&limit=N&before=MOMENT` and a filter,
-//! `subscriber=NAME&serial=PREFIX&from=MOMENT&to=MOMENT`.
+//! The query for a page of a list, by the list's name and its parameters, `after=KEY&limit=N&before=MOMENT` and a filter,
+//! `subscriber=NAME&serial=PREFIX&from=MOMENT&to=MOMENT`. KEY is the serial number, id or CRL number after which the page begins. Only the list
+//! `ending` takes `before`: it has the good certificates whose notAfter is before that moment.
 
 ghost use Rattle.std.specs.Prelude.{◌≡◌, ◌≤◌, ◌<◌, ◌+◌, ◌==◌, drop, length};
 ghost use Rattle.std.specs.Char.{is_ascii_hexdigit};
@@ -10,13 +11,12 @@ use crate::cursor::Cursor;
 use crate::filter::Filter;
 use reg_core::{Label, Moment, read_number};
 
-/// The greatest `limit` that is accepted; one above `MOST_ROWS` counts as `MOST_ROWS`.
+/// The greatest `limit` that is accepted. A limit above `MOST_ROWS_READ` counts as `MOST_ROWS_READ`.
 const GREATEST_LIMIT: u64 = 1_000;
 
 /// The most rows that a page reads, whatever its `limit`, so that no other client waits long.
-const MOST_ROWS: u64 = 250;
+const MOST_ROWS_READ: u64 = 250;
 
-/// The number of different parameters.
 const MOST_PARAMS: usize = 7;
 
 /// The most hexadecimal digits of a serial number.
@@ -38,8 +38,8 @@ pub struct PageQuery {
     pub filter: Filter,
 }
 
-/// Reads the query for a page. `None` if there is no such list, if `before` is missing for `ending` or given for another list, if a parameter has no
-/// `=`, is repeated, unknown or can't be read, if the limit is not 1 to 1,000, or if the list's rows lack a field that the filter needs.
+/// Reads the query for a page of the list `name`. `None` if there is no such list, `before` is missing for `ending` or given for another list, a
+/// parameter has no `=`, is repeated, unknown or can't be read, the limit is not 1 to 1,000, or the list's rows lack a field that the filter needs.
 pub fn read_page(name: &[u8], query: &[u8]) -> Option<PageQuery>
     ensures { result ≡ page_query name.now query.now }
 {
@@ -70,8 +70,8 @@ fn most_rows(limit: Option<u64>) -> Option<u64>
 {
     match limit {
         Some(limit) if limit == 0 || limit > GREATEST_LIMIT => None,
-        Some(limit) if limit < MOST_ROWS => Some(limit),
-        _ => Some(MOST_ROWS),
+        Some(limit) if limit < MOST_ROWS_READ => Some(limit),
+        _ => Some(MOST_ROWS_READ),
     }
 }
 
@@ -111,7 +111,7 @@ fn behind(text: &[u8], index: usize) -> &[u8]
     &text[index + 1..]
 }
 
-/// The index of the first byte `wanted`; the length of the text if there is none.
+/// The index of the first byte that is `wanted`; if there is none, the length of the text. [`position_of`] gives `None` instead of the length.
 pub(crate) fn index_of(text: &[u8], wanted: u8) -> usize
     ensures index { result ≡ position_or_len (λ byte. byte == wanted) text.now }
     ensures within { result ≤ length text.now }
@@ -128,7 +128,6 @@ pub(crate) fn position_of(text: &[u8], wanted: u8) -> Option<usize>
     text.iter().position(|byte| *byte == wanted)
 }
 
-/// The parameters with one more, as `NAME=VALUE`. `None` if it has no `=`, or as for [`with_value`].
 fn with_parameter(params: Params, parameter: &[u8]) -> Option<Params>
     ensures { result ≡ with_parameter params parameter.now }
 {
@@ -139,7 +138,7 @@ fn with_parameter(params: Params, parameter: &[u8]) -> Option<Params>
     with_value(params, &parameter[..end], behind(parameter, end))
 }
 
-/// The parameters with one more. `None` if it is given already, is none of the seven, or its value can't be read.
+/// The parameters and one more. `None`, as from the functions below, if it is given already, is none of the seven, or its value is invalid.
 fn with_value(params: Params, name: &[u8], value: &[u8]) -> Option<Params>
     ensures { result ≡ with_value params name.now value.now }
 {
@@ -181,7 +180,6 @@ fn with_limit(params: Params, value: &[u8]) -> Option<Params>
     Some(Params { limit, ..params })
 }
 
-/// The parameters with one more of the filter. `None` as for [`with_value`].
 fn with_filter(params: Params, name: &[u8], value: &[u8]) -> Option<Params>
     ensures { result ≡ with_filter params name.now value.now }
 {

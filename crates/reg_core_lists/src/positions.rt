@@ -12,7 +12,7 @@ use crate::feed_lines::put_issuer;
 use reg_core::{Decimal, read_number};
 use std::alloc::{AllocError, Global};
 
-/// The digest of positions covers at most this many rows of each table except `crl`: the last ones. A digest of all rows would take too long.
+/// The digest in [`Positions`] covers at most this many rows of each table, the last counted ones (all would take too long), and the last CRL's end.
 pub const WINDOW: u64 = 32;
 
 /// How many rows of each table a copy of a register has: the first ones, in the order of entry.
@@ -26,17 +26,16 @@ pub struct RowCounts {
     pub crls: u64,
 }
 
-/// How many requests a copy of a register has as declined, and the highest of their ids.
+/// How many requests are declined in a copy of a register, and the highest of their ids (`last`; 0 if there are none).
 #[derive(Clone, Copy, PartialEq, Eq)]
 pub struct Declines {
     pub count: u64,
-    /// The highest id of them; 0 if there are none.
     pub last: u64,
 }
 
 impl Declines {
-    /// `count` is how many requests with ids up to `last` the register has as declined. If the copy has as many, this gives its declines. Else it
-    /// gives none, so that the feed has all ids again, because such a request was declined since.
+    /// `count` is how many requests with ids up to `last` are declined in the register. If these declines have that count, the result is these
+    /// declines. If not, one of these requests was declined later: then the result is `no_declines`, so that the feed has all declines again.
     pub fn if_counted(&self, count: u64) -> Declines
         ensures { result ≡ cond (count == self.now.count) self.now no_declines }
     {
@@ -48,12 +47,11 @@ impl Declines {
     }
 }
 
-/// How far a copy of a register has got.
+/// How far a copy of a register has got. `digest` is the SHA-256 that `digest_of` makes for the counts.
 #[derive(Clone, Copy, PartialEq, Eq)]
 pub struct Positions {
     pub counts: RowCounts,
     pub declines: Declines,
-    /// The SHA-256 that `digest_of` makes for the counts.
     pub digest: [u8; 32],
 }
 
@@ -131,7 +129,6 @@ fn read_declines(text: &[u8]) -> Option<(Declines, &[u8])>
     Some((Declines { count, last }, rest))
 }
 
-/// The number before the first dot, and the text after it.
 #[tactic(auto, unfolding(crate::specs::Positions::number_and_rest))]
 fn number_before_dot(text: &[u8]) -> Option<(u64, &[u8])>
     ensures { option_map (λ it. (it.0, it.1.now)) result ≡ number_and_rest text.now }
@@ -201,7 +198,7 @@ fn put_part(out: &mut Vec<u8>, number: u64) -> Result<(), AllocError>
     Ok(())
 }
 
-/// Appends the first two lines of the text that `digest_of` hashes: the issuer's Name, `name`, and key in hexadecimal digits; and the counts.
+/// Appends the first two lines of the text that `digest_of` hashes: the issuer's Name (`name`, in DER) and public key in hexadecimal; the counts.
 #[tactic(auto, unfolding(crate::specs::Positions::window_head))]
 pub(crate) fn put_window_head(
     alloc: Global,

@@ -1,4 +1,5 @@
-//! Lists as CSV (RFC 4180, but records end with LF) and JSON (RFC 8259). No byte needs quoting or escaping: names are of letters, digits and `.-_`.
+//! Lists as CSV (RFC 4180, but records end with LF) and JSON (RFC 8259). No byte needs quoting or escaping: names are of letters, digits and `.-_`. A
+//! cursor names a list, and the key of the row after which it continues. `put_..` appends to `out`; in `.._rest`, the first item is written already.
 
 ghost use Rattle.std.specs.Prelude.{◌≡◌, ◌∷◌, ◌++◌, [], IfOk, flat_map, map};
 ghost use Rattle.reg_core_lists.specs.Cursors.{key_cell};
@@ -12,44 +13,42 @@ use crate::rows::Row;
 use reg_core::Decimal;
 use std::alloc::{AllocError, Global};
 
-/// The format of a list.
+/// The format of a list: CSV, a record for each row after a header; or JSON, an object for each row, each on its own line.
 #[derive(Clone, Copy, PartialEq, Eq)]
 pub enum Format {
-    /// A header, and then a record for each row.
     Csv,
-    /// A JSON object for each row, each on its own line.
     Json,
 }
 
-// The names are those of `fields.rt`, in the same order.
+// The names of the fields, as in `fields.rt` and in its order. The list `overdue` has the header of `open-requests`.
 const CERTIFICATES_HEADER: &str =
     "serial,subscriber,name,order,notBefore,notAfter,status,revokedAt,reason,firstCrl,lastCrl\n";
 
 const REVOCATIONS_HEADER: &str =
     "serial,subscriber,name,order,notBefore,notAfter,status,revokedAt,reason,firstCrl,lastCrl,request,ground,received,due,lateness\n";
 
-const REQUESTS_HEADER: &str =
+const OPEN_REQUESTS_HEADER: &str =
     "request,serial,ground,received,due,subscriber,name,order,notBefore,notAfter\n";
 
-const HISTORIES_HEADER: &str =
+const REQUESTS_HEADER: &str =
     "request,serial,ground,received,due,subscriber,name,order,notBefore,notAfter,state,decided,lateness\n";
 
-/// The header of a list as CSV, with its LF.
+/// The header of the list of `from` as CSV, with its LF.
 pub fn header(from: Cursor) -> &'static str
     ensures { result.now ≡ header_text from }
 {
     match from {
         Cursor::Revoked(_) => REVOCATIONS_HEADER,
         Cursor::Certificates(_) | Cursor::Ending { .. } => CERTIFICATES_HEADER,
-        Cursor::OpenRequests(_) | Cursor::Overdue(_) => REQUESTS_HEADER,
-        Cursor::Requests(_) => HISTORIES_HEADER,
+        Cursor::OpenRequests(_) | Cursor::Overdue(_) => OPEN_REQUESTS_HEADER,
+        Cursor::Requests(_) => REQUESTS_HEADER,
         Cursor::Subscribers(_) => "subscriber,name\n",
         Cursor::Orders(_) => "order,subscriber,name,days,serial\n",
         Cursor::Crls(_) => "crl,thisUpdate\n",
     }
 }
 
-/// Appends rows to a text, each as a line; no header. `AllocError` if out of memory: then `out` may have some of the bytes.
+/// Appends rows, each as a line; no header. `AllocError` if out of memory: then `out` may have some of the bytes.
 pub fn put_rows(
     alloc: Global,
     out: &mut Vec<u8>,
@@ -169,7 +168,7 @@ fn put_string(out: &mut Vec<u8>, cell: &Cell) -> Result<(), AllocError>
     Ok(())
 }
 
-/// A page as a JSON object: the name of its list, the key after which the next page begins or `null`, and its rows.
+/// A page, which begins at the cursor `from`, as a JSON object: the name of its list, the key after which the next page begins, or `null`; the rows.
 #[tactic(auto, unfolding(crate::specs::Texts::page_body))]
 pub fn page_text(
     alloc: Global,
@@ -199,11 +198,10 @@ fn put_next(out: &mut Vec<u8>, next: Option<Cursor>) -> Result<(), AllocError>
     }
 }
 
-/// The key after which the list continues.
-fn key_of(from: Cursor) -> Cell
-    ensures { result ≡ key_cell from }
+fn key_of(cursor: Cursor) -> Cell
+    ensures { result ≡ key_cell cursor }
 {
-    match from {
+    match cursor {
         Cursor::Revoked(after) => serial_cell(after),
         Cursor::Certificates(after) => serial_cell(after),
         Cursor::Ending { before: _, after } => serial_cell(after),

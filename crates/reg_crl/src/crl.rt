@@ -1,4 +1,4 @@
-//! The DER of CRLs (RFC 5280 5.1).
+//! The DER of CRLs (RFC 5280 5.1). A call fails only if out of memory.
 
 ghost use Rattle.std.specs.Prelude.{◌≡◌, ◌++◌, ◌+◌, ◌*◌, ◌≤◌, ◌^◌, length, IfOk, OnOk};
 ghost use Rattle.std.specs.List.{flat_map};
@@ -14,20 +14,18 @@ use std::alloc::Global;
 /// The INTEGER that means version 2 (RFC 5280 5.1.2.1).
 const VERSION_2: u64 = 1;
 
-/// The reason `unspecified`: the reason code extension is left out for it (RFC 5280 5.3.1).
+/// The reasonCode `unspecified`, for which the extension is left out (RFC 5280 5.3.1).
 const UNSPECIFIED: u8 = 0;
 
-/// 2.5.29.20, the CRL number (RFC 5280 5.2.3).
+/// The contents of the OBJECT IDENTIFIER 2.5.29.20 (RFC 5280 5.2.3). The next two are 2.5.29.21 (5.3.1) and 2.5.29.35 (5.2.1).
 pub(crate) const CRL_NUMBER: [u8; 3] = [0x55, 0x1D, 0x14];
 
-/// 2.5.29.21, the reason code (RFC 5280 5.3.1).
 const REASON_CODE: [u8; 3] = [0x55, 0x1D, 0x15];
 
-/// 2.5.29.35, the authority key identifier (RFC 5280 5.2.1).
 const AUTHORITY_KEY_IDENTIFIER: [u8; 3] = [0x55, 0x1D, 0x23];
 
-/// The TBSCertList (RFC 5280 5.1.2) of the CRL with this number: the part that is signed, of at most 2^27 bytes. At most 1,000,000 entries ascend
-/// strictly by serial number. `algorithm` is the AlgorithmIdentifier of the signature, at most 1,024 bytes of DER. `Memory` if out of memory.
+/// The TBSCertList (RFC 5280 5.1.2), the part of a CRL that is signed: at most 2^27 bytes. `number` is the CRL number. There are at most 1,000,000
+/// entries, strictly ascending by serial number. `algorithm` is the AlgorithmIdentifier of the signature, at most 1,024 bytes of DER.
 #[tactic(auto, unfolding(crate::specs::Crl::tbs_cert_list))]
 pub fn crl_tbs(
     alloc: Global,
@@ -63,7 +61,7 @@ pub fn crl_tbs(
     Ok(tbs)
 }
 
-/// The CertificateList (RFC 5280 5.1.1): the TBSCertList, its AlgorithmIdentifier once more, and the signature. `Memory` if out of memory.
+/// The CertificateList (RFC 5280 5.1.1): the TBSCertList, the AlgorithmIdentifier that is also in it, and the octets of the signature.
 #[tactic(auto, unfolding(crate::specs::Crl::certificate_list))]
 pub fn crl_whole(
     alloc: Global,
@@ -106,7 +104,6 @@ fn put_revoked_certificates(
     put(out, SEQUENCE, &contents)
 }
 
-/// The contents of revokedCertificates, without its tag and length.
 fn revoked(alloc: Global, entries: &[Entry]) -> Result<Vec<u8>, Memory>
     ensures bytes { ItemsOnOk result (flat_map revoked_certificate entries.now) }
     ensures short { IfOk result (λ bytes. length bytes.items ≤ 59 * length entries.now) }
@@ -119,7 +116,7 @@ fn revoked(alloc: Global, entries: &[Entry]) -> Result<Vec<u8>, Memory>
     Ok(out)
 }
 
-/// Appends one entry; its `at` is the revocationDate. `buffer` gets the contents of the entry; all entries share it, which saves allocations.
+/// Appends one entry; its `at` is the revocationDate. All entries use the same `buffer` for their contents, which saves allocations.
 #[tactic(auto, unfolding(crate::specs::Crl::revoked_certificate))]
 fn put_revoked_certificate(
     out: &mut Vec<u8>,
@@ -145,7 +142,7 @@ fn put_crl_entry_extensions(out: &mut Vec<u8>, reason: u8) -> Result<(), Memory>
         return Ok(());
     }
     let [id1, id2, id3] = REASON_CODE;
-    // Extensions { Extension { extnID, extnValue { reasonCode } } }, all of known lengths.
+    // The DER of Extensions { Extension { extnID, extnValue { reasonCode } } }. Each length, such as 12, is fixed.
     let extensions = [
         SEQUENCE,
         12,
@@ -183,7 +180,7 @@ fn put_crl_extensions(
     put(out, TAGGED_0, &sequence)
 }
 
-/// The identifier is the one that was set for the CRL with this number, or the SHA-1 of the issuer's key if none was.
+/// The keyIdentifier is the one that was set for the CRL with this number, or the SHA-1 of the issuer's key if none was set.
 fn put_authority_key_identifier(
     out: &mut Vec<u8>,
     alloc: Global,
@@ -200,7 +197,6 @@ fn put_authority_key_identifier(
     }
 }
 
-/// Appends the authority key identifier extension with this keyIdentifier.
 #[tactic(auto, unfolding(crate::specs::Crl::authority_key_identifier))]
 fn put_identifier(out: &mut Vec<u8>, alloc: Global, identifier: &[u8]) -> Result<(), Memory>
     requires { length identifier.now ≤ 64 }
@@ -224,7 +220,7 @@ fn put_crl_number(out: &mut Vec<u8>, alloc: Global, number: u64) -> Result<(), M
     put_extension(out, alloc, CRL_NUMBER, &value)
 }
 
-/// Appends an extension that is not critical. `identifier` is the contents of its extnID, `value` those of its extnValue.
+/// Appends an extension that is not critical. `identifier` is the contents of its extnID, and `value` those of its extnValue.
 #[tactic(auto, unfolding(crate::specs::Crl::extension))]
 fn put_extension(
     out: &mut Vec<u8>,

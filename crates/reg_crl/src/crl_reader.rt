@@ -1,4 +1,5 @@
-//! Reads the number of a CRL and the serial numbers of its entries (RFC 5280 5.1), so that they can be compared with a register.
+//! Reads the number of a CRL and the serial numbers of its entries (RFC 5280 5.1), to compare them with a register. The functions `expect` (the
+//! value must be there), `optional` and `whole` (nothing may follow) read the first DER value of some bytes, if it has a given tag.
 
 ghost use Rattle.std.specs.Prelude.{◌≡◌, ◌<◌, ℕ, List, length, IfSome, MatchOption};
 ghost use Rattle.reg_crl.specs.Reading.{IsEntryAt, after_next_update, certificate_list_at, crl_extension_at, header_at, crl_number_at, number_among, crl_number_of, revoked_entry_at, tbs_cert_list_at, time_at};
@@ -13,16 +14,14 @@ use reg_der::tags::{
 use reg_der::take;
 use reg_der::values::{expect, number, optional, whole};
 
-/// The number of a CRL, and its entries.
+/// The CRL number of a CRL (RFC 5280 5.2.3), and its entries: the contents of revokedCertificates, for [`next_entry`], or nothing if that is absent.
 #[derive(Clone, Copy)]
 pub struct ParsedCrl<'a> {
-    /// The CRL number (RFC 5280 5.2.3).
     pub number: u64,
-    /// The contents of revokedCertificates, for [`next_entry`]; empty if it is absent.
     pub revoked: &'a [u8],
 }
 
-/// Reads the DER of a CRL, but not its entries, and verifies no signature. `None` for other bytes, or without a CRL number of 0 to 2^63 - 1.
+/// Reads the DER of a CRL. Parses no entries and verifies no signature. `None` for other bytes, or without a CRL number of 0 to 2^63 - 1.
 #[tactic(auto, unfolding(crate::specs::Reading::certificate_list_at))]
 pub fn read_crl(bytes: &[u8]) -> Option<ParsedCrl<'_>>
     ensures { AgreesWith (λ crl. (crl.number, crl.revoked.now)) result (certificate_list_at bytes.now) }
@@ -30,10 +29,10 @@ pub fn read_crl(bytes: &[u8]) -> Option<ParsedCrl<'_>>
     let (tbs, rest) = expect(SEQUENCE, whole(SEQUENCE, bytes)?)?;
     let (_, rest) = expect(SEQUENCE, rest)?;
     whole(BIT_STRING, rest)?;
-    parts(tbs.contents)
+    number_and_entries(tbs.contents)
 }
 
-/// The serial number of the first entry, and the entries after it. `None` if no entry is at the front, or its serial number is invalid ([`Serial`]).
+/// The serial number of the first entry, and the entries after it. `None` if no entry is there, or its serial number is not 1 to 2^159 - 1.
 pub fn next_entry(entries: &[u8]) -> Option<(Serial, &[u8])>
     ensures exact { MatchOption result
         ((serial : ℕ) (rest : List ℕ) → ¬ IsEntryAt entries.now serial rest)
@@ -44,7 +43,6 @@ pub fn next_entry(entries: &[u8]) -> Option<(Serial, &[u8])>
     Some((Serial::from_der(octets)?, rest))
 }
 
-/// The contents octets of the first entry's serial number, and the entries after it.
 #[tactic(auto, unfolding(crate::specs::Reading::revoked_entry_at))]
 fn serial_octets(entries: &[u8]) -> Option<(&[u8], &[u8])>
     ensures exact { AgreesWith (λ x. (x.0.now, x.1.now)) result (revoked_entry_at entries.now) }
@@ -55,9 +53,8 @@ fn serial_octets(entries: &[u8]) -> Option<(&[u8], &[u8])>
     Some((serial.contents, rest))
 }
 
-/// The number and the entries, from the contents of a TBSCertList.
 #[tactic(auto, unfolding(crate::specs::Reading::tbs_cert_list_at))]
-fn parts(bytes: &[u8]) -> Option<ParsedCrl<'_>>
+fn number_and_entries(bytes: &[u8]) -> Option<ParsedCrl<'_>>
     ensures { AgreesWith (λ crl. (crl.number, crl.revoked.now)) result (tbs_cert_list_at bytes.now) }
 {
     let (revoked, rest) = optional(SEQUENCE, skip_header(bytes)?)?;
@@ -68,7 +65,7 @@ fn parts(bytes: &[u8]) -> Option<ParsedCrl<'_>>
     })
 }
 
-/// The bytes after version, signature, issuer, thisUpdate and nextUpdate.
+/// The bytes after version, signature (an AlgorithmIdentifier), issuer, thisUpdate and nextUpdate.
 #[tactic(auto, unfolding(crate::specs::Reading::header_at))]
 fn skip_header(bytes: &[u8]) -> Option<&[u8]>
     ensures { AgreesWith (λ x. x.now) result (header_at bytes.now) }
@@ -79,7 +76,6 @@ fn skip_header(bytes: &[u8]) -> Option<&[u8]>
     skip_next_update(skip_time(rest)?)
 }
 
-/// The bytes after a Time (RFC 5280 5.1.2.4).
 #[tactic(auto, unfolding(crate::specs::Reading::time_at))]
 fn skip_time(bytes: &[u8]) -> Option<&[u8]>
     ensures { AgreesWith (λ x. x.now) result (time_at bytes.now) }
@@ -92,7 +88,6 @@ fn skip_time(bytes: &[u8]) -> Option<&[u8]>
     }
 }
 
-/// The bytes after nextUpdate, which may be absent.
 #[tactic(auto, unfolding(crate::specs::Reading::after_next_update))]
 fn skip_next_update(bytes: &[u8]) -> Option<&[u8]>
     ensures { AgreesWith (λ x. x.now) result (after_next_update bytes.now) }
@@ -126,7 +121,6 @@ fn number_among(extensions: &[u8]) -> Option<u64>
     None
 }
 
-/// The extnID and the extnValue of the first extension, and the extensions after it.
 #[tactic(auto, unfolding(crate::specs::Reading::crl_extension_at))]
 fn next_extension(bytes: &[u8]) -> Option<(&[u8], &[u8], &[u8])>
     ensures exact { AgreesWith (λ x. ((x.0.now, x.1.now), x.2.now)) result (crl_extension_at bytes.now) }
@@ -139,7 +133,7 @@ fn next_extension(bytes: &[u8]) -> Option<(&[u8], &[u8], &[u8])>
     Some((identifier.contents, value, rest))
 }
 
-/// The number with the contents octets of an INTEGER (X.690 8.3). `None` if the number is negative, or has no octets or more than eight.
+/// The number that the contents octets of an INTEGER encode (X.690 8.3). `None` if it is negative, or if there are no octets or more than eight.
 fn number_of_integer(octets: &[u8]) -> Option<u64>
     ensures { result ≡ crl_number_of octets.now }
 {

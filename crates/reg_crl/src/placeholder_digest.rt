@@ -12,7 +12,7 @@ const ALGORITHM: [u8; 11] = [
 ];
 
 /// A signer without a key: in place of a signature it gives a placeholder digest, the SHA-1 of the message, which anyone can compute. It fails only
-/// if out of memory. It asks no device, so it has no back-off to reset, and counts no failures of a device.
+/// if out of memory. It asks no device (such as a signer process), so it has no back-off after a timeout, and no failures of a device to count.
 #[derive(Clone, Copy, PartialEq, Eq)]
 pub struct DigestSeal;
 

@@ -7,7 +7,7 @@ use std::alloc::{AllocError, Global};
 /// Why there is no signature.
 #[derive(Clone, Copy, PartialEq, Eq)]
 pub enum SignFault {
-    /// The device that has the key (such as a process at a socket) failed, and the signer counted the failure.
+    /// The device that has the key (such as a signer process at a Unix socket) failed, and the signer counted the failure.
     Device,
     Memory,
 }
@@ -34,7 +34,7 @@ impl From<SignFault> for Fault {
     }
 }
 
-/// A signer with one algorithm and one key, which no call changes.
+/// A signer with one algorithm, and with one key or (the placeholder digest, [`crate::DigestSeal`]) none. No call changes the algorithm or the key.
 pub trait Signer {
     ghost use Rattle.std.specs.Prelude.{ℕ, List};
     ghost use Rattle.reg_crl.specs.Signing.{Identity, IsAlgorithm};
@@ -52,12 +52,12 @@ pub trait Signer {
         ensures value { result.now ≡ (identity self.now).algorithm }
         ensures within { IsAlgorithm result.now };
 
-    /// The public key, if a device has the key: then a caller can also request signatures from the device directly. `None` if there is no device.
+    /// The public key, if a device has the private key: then a caller can also request signatures from the device directly. `None` without a device.
     fn public_key(&self) -> Option<&[u8]>
         ensures { IfSome (option_copied result) (λ key. key ≡ (identity self.now).public_key) };
 
-    /// A signature of the message, of at most 65,536 bytes. `Memory` if out of memory. `Device` if the device failed: then the count of
-    /// failures rises. At `u64::MAX` the count can't rise, and the fault is `Memory` instead.
+    /// A signature of the message, of at most 65,536 bytes. `Memory` if out of memory. `Device` if the device failed: then the count of failures
+    /// rises. At `u64::MAX` the count can't rise, and the fault is `Memory` instead.
     fn sign(&mut self, alloc: Global, message: &[u8]) -> Result<Vec<u8>, SignFault>
         ensures { SignsOrFails identity signs failure_count self.old self.new message.now result };
 
@@ -71,8 +71,8 @@ pub trait Signer {
         ensures { result ≡ failure_count self.now };
 }
 
-/// A signer, as the register's laws see it ([`SignsCrls`]). CRLs with numbers below `since` have the placeholder digest, because the register used
-/// it before it got a key. CRLs from `since` on are signed by `signer`.
+/// A signer of a register's CRLs, as the register's laws need it ([`SignsCrls`]). `signer` signs the CRLs from number `since` on. Earlier CRLs have
+/// the placeholder digest, which the register used before it had a signer with a key.
 #[derive(Drop)]
 pub struct CrlSigner<S> {
     pub signer: S,

@@ -5,11 +5,11 @@ use Rattle.reg_crl_signer.specs.Announcement.{signature_in}
 
 module _ {L : Type 0} (remaining contents : L → Option (List ℕ)) (finished : L → L → Type 0) where
   -- The whole message was sent, the sending side was shut down, and octets were received up to the end. The answer is the signature in them.
-  pub record ExchangesMessage (link : L) (message answer : List ℕ) : Type 0 where
+  pub record ExchangesMessage (connection : L) (message answer : List ℕ) : Type 0 where
     pub sent : L
     pub told : L
     pub left : L
-    pub went : Appends (contents link) (contents sent) message
+    pub went : Appends (contents connection) (contents sent) message
     pub finishes : finished sent told
     pub received : List ℕ
     pub came : Consumes (remaining told) (remaining left) received
@@ -19,4 +19,4 @@ module _ {L : Type 0} (remaining contents : L → Option (List ℕ)) (finished :
   -- the message and the answer were exchanged over a connection to the listener at the path
   abbrev pub ExchangesAtPath : (List ℕ → L → Type 0) → List ℕ → List ℕ → List ℕ → Type 0
   ExchangesAtPath connected path message answer =
-      (link : L) × connected path link × ExchangesMessage link message answer
+      (connection : L) × connected path connection × ExchangesMessage connection message answer

@@ -1,60 +1,54 @@
-//! Signature algorithms. Each constant is an AlgorithmIdentifier in DER (RFC 5280 4.1.1.2).
+//! Signature algorithms. Each constant is an AlgorithmIdentifier in DER: of signatures, of keys (`P256`, `P384`, `RSA`) or of both (`ED25519`).
 
 ghost use Rattle.std.specs.Prelude.{◌≡◌, ◌≢◌, ◌↔◌, IsTrue, MatchOption};
 ghost use Rattle.reg_crl.specs.Signing.{IsAlgorithm};
 ghost use Rattle.reg_crl_signer.specs.Algorithms.{algorithm_named, identifier_of, algorithm_name, key_identifier_of};
 ghost use Rattle.reg_crl_signer.specs.declared.algorithm.Algorithm.{Algorithm};
 
-/// ecdsa-with-SHA256, 1.2.840.10045.4.3.2.
+/// ecdsa-with-SHA256, 1.2.840.10045.4.3.2. The next constant is ecdsa-with-SHA384, 1.2.840.10045.4.3.3.
 const ECDSA_SHA256: [u8; 12] = [
     0x30, 0x0A, 0x06, 0x08, 0x2A, 0x86, 0x48, 0xCE, 0x3D, 0x04, 0x03, 0x02,
 ];
 
-/// ecdsa-with-SHA384, 1.2.840.10045.4.3.3.
 const ECDSA_SHA384: [u8; 12] = [
     0x30, 0x0A, 0x06, 0x08, 0x2A, 0x86, 0x48, 0xCE, 0x3D, 0x04, 0x03, 0x03,
 ];
 
-/// sha256WithRSAEncryption, 1.2.840.113549.1.1.11, and NULL.
+/// sha256WithRSAEncryption, 1.2.840.113549.1.1.11, with parameters NULL.
 const RSA_SHA256: [u8; 15] = [
     0x30, 0x0D, 0x06, 0x09, 0x2A, 0x86, 0x48, 0x86, 0xF7, 0x0D, 0x01, 0x01, 0x0B, 0x05, 0x00,
 ];
 
-/// id-Ed25519, 1.3.101.112, of a signature and of a key (RFC 8410 3).
+/// id-Ed25519, 1.3.101.112 (RFC 8410 3).
 const ED25519: [u8; 7] = [0x30, 0x05, 0x06, 0x03, 0x2B, 0x65, 0x70];
 
-/// id-ecPublicKey, 1.2.840.10045.2.1, with the curve secp256r1, 1.2.840.10045.3.1.7 (RFC 5480 2.1.1, 2.1.1.1).
+/// id-ecPublicKey, 1.2.840.10045.2.1, with the curve secp256r1, 1.2.840.10045.3.1.7; `P384` has secp384r1, 1.3.132.0.34 (RFC 5480 2.1.1).
 const P256: [u8; 21] = [
     0x30, 0x13, 0x06, 0x07, 0x2A, 0x86, 0x48, 0xCE, 0x3D, 0x02, 0x01, 0x06, 0x08, 0x2A, 0x86, 0x48,
     0xCE, 0x3D, 0x03, 0x01, 0x07,
 ];
 
-/// id-ecPublicKey with the curve secp384r1, 1.3.132.0.34 (RFC 5480 2.1.1, 2.1.1.1).
 const P384: [u8; 18] = [
     0x30, 0x10, 0x06, 0x07, 0x2A, 0x86, 0x48, 0xCE, 0x3D, 0x02, 0x01, 0x06, 0x05, 0x2B, 0x81, 0x04,
     0x00, 0x22,
 ];
 
-/// rsaEncryption, 1.2.840.113549.1.1.1, and NULL (RFC 3279 2.3.1).
+/// rsaEncryption, 1.2.840.113549.1.1.1, with parameters NULL (RFC 3279 2.3.1).
 const RSA: [u8; 15] = [
     0x30, 0x0D, 0x06, 0x09, 0x2A, 0x86, 0x48, 0x86, 0xF7, 0x0D, 0x01, 0x01, 0x01, 0x05, 0x00,
 ];
 
-/// A signature algorithm, with the one kind of key that it is used with.
+/// A signature algorithm, with its one kind of key: for ECDSA (RFC 5758 3.2) P-256 with SHA-256, P-384 with SHA-384. RSA is RSASSA-PKCS1-v1_5.
 #[derive(Clone, Copy, Debug, PartialEq, Eq)]
 pub enum Algorithm {
-    /// ECDSA with SHA-256 (RFC 5758 3.2) and a P-256 key.
     EcdsaSha256,
-    /// ECDSA with SHA-384 (RFC 5758 3.2) and a P-384 key.
     EcdsaSha384,
-    /// RSASSA-PKCS1-v1_5 with SHA-256 (RFC 4055 5, RFC 8017 8.2).
     RsaSha256,
-    /// Ed25519 (RFC 8410 3, RFC 8032 5.1).
     Ed25519,
 }
 
 impl Algorithm {
-    /// Reads a name, as [`Algorithm::name`] gives it. `None` for any other text.
+    /// The algorithm with this name ([`Algorithm::name`]). `None` for any other text.
     pub fn read(name: &str) -> Option<Algorithm>
         ensures named { MatchOption result ((algorithm : Algorithm) → algorithm_name algorithm ≢ name.now)
             (λ algorithm. algorithm_name algorithm ≡ name.now) }
@@ -69,7 +63,7 @@ impl Algorithm {
         }
     }
 
-    /// The algorithm with this AlgorithmIdentifier in DER (RFC 5280 4.1.1.2), as [`Algorithm::identifier`] gives it. `None` for any other bytes.
+    /// The algorithm with this AlgorithmIdentifier in DER ([`Algorithm::identifier`]). `None` for any other bytes.
     pub fn from_identifier(identifier: &[u8]) -> Option<Algorithm>
         ensures { MatchOption result ((algorithm : Algorithm) → identifier_of algorithm ≢ identifier.now)
             (λ algorithm. identifier_of algorithm ≡ identifier.now) }
@@ -105,7 +99,7 @@ impl Algorithm {
         }
     }
 
-    /// The DER of its AlgorithmIdentifier (RFC 5280 4.1.1.2): the parameters are NULL for RSA, and left out otherwise.
+    /// The AlgorithmIdentifier of its signatures in DER: the parameters are NULL for RSA, and left out otherwise.
     #[tactic(auto, using(crate::proofs::Identifiers::identifier_is), unfolding(reg_der::specs::Der::tlv, reg_der::specs::Der::length_octets))]
     pub fn identifier(self) -> &'static [u8]
         ensures value { result.now ≡ identifier_of self }
@@ -120,7 +114,7 @@ impl Algorithm {
     }
 }
 
-/// Whether `identifier` is the AlgorithmIdentifier in DER (no key identifier) of a subjectPublicKeyInfo with the algorithm's key (RFC 5280 4.1.2.7).
+/// Whether `identifier` is the AlgorithmIdentifier in DER of the subjectPublicKeyInfo of a key for this algorithm (RFC 5280 4.1.2.7).
 #[tactic(auto, unfolding(reg_der::specs::Der::tlv, reg_der::specs::Der::length_octets))]
 pub fn is_key_algorithm_identifier(algorithm: Algorithm, identifier: &[u8]) -> bool
     ensures { IsTrue result ↔ (identifier.now ≡ key_identifier_of algorithm) }

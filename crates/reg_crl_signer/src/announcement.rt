@@ -1,10 +1,10 @@
-//! The announcement of persistent connections: by it a signer says that one connection can carry many messages, one after the other.
+//! The announcement of persistent connections: with it a signer process says that it takes many messages, one after the other, on one connection.
 
 ghost use Rattle.std.specs.Prelude.{◌≡◌, ◌≤◌, IsTrue, length, nat_eq, take};
 ghost use Rattle.std.specs.List.{starts_with};
 ghost use Rattle.reg_crl_signer.specs.Announcement.{announcement, signature_in};
 
-/// On a connection for only one message, a signer that also takes persistent connections sends these bytes, and then the signature.
+/// A signer that takes persistent connections sends these bytes before the signature, if the connection is for one message.
 const ANNOUNCEMENT: &[u8; 16] = b"desk-signer/1 \r\n";
 
 pub(crate) fn is_announced(answer: &[u8]) -> bool
@@ -14,7 +14,6 @@ pub(crate) fn is_announced(answer: &[u8]) -> bool
     answer.starts_with(ANNOUNCEMENT)
 }
 
-/// The signature in a signer's answer: what follows the announcement, or the whole answer if it begins with none.
 pub(crate) fn signature_in(answer: &[u8]) -> &[u8]
     ensures signature { result.now ≡ signature_in answer.now }
     ensures short { length result.now ≤ length answer.now }
@@ -26,7 +25,7 @@ pub(crate) fn signature_in(answer: &[u8]) -> &[u8]
     }
 }
 
-/// The first `count` bytes of `room` are an answer. Moves its signature to the beginning of `room`, and returns how many bytes the signature has.
+/// The first `count` bytes of `room` are an answer. Moves the signature in it to the beginning of `room`, and returns the signature's length.
 pub(crate) fn keep_signature(room: &mut [u8], count: usize) -> usize
     requires { count ≤ length room.old }
     ensures signature { take result room.new ≡ signature_in (take count room.old) }

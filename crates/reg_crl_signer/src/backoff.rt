@@ -1,4 +1,4 @@
-//! The back-off: a device that timed out is not asked again for ten seconds.
+//! The back-off: a device (which has the signer's key) that timed out is not asked again for ten seconds.
 
 ghost use Rattle.std.specs.Prelude.{◌≡◌, ◌↔◌, ◌≤◌, ◌<◌, ◌-◌, IsTrue, IfSome, MatchOption, None, OnErr, OnOk, length};
 ghost use Rattle.std.specs.Duration.{as_nanos};
@@ -10,10 +10,10 @@ use std::time::{Clock, Duration};
 
 const BACKOFF_NANOS: u128 = 10_000_000_000;
 
-/// Whether a back-off began, and when. Each moment here is a reading of one monotonic clock.
+/// The state of the back-off. `since` is when it began: at the end of the exchange (a message and its answer) that timed out. `None`: no back-off.
+/// Every `Duration` here, except `timeout` and `elapsed`, is a reading of one monotonic clock.
 #[derive(Clone, Copy, Debug, PartialEq, Eq)]
 pub struct Backoff {
-    /// When the exchange (a message and its answer) that timed out ended, and the back-off began; `None` without a back-off.
     since: Option<Duration>,
 }
 
@@ -24,7 +24,7 @@ impl Backoff {
         Backoff { since: None }
     }
 
-    /// The back-off after an exchange that failed. If it took at least `timeout`, the back-off begins at `ended`; else there is none.
+    /// The state after an exchange that failed. If it took at least `timeout`, a back-off begins at `ended`; else there is none.
     pub fn after_failure(began: Duration, ended: Duration, timeout: Duration) -> Backoff
         ensures { MatchOption result.since (as_nanos ended - as_nanos began < as_nanos timeout)
             (λ since. (since ≡ ended) × (as_nanos timeout ≤ as_nanos ended - as_nanos began)) }
@@ -37,7 +37,7 @@ impl Backoff {
         }
     }
 
-    /// Whether the device must not be asked at `now`, because less than ten seconds have passed since the timeout.
+    /// Whether the device must not be asked at `now`, because less than ten seconds have passed since the back-off began.
     pub fn is_active(&self, now: Duration) -> bool
         ensures { IsTrue result ↔ IsBackedOff self.now.since now }
     {
@@ -49,7 +49,7 @@ impl Backoff {
 }
 
 /// A device with a back-off. If an exchange takes ten seconds or more and fails, exchanges in the next ten seconds fail without asking the device.
-/// [`Device::reset_backoff`] ends that. An exchange at whose beginning the clock can't be read asks the device.
+/// `reset_backoff` ends that. If the clock can't be read before an exchange, the device is asked; if it can't be read afterwards, no back-off begins.
 #[derive(Drop)]
 pub struct BackoffDevice<D: Device, C: Clock> {
     device: D,
@@ -69,7 +69,6 @@ impl<D: Device, C: Clock> BackoffDevice<D, C> {
         }
     }
 
-    /// [`Device::exchange`], where `began` is what the clock reads as it begins.
     fn exchange_at(
         &mut self,
         began: Duration,

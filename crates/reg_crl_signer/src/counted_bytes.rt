@@ -1,14 +1,13 @@
-//! Messages and answers on persistent connections: the length in four bytes, big-endian, and then that many bytes.
+//! Messages and answers on persistent connections to a signer: the length in four bytes, big-endian, and then that many bytes.
 
 ghost use Rattle.std.specs.Prelude.{◌≡◌, ◌≤◌, IfOk, IfSome, length};
 ghost use Rattle.reg_crl_signer.specs.CountedBytes.{counted_bytes};
 
 use std::alloc::{AllocError, Global};
 
-/// The size in bytes of the length before a message or an answer.
 pub(crate) const LENGTH_BYTES: usize = 4;
 
-/// The bytes after the length. `None` if the length is incomplete, or is not that of these bytes.
+/// The bytes after the length. `None` if the length is incomplete, or is not the number of these bytes.
 pub(crate) fn without_length(counted: &[u8]) -> Option<&[u8]>
     ensures { IfSome result (λ bytes. counted.now ≡ counted_bytes bytes.now) }
 {
@@ -21,6 +20,7 @@ pub(crate) fn without_length(counted: &[u8]) -> Option<&[u8]>
     }
 }
 
+/// The message, of at most 2^24 - 1 bytes, after its length.
 pub(crate) fn with_length(alloc: Global, message: &[u8]) -> Result<Vec<u8>, AllocError>
     requires { length message.now ≤ 16777215 }
     ensures { IfOk result (λ bytes. bytes.items ≡ counted_bytes message.now) }

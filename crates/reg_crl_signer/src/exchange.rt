@@ -1,4 +1,4 @@
-//! A device, such as a signer process, at a Unix socket, and one exchange with it over a connection.
+//! A device (which has the key, such as a signer process) at a Unix socket, and one exchange with it: a message to sign, and its answer, a signature.
 
 ghost use Rattle.std.specs.Prelude.{◌≡◌, ◌<◌, IfOk, length, take};
 ghost use Rattle.reg_crl_signer.specs.Exchange.{ExchangesMessage};
@@ -10,20 +10,20 @@ use std::io;
 use std::io::{Read, Write};
 use std::marker::PhantomData;
 
-/// A connection to the socket of a device, for one message and its answer. Only `UnixConnection` implements it: proofs need opaque relations.
+/// A connection to a device, for one exchange. Proofs over any such connection use the relations below; in `UnixConnection` each is always true.
 pub trait DeviceConnection: Read + Write {
     ghost use Rattle.std.specs.Prelude.{ℕ, List, IfOk, OnErr, OnOk};
 
-    // This connection was made to the listener at the path.
+    // This connection was made to the listener at this path.
     ghost connected: { List ℕ → Self → Type 0 };
 
-    // No connection could be made to the path.
+    // No connection could be made to this path.
     ghost unconnected: { List ℕ → Type 0 };
 
-    // The sending side was shut down: the connection before, and after.
+    // The connection before its sending side was shut down, and after.
     ghost finished: { Self → Self → Type 0 };
 
-    // The listener at the path gave this answer to this message over a connection of another type, such as the event loop's `SignerConnection`.
+    // The listener at this path gave another caller, such as the event loop by its `SignerConnection`, this answer to this message.
     ghost answered_another_caller: { List ℕ → List ℕ → List ℕ → Type 0 };
 
     /// Connects to the listener at `path`. The errors are those of the implementation.
@@ -31,13 +31,13 @@ pub trait DeviceConnection: Read + Write {
         ensures ok { IfOk result (connected path.now) }
         ensures err { OnErr result (unconnected path.now) };
 
-    /// Shuts down the sending side of the connection. The errors are those of shutdown(2).
+    /// Shuts down the sending side, because the message is whole. The errors are those of shutdown(2).
     fn finish(&mut self) -> io::Result<()>
         ensures { OnOk result (finished self.old self.new) };
 }
 
 /// A device that listens at a path. Each exchange opens a connection, sends the message, shuts down the sending side, and reads up to the end, which
-/// must come before `room` is full. The answer is what was read, without an announcement of persistent connections at its beginning.
+/// must come before the buffer `room` is full. The answer is what was read, without the announcement that the signer takes persistent connections.
 #[derive(Drop)]
 pub struct SocketDevice<L: DeviceConnection> {
     rt: HostRuntime,
@@ -47,7 +47,7 @@ pub struct SocketDevice<L: DeviceConnection> {
 }
 
 impl<L: DeviceConnection> SocketDevice<L> {
-    /// The device that listens at `path`. `key` is the bits of its subjectPublicKey (RFC 5280 4.1.2.7). Nothing is sent to the device yet.
+    /// The device that listens at `path`. `key` is the bits of its subjectPublicKey (RFC 5280 4.1.2.7). The call does not connect.
     pub fn new(rt: HostRuntime, path: String, key: Vec<u8>) -> SocketDevice<L>
         ensures path { result.path ≡ path }
         ensures key { result.key ≡ key }
@@ -72,7 +72,6 @@ impl<L: DeviceConnection + Drop> Device for SocketDevice<L> {
 
     ghost device_answered = { ExchangesAtPath L.Read.remaining L.Write.contents L.finished L.connected };
 
-    // The listener at some path gave this answer, over a connection of type `L` or of another type.
     ghost answers = { λ key message answer.
         ((path : List ℕ)
         × ExchangesAtPath L.Read.remaining L.Write.contents L.finished L.connected path message answer)
@@ -82,9 +81,9 @@ impl<L: DeviceConnection + Drop> Device for SocketDevice<L> {
 
     ghost others_answers_are_answers = { λ key device_path message answer given. inr (device_path, given) };
 
-    // No connection could be made, or one was made and gave no answer.
+    // No connection could be made, or one was made but gave no answer.
     ghost fails = { λ it message after. L.unconnected (string_bytes it.path)
-        ⊎ ((link : L) × L.connected (string_bytes it.path) link) };
+        ⊎ ((connection : L) × L.connected (string_bytes it.path) connection) };
 
     fn public_key(&self) -> &[u8] {
         &self.key
@@ -92,26 +91,28 @@ impl<L: DeviceConnection + Drop> Device for SocketDevice<L> {
 
     fn exchange(&mut self, message: &[u8], room: &mut [u8]) -> Result<usize, DeviceFault> {
         match L::connect(&self.rt, self.path.as_str()) {
-            Ok(mut link) => exchange_message(&mut link, message, room),
+            Ok(mut connection) => exchange_message(&mut connection, message, room),
             Err(_) => Err(DeviceFault),
         }
     }
 
+    // There is no back-off here: `BackoffDevice` adds it.
     fn reset_backoff(&mut self) {}
 }
 
+/// Sends the message, reads the answer into `room`, moves the signature in it to the beginning, and returns the signature's length.
 fn exchange_message<L: DeviceConnection>(
-    link: &mut L,
+    connection: &mut L,
     message: &[u8],
     room: &mut [u8],
 ) -> Result<usize, DeviceFault>
     ensures short { IfOk result (λ count. count < length room.new) }
     ensures answered { IfOk result (λ count.
-        ExchangesMessage L.Read.remaining L.Write.contents L.finished link.old message.now
+        ExchangesMessage L.Read.remaining L.Write.contents L.finished connection.old message.now
         (take count room.new)) }
 {
-    write_whole(link, message).map_err(|_| DeviceFault)?;
-    link.finish().map_err(|_| DeviceFault)?;
-    let count = fill_to_end(link, room).map_err(|_| DeviceFault)?;
+    write_whole(connection, message).map_err(|_| DeviceFault)?;
+    connection.finish().map_err(|_| DeviceFault)?;
+    let count = fill_to_end(connection, room).map_err(|_| DeviceFault)?;
     Ok(keep_signature(room, count))
 }

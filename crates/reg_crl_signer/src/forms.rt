@@ -1,4 +1,4 @@
-//! Checks the form of public keys and of signatures. An RSA key is a SEQUENCE of modulus and exponent, an ECDSA signature one of r and s.
+//! Checks the form of public keys and of signatures. An RSA key is a SEQUENCE of modulus and exponent; an ECDSA signature is a SEQUENCE of r and s.
 
 ghost use Rattle.std.specs.Prelude.{◌≡◌, ◌↔◌, ◌<◌, ◌^◌, IsTrue, length};
 ghost use Rattle.std.specs.Bool.{OnTrue};
@@ -7,19 +7,18 @@ ghost use Rattle.reg_crl_signer.specs.Forms.{HasForm, IsEcdsaValue, HasKeyForm, 
 use crate::algorithm::Algorithm;
 use crate::numbers::octets_of_pair;
 
-/// How many octets a coordinate of a point of P-256 has (SEC 1 2.3.5), and r and s have at most, without a zero octet for the sign.
+/// How many octets a coordinate of a point of P-256 has (SEC 1 2.3.5). A signature's r and s have at most as many, without a zero octet for the sign.
 const P256_OCTETS: usize = 32;
 
 const P384_OCTETS: usize = 48;
 
-/// How many octets a public key of Ed25519 has (RFC 8032 5.1.5).
+/// How many octets a public key of Ed25519 has, and, in the next constant, a signature (RFC 8032 5.1.5, 5.1.6).
 const ED25519_KEY: usize = 32;
 
-/// How many octets a signature of Ed25519 has (RFC 8032 5.1.6).
 const ED25519_SIGNATURE: usize = 64;
 
 impl Algorithm {
-    /// Whether `key`, the bits of a subjectPublicKey (RFC 5280 4.1.2.7), has the form of a public key of the algorithm.
+    /// Whether `key`, the bits of a subjectPublicKey (RFC 5280 4.1.2.7), has the form of a public key of this algorithm.
     pub fn is_key(self, key: &[u8]) -> bool
         ensures { IsTrue result ↔ HasKeyForm self key.now }
     {
@@ -31,7 +30,7 @@ impl Algorithm {
         }
     }
 
-    /// Whether `signature` has the form of a signature of the algorithm under the key. The signature is not verified.
+    /// Whether `signature` has the form of a signature by this algorithm with the key `key`. Does not verify it.
     pub fn is_signature(self, key: &[u8], signature: &[u8]) -> bool
         ensures { IsTrue result ↔ HasSignatureForm self key.now signature.now }
     {
@@ -44,8 +43,7 @@ impl Algorithm {
     }
 }
 
-/// Whether `signature` has the form of a signature under `key`, the bits of a subjectPublicKey, by the algorithm with this AlgorithmIdentifier in
-/// DER. `false` if no variant of [`Algorithm`] has this identifier. The signature is not verified.
+/// As [`Algorithm::is_signature`], for the algorithm with the AlgorithmIdentifier `identifier`, in DER. `false` if no [`Algorithm`] has it.
 pub fn has_form(identifier: &[u8], key: &[u8], signature: &[u8]) -> bool
     ensures { OnTrue result
         (HasForm (record { algorithm = identifier.now; public_key = key.now }) signature.now) }
@@ -56,8 +54,7 @@ pub fn has_form(identifier: &[u8], key: &[u8], signature: &[u8]) -> bool
     }
 }
 
-/// Whether the key has the form of a point whose coordinates have so many octets each (SEC 1 2.3.3): uncompressed, 4 and both coordinates; or
-/// compressed, 2 or 3 and one. Not whether it is on the curve.
+/// Whether `key` has the form of a point (SEC 1 2.3.3): octet 4 and two coordinates of `octets` octets, or octet 2 or 3 and one coordinate.
 fn is_point(key: &[u8], octets: usize) -> bool
     requires { octets < 100 }
     ensures { IsTrue result ↔ IsPoint octets key.now }
@@ -78,7 +75,7 @@ fn is_ecdsa_value(signature: &[u8], octets: usize) -> bool
     }
 }
 
-/// Whether the key has the form of an RSA key whose modulus has so many octets; a signature has as many as the modulus (RFC 8017 8.2.1).
+/// Whether the key has the form of an RSA key with a modulus of `octets` octets; its signatures have as many (RFC 8017 8.2.1).
 fn has_modulus_of(key: &[u8], octets: usize) -> bool
     ensures { IsTrue result ↔ IsRsaKey key.now octets }
 {

@@ -1,4 +1,4 @@
-//! Positive INTEGERs in DER (X.690 8.3), and SEQUENCEs of two.
+//! Reads positive INTEGERs in DER (X.690 8.3), and SEQUENCEs of two of them. `take` returns the DER value at the front, and the bytes after it.
 
 ghost use Rattle.std.specs.Prelude.{◌≡◌, ℕ, ◌<◌, ◌++◌, List, MatchOption};
 ghost use Rattle.reg_core.specs.Integer.{IsInteger};
@@ -13,7 +13,7 @@ const SEQUENCE: u8 = 0x30;
 /// The first octet of an INTEGER's contents is below this if the number is not negative (X.690 8.3.3).
 const SIGN_BIT: u8 = 0x80;
 
-/// If the bytes are a SEQUENCE of two INTEGERs above 0: how many octets each has, without a zero octet for the sign. `None` for any other bytes.
+/// If the bytes are a SEQUENCE of two INTEGERs above 0: how many octets of contents each has, without a zero octet for the sign. Else `None`.
 pub(crate) fn octets_of_pair(bytes: &[u8]) -> Option<(usize, usize)>
     ensures { MatchOption result ((first second : ℕ) → ¬ IsPair bytes.now first second)
         (λ counts. IsPairOfIntegers bytes.now counts.0 counts.1) }
@@ -30,7 +30,7 @@ pub(crate) fn octets_of_pair(bytes: &[u8]) -> Option<(usize, usize)>
     Some((first, second))
 }
 
-/// If the bytes begin with an INTEGER above 0: how many octets it has, without a zero octet for the sign, and the bytes after it. Else `None`.
+/// If the bytes begin with an INTEGER above 0: how many octets its contents have, without a zero octet for the sign; and the rest. Else `None`.
 fn take_positive(bytes: &[u8]) -> Option<(usize, &[u8])>
     ensures { MatchOption result
         ((raw rest : List ℕ) (number : ℕ) → IsPositive raw number → bytes.now ≡ raw ++ rest → ⊥)
@@ -48,7 +48,7 @@ fn octets_of(contents: &[u8]) -> Option<usize>
         (λ count. (number : ℕ) × (0 < number) × IsInteger contents.now number × HasOctets number count) }
 {
     match contents {
-        // DER puts a zero octet first only if the next octet's highest bit is set (X.690 8.3.2).
+        // A first octet 0 is there for the sign, and DER has it only if the next octet's highest bit is set (X.690 8.3.2).
         [first, second, ..] if *first == 0 && *second >= SIGN_BIT => Some(contents.len() - 1),
         [first, ..] if *first != 0 && *first < SIGN_BIT => Some(contents.len()),
         _ => None,

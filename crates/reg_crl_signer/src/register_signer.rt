@@ -13,16 +13,16 @@ use std::alloc::Global;
 
 #[derive(Drop)]
 pub enum RegisterSigner<D: Device> {
-    /// A key in a device: the issuer's, or that of an OCSP responder with its own certificate.
+    /// A key in a device (such as a signer process): the issuer's, or that of an OCSP responder with its own certificate.
     Key(DeviceSigner<D>),
-    /// No key: a placeholder digest instead of a signature.
+    /// No key: a placeholder digest (the SHA-1 of the message) instead of a signature.
     Digest(DigestSeal),
-    /// No signer: each `sign` fails, which the number counts. The digest gives the algorithm, since [`Signer::algorithm`] always returns one.
+    /// No signer: each `sign` fails, and the number counts these failures. [`Signer::algorithm`], which must return one, returns that of the digest.
     NoSigner(DigestSeal, u64),
 }
 
 impl<D: Device + Drop> RegisterSigner<D> {
-    /// The same signer, but with `NoSigner` (no failure counted) in place of the placeholder digest, which could sign without a signer process.
+    /// This signer; if it is the placeholder digest, then `NoSigner` with 0 failures instead.
     pub fn without_digest(self) -> RegisterSigner<D>
         ensures key { key_of D.Device result ≡ key_of D.Device self }
         ensures same_identity { register_signer_identity D.Device result
@@ -38,7 +38,7 @@ impl<D: Device + Drop> RegisterSigner<D> {
         }
     }
 
-    /// Presets the key's next signature, as [`DeviceSigner::set_preset`] does. Without a key, nothing changes.
+    /// Presets the key's next signature, or removes the preset (`None`): [`DeviceSigner::set_preset`]. Without a key, nothing changes.
     pub fn set_preset(&mut self, preset_signature: Option<PresetSignature>)
         requires { ForSome (key_of D.Device self.old)
             (λ signer. IsPreset (D.answered_another_caller (D.device_path signer.device)) preset_signature) }

@@ -1,5 +1,3 @@
-//! A request for a signature, on a non-blocking connection.
-
 ghost use Rattle.std.specs.Prelude.{◌≡◌, ◌≤◌, [], IfOk, IfSome, IsTrue, length};
 ghost use Rattle.reg_crl_signer.specs.SignatureRequest.{IsSignatureRequest};
 
@@ -14,23 +12,23 @@ use std::io;
 use std::io::{ErrorKind, Write};
 use std::net::Shutdown;
 
-/// A request to the signer at a path to sign a message. It keeps the path and the message, so that the answer is used only for that signer and that
-/// message. If the signer takes persistent connections, the connection can be used for a later request.
+/// A request to the signer at a socket's path to sign a message, on a non-blocking connection. It keeps the path and the message, so that the answer
+/// is used only for these. If the signer takes persistent connections, the connection can be used for a later request.
 #[derive(Drop)]
 pub struct SignatureRequest {
     rt: HostRuntime,
     connection: SignerConnection<UnixStream>,
     path: String,
     message: Vec<u8>,
-    /// Whether the answer had the announcement of persistent connections.
+    /// Whether the answer began with the announcement that the signer takes persistent connections.
     is_announced: bool,
     is_registered: bool,
 }
 
 impl SignatureRequest {
-    /// Asks the signer at a path to sign a message: on the kept connection if its signer is at this path and it still works, or else on a new one,
-    /// for this message alone. Errors: those of [`SignatureRequest::connect`]; out of memory; `BrokenPipe` if sending it fails or would block (a
-    /// message of several hundred thousand bytes may not fit into the socket's buffer); those of the shutdown of the sending side.
+    /// Asks the signer at `path` to sign `message`: on the connection of `kept`, an earlier request, if it is to that path, idle and still works;
+    /// else on a new one, for this message alone. Errors: those of [`SignatureRequest::connect`] and shutdown(2); out of memory; `BrokenPipe` if
+    /// sending fails or would block (a message of several hundred thousand bytes may not fit into the socket's buffer).
     pub fn send_to(
         rt: &HostRuntime,
         path: &str,
@@ -39,19 +37,19 @@ impl SignatureRequest {
     ) -> io::Result<SignatureRequest>
         ensures { IfOk result (IsSignatureRequest path.now message.now) }
     {
-        if let Some(sent_request) = send_on_kept(kept, path, message) {
-            return Ok(sent_request);
+        if let Some(request) = send_on_kept(kept, path, message) {
+            return Ok(request);
         }
-        let mut sent_request = SignatureRequest::connect(rt, path)?;
-        sent_request.message.extend_from_slice(message)?;
-        write_whole(&mut sent_request.connection.stream, message).map_err(|_| io::Error::from(
+        let mut request = SignatureRequest::connect(rt, path)?;
+        request.message.extend_from_slice(message)?;
+        write_whole(&mut request.connection.stream, message).map_err(|_| io::Error::from(
             ErrorKind::BrokenPipe,
         ))?;
-        sent_request.finish()?;
-        Ok(sent_request)
+        request.finish()?;
+        Ok(request)
     }
 
-    /// Connects without waiting. Errors: `WouldBlock` if the socket's backlog is full; out of memory; the others of connect(2).
+    /// Connects without waiting; sends nothing. Errors: `WouldBlock` if the socket's backlog is full; out of memory; the others of connect(2).
     pub fn connect(rt: &HostRuntime, path: &str) -> io::Result<SignatureRequest>
         ensures { IfOk result (IsSignatureRequest path.now []) }
     {
@@ -79,24 +77,23 @@ impl SignatureRequest {
         self.path.as_str() == path && self.message.as_slice() == message
     }
 
-    /// Reads what has come, without blocking. Returns `true` if the answer has arrived, or none will.
+    /// Reads what has come, without blocking. `true` if the whole answer has come, or can't come any more.
     pub fn receive(&mut self) -> bool {
         self.connection.receive();
         self.connection.has_ended()
     }
 
-    /// Whether a persistent connection failed before the first byte of the answer was received (or had no memory for it), as when the signer was
-    /// restarted. A request on a new connection may get the signature.
+    /// Whether a persistent connection failed before a byte of the answer was stored, as after a restart of the signer. A new request may succeed.
     pub fn failed_unanswered(&self) -> bool {
         self.connection.failed_unanswered()
     }
 
-    /// The signature in the answer, once the answer has arrived; it may be empty. `None` also if there is no memory.
+    /// The signature in the answer; it may be empty. `None` if the whole answer has not come, or if out of memory.
     pub fn take_signature(&mut self, alloc: Global) -> Option<Vec<u8>>
         ensures { IfSome result (λ signature. length signature.items ≤ 4096) }
     {
         let answer = self.connection.take_answer(alloc)?;
-        // Only an answer on a connection for one message can have the announcement; a persistent one is idle here.
+        // Only an answer on a connection for one message can have the announcement. A persistent connection is idle now.
         if self.connection.is_idle() || !is_announced(&answer) {
             return Some(answer);
         }
@@ -105,8 +102,7 @@ impl SignatureRequest {
         Some(signature)
     }
 
-    /// Whether a later request can use the connection, once the answer was taken. If the answer announced persistent connections, replaces
-    /// the connection by a new, persistent one; `false` if that fails.
+    /// After the answer was taken: whether a later request can use the connection. If the answer announced persistent connections, first opens one.
     pub fn can_be_kept(&mut self) -> bool {
         if self.is_announced {
             self.is_announced = false;
@@ -122,13 +118,12 @@ impl SignatureRequest {
         Ok(())
     }
 
-    /// Whether the connection was registered with a poller. `deregister` does not change this.
+    /// Whether the connection was registered with a poller, even if it was deregistered since.
     pub fn is_registered(&self) -> bool {
         self.is_registered
     }
 }
 
-/// Sends a message on the connection of `kept`. `None` if there is none, if its signer is at another path, or if the message can't be sent at once.
 fn send_on_kept(
     kept: Option<SignatureRequest>,
     path: &str,
@@ -150,7 +145,7 @@ fn send_on_kept(
     }
 }
 
-/// Bytes that are written are appended to `message`. It grows before the write, so that none are sent if out of memory.
+/// Bytes that are sent are appended to `message`, which grows before they are sent: so none are sent if out of memory.
 impl Write for SignatureRequest {
     ghost use Rattle.std.specs.Prelude.{Some};
 

@@ -1,4 +1,4 @@
-//! The signer whose key is in a device.
+//! `DeviceSigner`: makes signatures by asking a device that holds the key, such as a signer process behind a Unix socket.
 
 ghost use Rattle.std.specs.Prelude.{◌≡◌, ◌<◌, ◌≤◌, Some, None, IfOk, OnErr, length, vec_len};
 ghost use Rattle.std.specs.Bool.{OnFalse, OnTrue};
@@ -11,23 +11,22 @@ use crate::preset_signature::{PresetSignature, answer_to};
 use reg_crl::{SignFault, Signer};
 use std::alloc::Global;
 
-/// The most bytes of an answer that is accepted: those of a signature by an RSA key of 32,768 bits.
+/// The most bytes of a device's answer that is accepted as a signature: as many as an RSA key of 32,768 bits gives.
 pub(crate) const LONGEST_ANSWER: usize = 4_096;
 
 /// The device's public key doesn't have the form of a key of the algorithm.
 #[derive(Clone, Copy, Debug, PartialEq, Eq)]
 pub struct KeyFault;
 
-/// Asks a device to sign by one algorithm with the device's key, and counts the calls of `sign` that got no signature, except if out of memory.
-///
-/// An answer of at most 4,096 bytes that has the form of a signature under the device's key is accepted as one. The signature is not verified.
+/// Asks a device to sign by one algorithm with the device's key. An answer of at most 4,096 bytes that has the form of a signature under that key
+/// is accepted; it is not verified. `failures` counts the calls of `sign` that gave no signature, except those that were out of memory.
 #[derive(Drop)]
 pub struct DeviceSigner<D: Device> {
     device: D,
     algorithm: Algorithm,
     failures: u64,
     preset_signature: Option<PresetSignature>,
-    // An answer in the preset is one that another caller got from the device at this path.
+    // An answer in the preset is one that another caller got from the device at the path of `device`.
     ghost came: { IsPreset (D.answered_another_caller (D.device_path device)) preset_signature },
 }
 
@@ -50,8 +49,8 @@ impl<D: Device + Drop> DeviceSigner<D> {
         })
     }
 
-    /// Presets the next signature: the answer that another caller got for a message from the device at the same path. The next `sign` then doesn't
-    /// ask the device, and fails if the preset is for another message or has no answer in the form of a signature. `None` removes the preset.
+    /// Presets the next signature: a message, and the answer that another caller, such as the event loop, got from the device at the same path. The
+    /// next `sign` doesn't ask the device. It fails if its message is another one, or the answer lacks a signature's form. `None` removes the preset.
     pub fn set_preset(&mut self, preset_signature: Option<PresetSignature>)
         requires { IsPreset (D.answered_another_caller (D.device_path self.old.device)) preset_signature }
         ensures preset_signature { self.new.preset_signature ≡ preset_signature }
@@ -62,7 +61,7 @@ impl<D: Device + Drop> DeviceSigner<D> {
         self.preset_signature = preset_signature;
     }
 
-    /// Asks the device. `true` if it gave a signature, which is then all of `answer`.
+    /// Asks the device to sign, and cuts the buffer `answer` to the device's answer, if one came. `true` if that answer has the form of a signature.
     fn ask_device(&mut self, message: &[u8], answer: &mut Vec<u8>) -> bool
         requires { vec_len answer.old ≤ 4097 }
         ensures signed { OnTrue result
@@ -90,6 +89,7 @@ impl<D: Device + Drop> DeviceSigner<D> {
         ensures signing { SigningByDevice D.Device self.old self.new message.now result }
         ensures asks { AsksAtItsPath D.Device self.old self.new message.now result }
     {
+        // One byte more, because `Device::exchange` fails unless the answer is shorter than its buffer.
         let mut answer = vec![in alloc; 0; LONGEST_ANSWER + 1]?;
         if self.ask_device(message, &mut answer) {
             return Ok(answer);
@@ -163,8 +163,7 @@ impl<D: Device + Drop> Signer for DeviceSigner<D> {
     }
 }
 
-/// Counts a failure to sign, and returns its fault. Callers recognise a failed device by a count that rose. At `u64::MAX` the count can't rise, so
-/// the fault is `Memory` there.
+/// Counts a failure to sign, and returns `Device`, which implies that the count rose. At `u64::MAX` it can't rise: then the result is `Memory`.
 pub(crate) fn count_failure(failures: &mut u64) -> SignFault
     ensures device { result ≡ SignFault.Device → failures.old < failures.new }
     ensures exhausted { failures.old ≡ u64.MAX → result ≡ SignFault.Memory }

@@ -1,4 +1,4 @@
-//! One connection to a signer. On a persistent one, the next message is sent only after the answer to the last one was taken.
+//! One connection to a signer process. A persistent one takes one message after another, each only after the answer to the one before was taken.
 
 ghost use Rattle.std.specs.Prelude.{◌≡◌, ◌≤◌, ◌↔◌, IfSome, IsTrue, length};
 
@@ -8,50 +8,47 @@ use reg_io::write_whole;
 use std::alloc::Global;
 use std::io::{ErrorKind, Read, Write};
 
-/// The most bytes of a message on a persistent connection: so the first byte of its length is 0, by which the signer recognizes such a connection.
+/// The most bytes of a message on a persistent connection: 2^24 - 1. So the length begins with a byte 0; a message without a length must not.
 const LONGEST_MESSAGE: usize = 16_777_215;
 
 const READ_BYTES: usize = 512;
 
-/// The most reads for one answer. Even if each read gives only one byte, the answer is whole by then, or longer than `LONGEST_ANSWER`.
+/// The most reads of one `receive`. If each gives only one byte, they suffice for the longest answer and its length, a byte too many, and the end.
 const MOST_READS: usize = LENGTH_BYTES + LONGEST_ANSWER + 2;
 
-/// How a message and its answer end.
+/// How the end of a message, and that of its answer, is found.
 #[derive(Clone, Copy, PartialEq, Eq)]
 pub enum Framing {
-    /// Each ends where its sender ends its side of the connection, which is for one message.
+    /// Its sender shuts down its side of the connection after it. So the connection is for one message.
     ByEnd,
-    /// Its length precedes it, in four bytes, big-endian: the connection is persistent.
+    /// Its length precedes it, in four bytes, big-endian. So the connection is persistent.
     ByLength,
 }
 
-/// The progress of the last message.
+/// The progress of the last message. `Idle`: there was none, or its answer was taken. `Waiting`: its answer is awaited. `Arrived`: its whole answer
+/// has come. `Failed`: the connection failed, or the bytes that came are no answer.
 #[derive(Clone, Copy, PartialEq, Eq)]
 pub enum Progress {
-    /// Its answer was taken, or there was no message.
     Idle,
-    /// Its answer is awaited.
     Waiting,
-    /// Its whole answer has come.
     Arrived,
-    /// The connection failed, or what came is no answer.
     Failed,
 }
 
-/// A non-blocking connection to a signer.
+/// A connection to a signer over `stream`, such as a Unix socket, whose reads and writes don't block.
 #[derive(Drop)]
 pub struct SignerConnection<S> {
     pub(crate) stream: S,
     framing: Framing,
     progress: Progress,
-    /// What came since the last answer was taken.
+    /// The bytes that came since the last answer was taken: those of the next one, and of the length before it if it has one.
     received: Vec<u8>,
 }
 
 impl<S: Drop> SignerConnection<S> {
     ghost use Rattle.reg_crl_signer.specs.SignerConnections.{FailedUnanswered, FramesAnswer, HasEnded, IsNewConnection, LeadsOn, TakesAnswer};
 
-    /// A connection for one message, whose answer is awaited, though the message is not sent yet.
+    /// A connection for one message, which the caller sends over `stream`. Its answer counts as awaited from the start.
     pub fn for_one(alloc: Global, stream: S) -> SignerConnection<S>
         ensures { IsNewConnection stream Framing.ByEnd Progress.Waiting result }
     {
@@ -78,12 +75,13 @@ impl<S: Drop> SignerConnection<S> {
 
     /// Whether the connection is persistent and awaits no answer, so that the next message may be sent.
     pub fn is_idle(&self) -> bool
-        ensures { IsTrue result ↔ ((self.now.framing ≡ Framing.ByLength) × (self.now.progress ≡ Progress.Idle)) }
+        ensures { IsTrue result ↔ ((self.now.framing ≡ Framing.ByLength)
+            × (self.now.progress ≡ Progress.Idle)) }
     {
         self.framing == Framing::ByLength && self.progress == Progress::Idle
     }
 
-    /// Whether the answer has arrived, or none will.
+    /// Whether the answer has arrived, or can't arrive any more.
     pub fn has_ended(&self) -> bool
         ensures { IsTrue result ↔ HasEnded self.now.progress }
     {
@@ -93,7 +91,7 @@ impl<S: Drop> SignerConnection<S> {
         }
     }
 
-    /// Whether the connection is persistent and failed before a byte of the answer was stored in `received`, as when its signer has ended.
+    /// Whether the connection is persistent and failed before a byte of the answer was stored in `received`, as when the signer process has ended.
     pub fn failed_unanswered(&self) -> bool
         ensures { IsTrue result ↔ FailedUnanswered self.now }
     {
@@ -102,7 +100,7 @@ impl<S: Drop> SignerConnection<S> {
             && self.received.is_empty()
     }
 
-    /// Takes the answer, if it has arrived. After that a persistent connection is idle. `None` also if there is no memory.
+    /// Takes the answer, if it has arrived. After that a persistent connection is idle (`is_idle`). `None` also if there is no memory.
     pub fn take_answer(&mut self, alloc: Global) -> Option<Vec<u8>>
         ensures taken { IfSome result (λ answer. TakesAnswer self.old self.new answer.items) }
         ensures short { IfSome result (λ answer. length answer.items ≤ 4096) }
@@ -116,7 +114,7 @@ impl<S: Drop> SignerConnection<S> {
         Some(answer)
     }
 
-    /// The answer that the received bytes make, if no more come. `None` if they make none, or one of more than 4,096 bytes.
+    /// The received bytes as a whole answer. `None` if they are no whole answer, or if it has more than 4,096 bytes.
     fn answer(&self) -> Option<&[u8]>
         ensures is { IfSome result (λ answer. FramesAnswer self.now.framing self.now.received.items answer.now) }
         ensures short { IfSome result (λ answer. length answer.now ≤ 4096) }
@@ -131,17 +129,17 @@ impl<S: Drop> SignerConnection<S> {
         Some(answer)
     }
 
-    /// The progress after more bytes came, or the end of the connection.
+    /// The progress after a read: more bytes came, or (`is_at_end`) the signer has ended its side of the connection.
     fn progress_after(&self, is_at_end: bool) -> Progress
         ensures leads { LeadsOn self.now.progress result }
         ensures not_idle { ¬ (result ≡ Progress.Idle) }
         ensures ended { result ≡ Progress.Arrived → self.now.framing ≡ Framing.ByEnd → IsTrue is_at_end }
     {
-        // No answer is awaited: the connection has ended, or what came is no answer.
+        // No answer is awaited: the connection has ended, or bytes came to which no message belongs.
         if self.progress != Progress::Waiting {
             return Progress::Failed;
         }
-        // `ByEnd`: whole only at the end. `ByLength`: only before it.
+        // An answer `ByEnd` is whole only once the connection has ended, one `ByLength` only while it has not.
         let is_whole = is_at_end == (self.framing == Framing::ByEnd) && self.answer().is_some();
         if is_whole {
             Progress::Arrived
@@ -167,7 +165,7 @@ impl<S: Read + Drop> SignerConnection<S> {
         }
     }
 
-    /// Reads once. Returns whether more of an answer may have come.
+    /// Reads once. Returns whether another read may give more of the answer.
     fn receive_once(&mut self) -> bool
         ensures receives { Receives S.remaining self.old self.new }
         ensures more { IsTrue result → self.new.progress ≡ Progress.Waiting }
@@ -193,7 +191,8 @@ impl<S: Write + Drop> SignerConnection<S> {
     ghost use Rattle.std.specs.Bool.{OnTrue};
     ghost use Rattle.reg_crl_signer.specs.SignerConnections.{SendsNext};
 
-    /// Sends the next message of a persistent connection, on which no answer is awaited. Returns whether it was sent.
+    /// Sends the next message. If the connection isn't idle, or the message is longer than `LONGEST_MESSAGE`, sends nothing and returns `false`. If
+    /// sending fails or would block, or there is no memory, returns `false`, and the connection has failed.
     pub fn send_next(&mut self, alloc: Global, message: &[u8]) -> bool
         ensures { OnTrue result (SendsNext S.contents self.old self.new message.now) }
     {

@@ -12,16 +12,15 @@ use std::os::unix::net::UnixStream;
 use std::time::{Duration, Instant};
 use std::{io, thread};
 
-/// How many seconds an exchange may take in all.
 pub(crate) const TIMEOUT_SECS: u64 = 10;
 
-/// The milliseconds between two attempts to connect to a socket whose backlog is full.
+/// The pause between two attempts to connect to a socket whose backlog is full.
 const PAUSE_MILLIS: u64 = 10;
 
-/// The most bytes of one write. In a longer one, the kernel may apply the timeout to each part anew.
+/// The most bytes of one write. In a longer write, the kernel may apply the timeout to each part anew.
 const MAX_WRITE: usize = 32_768;
 
-/// A connection to a Unix socket, for one exchange of at most ten seconds by the monotonic clock, from `began` on, when connecting began.
+/// A connection to a Unix socket, for one exchange of at most ten seconds from `began` on, when connecting began. `rt` gives the monotonic clock.
 #[derive(Drop)]
 pub struct UnixConnection {
     rt: HostRuntime,
@@ -29,7 +28,7 @@ pub struct UnixConnection {
     began: Instant,
 }
 
-/// A read or a write that a signal interrupts is tried again. Each loop in this file has the bound `u64::MAX`, but the ten seconds end it.
+/// A read or a write that a signal interrupts is tried again. Each loop in this file has `u64::MAX` rounds at most, but the ten seconds end it.
 impl Read for UnixConnection {
     fn read(&mut self, buf: &mut [u8]) -> io::Result<usize> {
         for _ in 0..u64::MAX {
@@ -63,18 +62,18 @@ impl Write for UnixConnection {
     }
 }
 
-/// Each relation here is always true (`Unit`), so the contracts state nothing about the listener at a path or its answers.
+/// Each relation (`connected` and so on) is always true here (`Unit`), so the contracts say nothing about the listener at a path or its answers.
 impl DeviceConnection for UnixConnection {
-    ghost connected = { λ path link. Unit {0} };
+    ghost connected = { λ path connection. Unit {0} };
 
     ghost unconnected = { λ path. Unit {0} };
 
-    ghost finished = { λ link after. Unit {0} };
+    ghost finished = { λ before after. Unit {0} };
 
     ghost answered_another_caller = { λ path message answer. Unit {0} };
 
-    /// If the socket's backlog is full, tries again every 10 ms until the ten seconds are over: then `TimedOut`. Other errors are those of the system
-    /// calls. `NonblockingStream` never waits for the backlog; the result blocks.
+    /// If the socket's backlog is full, tries again every 10 ms, for ten seconds: then `TimedOut`. Other errors are those of the system calls. A
+    /// blocking call would wait for the backlog, so this connects without blocking; then the connection is made a blocking one.
     fn connect(rt: &HostRuntime, path: &str) -> io::Result<UnixConnection>
         ensures ok { Unit {0} }
         ensures err { Unit {0} }
@@ -104,7 +103,6 @@ impl DeviceConnection for UnixConnection {
     }
 }
 
-/// The time that is left now for an exchange that began at `began`. `TimedOut` if none is left; other errors are those of the clock.
 fn time_left_now(rt: &HostRuntime, began: Instant) -> io::Result<Duration> {
     time_left(began, Instant::now(rt)?).ok_or(io::Error::from(ErrorKind::TimedOut))
 }

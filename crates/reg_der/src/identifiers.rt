@@ -6,23 +6,22 @@ use crate::tlv_reader::take;
 use crate::values::number;
 use reg_core::Label;
 
-/// The tag octet of a stored key identifier, as [0] in an AuthorityKeyIdentifier (RFC 5280 4.2.1.1).
+/// The tag octet of a stored key identifier, [0], as in an AuthorityKeyIdentifier (RFC 5280 4.2.1.1). Registers store key identifiers after the Name.
 pub(crate) const KEY_IDENTIFIER: u8 = 0x80;
 
-/// A stored key identifier begins with this many octets for the number of the first CRL that has it.
+/// The contents of a stored key identifier are 8 octets for the number of the first CRL that has it, and then its own 1 to 64 octets.
 const NUMBER_LENGTH: usize = 8;
 
-/// The most octets of a stored key identifier: 8 for the number, and 64.
 const LONGEST_CONTENTS: usize = 72;
 
-/// A key identifier of 1 to 64 octets that was set for an issuer (RFC 5280 4.2.1.2), and the number of the first CRL that has it (`first`).
+/// A key identifier of 1 to 64 octets that was set for an issuer (RFC 5280 4.2.1.2), and `first`, the number of the first CRL that has it.
 #[derive(Clone, Copy, PartialEq, Eq)]
 pub struct KeyIdentifier {
     pub first: u64,
     pub octets: Label,
 }
 
-/// The stored key identifier at the front, and the bytes after it; `None` if no stored key identifier is there.
+/// The stored key identifier with which the bytes begin, and the bytes after it; `None` if they do not begin with one.
 #[tactic(auto, unfolding(crate::specs::Authority::identifier_at))]
 fn first_element(bytes: &[u8]) -> Option<(KeyIdentifier, &[u8])>
     ensures exact { AgreesWith (λ x. (x.0, x.1.now)) result (authority.identifier_at bytes.now) }
@@ -43,7 +42,7 @@ fn first_element(bytes: &[u8]) -> Option<(KeyIdentifier, &[u8])>
     Some((identifier, rest))
 }
 
-/// Whether the bytes are any number of stored key identifiers, perhaps none, and nothing else.
+/// Whether the bytes are zero or more stored key identifiers, one after the other, and nothing else.
 pub(crate) fn are_identifiers(bytes: &[u8]) -> bool
     ensures { IsTrue result ↔ IsSome (authority.identifiers_at bytes.now) }
 {
@@ -57,7 +56,7 @@ pub(crate) fn are_identifiers(bytes: &[u8]) -> bool
     true
 }
 
-/// The stored key identifiers, latest first, that stay when one is set from CRL `first` on: all but the latest if it was set from that CRL on too.
+/// The stored key identifiers in `bytes`, the latest first; without the latest if it has this `first`, because the one to be added replaces it.
 #[tactic(auto, unfolding(crate::specs::Authority::earlier_identifiers))]
 pub(crate) fn earlier_identifiers(bytes: &[u8], first: u64) -> &[u8]
     ensures { result.now ≡ authority.earlier_identifiers first bytes.now }
@@ -68,7 +67,7 @@ pub(crate) fn earlier_identifiers(bytes: &[u8], first: u64) -> &[u8]
     }
 }
 
-/// The key identifier that was set for the CRL with this number: the latest one whose first CRL has this number or a lower one. `None` if none has.
+/// The key identifier of the CRL with this number: the latest one whose first CRL has this number or a lower one. `None` if there is none.
 pub(crate) fn identifier_for(bytes: &[u8], number: u64) -> Option<Label>
     requires { IsSome (authority.identifiers_at bytes.now) }
     ensures { result ≡ authority.identifier_for (unwrap_or (authority.identifiers_at bytes.now) []) number }

@@ -17,12 +17,11 @@ const LONGEST_NAME: usize = 1_024;
 
 const LONGEST_KEY: usize = 2_048;
 
-/// Why there is no [`Issuer`].
+/// Why no [`Issuer`] was made. `BadName`: the Name isn't one DER SEQUENCE with contents, of at most 1,024 bytes in all; or, in a stored name,
+/// other bytes than key identifiers follow it. `BadKey`: the key has no bytes, or more than 2,048.
 #[derive(Clone, Copy, PartialEq, Eq)]
 pub enum IssuerFault {
-    /// The Name isn't one DER SEQUENCE with contents and of at most 1,024 bytes; or in a stored name other bytes than key identifiers follow it.
     BadName,
-    /// The key has no byte, or more than 2,048.
     BadKey,
     Memory,
 }
@@ -35,10 +34,10 @@ impl From<AllocError> for IssuerFault {
     }
 }
 
-/// The issuer of CRLs and OCSP responses: its Name, its key, and the key identifiers that were set for it. Contracts see the bytes of both fields.
+/// The issuer of CRLs and OCSP responses: its Name, its public key, and the key identifiers that were set for it. Contracts see the bytes of both
+/// fields: the stored name (the DER value of the Name, and after it the key identifiers, the latest first), and the key as for `new`.
 #[derive(Drop)]
 pub struct Issuer {
-    /// The DER value of the Name, and after it the key identifiers that were set, the latest first.
     name: Vec<u8>,
     key: Vec<u8>,
 }
@@ -55,10 +54,8 @@ impl Model for Issuer {
 }
 
 impl Issuer {
-    /// The issuer with this Name and key, and the SHA-1 of the key as its key identifier; or the first fault, in the order of [`IssuerFault`].
-    ///
-    /// The Name is one DER value with the tag 30h and with contents, of at most 1,024 bytes in all (RFC 5280 4.1.2.4). The key is
-    /// the contents of the subjectPublicKey BIT STRING after the octet that counts unused bits: 1 to 2,048 bytes (4.1.2.7).
+    /// The issuer with this Name (its DER, RFC 5280 4.1.2.4) and without key identifiers; or the first fault, in the order of [`IssuerFault`]. `key`
+    /// has the contents of the subjectPublicKey BIT STRING after the octet that counts unused bits (4.1.2.7).
     pub fn new(alloc: Global, name: &[u8], key: &[u8]) -> Result<Issuer, IssuerFault>
         ensures ok { IfOk result (λ issuer. (issuer.name ≡ name.now) × (issuer.key ≡ key.now)) }
         ensures good { OnOk result (IsIssuerName name.now × IsKey key.now) }
@@ -72,8 +69,8 @@ impl Issuer {
         }
     }
 
-    /// The issuer with this key and these bytes, as [`stored_name`](Issuer::stored_name) gives them. `BadName` if the bytes aren't a Name as
-    /// for [`new`](Issuer::new), and then key identifiers and nothing else; `BadKey` and `Memory` as for `new`.
+    /// The issuer with this stored name (see [`stored_name`](Issuer::stored_name)) and key. `BadName` if the Name in it isn't as for
+    /// [`new`](Issuer::new), or if anything but key identifiers follows the Name. `BadKey` and `Memory` as for `new`.
     pub fn of_stored(alloc: Global, stored_name: &[u8], key: &[u8]) -> Result<Issuer, IssuerFault>
         ensures ok { IfOk result (λ issuer. (issuer.name ≡ stored_name.now) × (issuer.key ≡ key.now)) }
         ensures good { OnOk result (IsStoredName stored_name.now × IsKey key.now) }
@@ -92,8 +89,8 @@ impl Issuer {
         Ok(Issuer { name, key })
     }
 
-    /// This issuer with one more key identifier: CRLs from number `first` on have it, and those with lower numbers keep theirs
-    /// (`laws::identifiers_follow`). It replaces the latest one if that has the same first CRL. `Memory` if out of memory.
+    /// This issuer with one more key identifier, `octets`. CRLs from number `first` on have it; those with lower numbers keep theirs
+    /// (`laws::identifiers_follow`). It replaces the latest key identifier if that was set from the same number on.
     pub fn with_key_identifier(
         &self,
         alloc: Global,
@@ -113,7 +110,7 @@ impl Issuer {
         ensures name { result.now ≡ name_of self.now }
         ensures within { IsIssuerName result.now }
     {
-        parts(&self.name).0
+        split_stored_name(&self.name).0
     }
 
     /// The bytes that the register stores as the issuer's name: the DER value of the Name, and after it the key identifiers that were set.
@@ -124,12 +121,12 @@ impl Issuer {
         &self.name
     }
 
-    /// The key identifier that was set for the CRL with this number (RFC 5280 5.2.1); `None` if none was: then the CRL has the SHA-1 of the key.
+    /// The key identifier that was set for the CRL with this number (RFC 5280 5.2.1). `None` if none was: that CRL has the SHA-1 of the key.
     pub fn key_identifier(&self, number: u64) -> Option<Label>
         ensures identifier { result ≡ key_identifier_at self.now number }
         ensures short { IfSome result (λ octets. length octets ≤ 64) }
     {
-        identifier_for(parts(&self.name).1, number)
+        identifier_for(split_stored_name(&self.name).1, number)
     }
 
     /// The contents of the subjectPublicKey BIT STRING, without the octet that counts unused bits.
@@ -147,7 +144,7 @@ impl Issuer {
         Sha1::digest(self.name())
     }
 
-    /// The SHA-1 of the key: the issuerKeyHash of a CertID (RFC 6960 4.1.1), and the key identifier if none was set (RFC 5280 4.2.1.2).
+    /// The SHA-1 of the key: the issuerKeyHash of a CertID (RFC 6960 4.1.1), and the key identifier in CRLs if none was set (RFC 5280 4.2.1.2).
     pub fn key_sha1(&self) -> [u8; 20]
         ensures { result ≡ sha1 self.now.key }
     {
@@ -155,9 +152,8 @@ impl Issuer {
     }
 }
 
-/// The Name at the front of `stored_name`, and the bytes after it; both empty if no value is at the front.
 #[tactic(auto, unfolding(crate::specs::Authority::name_in, crate::specs::Authority::after_name))]
-fn parts(stored_name: &[u8]) -> (&[u8], &[u8])
+fn split_stored_name(stored_name: &[u8]) -> (&[u8], &[u8])
     ensures name { result.0.now ≡ name_in stored_name.now }
     ensures behind { result.1.now ≡ after_name stored_name.now }
 {
@@ -167,15 +163,13 @@ fn parts(stored_name: &[u8]) -> (&[u8], &[u8])
     }
 }
 
-/// Whether the bytes are a stored name: a Name, and then key identifiers and nothing else.
 fn is_stored_name(stored_name: &[u8]) -> bool
     ensures { IsTrue result ↔ IsStoredName stored_name.now }
 {
-    let (name, identifiers) = parts(stored_name);
+    let (name, identifiers) = split_stored_name(stored_name);
     is_name(name) && are_identifiers(identifiers)
 }
 
-/// The stored name with one more key identifier, which CRLs from number `first` on have.
 fn stored_name_with(
     alloc: Global,
     stored_name: &[u8],
@@ -187,14 +181,13 @@ fn stored_name_with(
         ≡ (name_in stored_name.now ++ identifier_value first octets.now)
         ++ earlier_identifiers first (after_name stored_name.now)) }
 {
-    let (name, identifiers) = parts(stored_name);
+    let (name, identifiers) = split_stored_name(stored_name);
     let mut stored = copy_of(alloc, name)?;
     put_identifier(alloc, &mut stored, first, octets)?;
     put_raw(&mut stored, earlier_identifiers(identifiers, first))?;
     Ok(stored)
 }
 
-/// Appends a key identifier, and the number of the first CRL that has it.
 #[tactic(auto, unfolding(crate::specs::Authority::identifier_value))]
 fn put_identifier(alloc: Global, out: &mut Vec<u8>, first: u64, octets: &[u8]) -> Result<(), Memory>
     requires { length octets.now ≤ 64 }

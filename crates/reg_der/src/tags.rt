@@ -1,4 +1,4 @@
-//! Tag octets (X.690 8.1.2). A `TAGGED_n` is the context-specific [n], constructed; a `PRIMITIVE_n` is [n], primitive.
+//! Tag octets (X.690 8.1.2). A `TAGGED_n` is the context-specific tag [n], constructed; a `PRIMITIVE_n` is the same, primitive.
 
 pub const BOOLEAN: u8 = 0x01;
 

@@ -3,7 +3,7 @@ ghost use Rattle.reg_core.specs.Calendar.{IsCivil, two_digits, utc_time, general
 
 use reg_core::Civil;
 
-/// `YYMMDDHHMMSSZ`, the contents of a UTCTime (RFC 5280 4.1.2.5.1). `civil` is a date and a time of day in UTC.
+/// `YYMMDDHHMMSSZ`, the contents of a UTCTime (RFC 5280 4.1.2.5.1). A `Civil` is a date and a time of day, in UTC.
 #[tactic(auto, unfolding(reg_core::specs::Calendar::utc_time))]
 pub(crate) fn utc_text(civil: Civil) -> [u8; 13]
     requires { IsCivil civil }
@@ -18,7 +18,7 @@ pub(crate) fn utc_text(civil: Civil) -> [u8; 13]
     [y1, y2, m1, m2, d1, d2, h1, h2, n1, n2, s1, s2, b'Z']
 }
 
-/// `YYYYMMDDHHMMSSZ`, the contents of a GeneralizedTime (RFC 5280 4.1.2.5.2). `civil` is a date and a time of day in UTC.
+/// `YYYYMMDDHHMMSSZ`, the contents of a GeneralizedTime (RFC 5280 4.1.2.5.2).
 #[tactic(auto, unfolding(reg_core::specs::Calendar::generalized_time))]
 pub(crate) fn general_text(civil: Civil) -> [u8; 15]
     requires { IsCivil civil }

@@ -1,5 +1,5 @@
-//! Appends DER values (tag, length and contents) to a vector. [`put`] and each `put_` function append exactly one value ([`put_raw`]: the bytes), or
-//! leave the vector as it was. A call allocates at most once, for the whole value, and only if the vector hasn't the capacity for it.
+//! Appends DER values (tag, length and contents) to a vector. [`put`] and each `put_` function append one value ([`put_raw`]: the bytes as they are).
+//! A call first allocates the capacity for the whole value, if the vector lacks it. If it can't, the error is `Memory`, and the bytes are unchanged.
 
 ghost use Rattle.std.specs.Prelude.{◌≡◌, ℕ, List, ◌∷◌, ◌++◌, ◌+◌, ◌≤◌, ◌<◌, ◌%◌, ◌^◌, length, OnOk, OnErr, vec_capacity};
 ghost use Rattle.reg_core.specs.Integer.{IsInteger, integer, without_zeros, with_clear_bit};
@@ -13,14 +13,12 @@ use crate::times::{general_text, utc_text};
 use reg_core::{Memory, Moment, Serial};
 use std::alloc::Global;
 
-/// A length below 128 is one octet. A greater one begins with an octet that is 128 plus the count of the octets after it (X.690 8.1.3).
+/// A length below 128 is one octet. A greater length begins with an octet that is 128 plus the number of length octets after it (X.690 8.1.3).
 const LONG_FORM: u8 = 128;
 
-/// The last year that is written as a UTCTime (RFC 5280 4.1.2.5).
 const LAST_UTC_YEAR: u16 = 2049;
 
-/// Appends the value with this tag (one octet, whose low five bits aren't all ones) and these contents, fewer than 2^32 bytes.
-/// `Memory` only if `out` hasn't the capacity for the value; then `out` is unchanged.
+/// Appends the value with this tag (one octet: its low five bits aren't all ones) and these contents, fewer than 2^32 bytes.
 #[tactic(auto, unfolding(crate::specs::Der::tlv))]
 pub fn put(out: &mut Vec<u8>, tag: u8, contents: &[u8]) -> Result<(), Memory>
     requires low_tag { tag % 32 < 31 }
@@ -40,7 +38,7 @@ pub fn put(out: &mut Vec<u8>, tag: u8, contents: &[u8]) -> Result<(), Memory>
     Ok(())
 }
 
-/// Appends bytes as they are, without a tag. `Memory` if out of memory; then `out` is unchanged.
+/// Appends bytes as they are, such as a whole DER value.
 pub fn put_raw(out: &mut Vec<u8>, bytes: &[u8]) -> Result<(), Memory>
     ensures ok { AppendsOnOk out.old out.new result bytes.now }
     ensures length_is { OnOk result (length out.new.items ≡ length out.old.items + length bytes.now) }
@@ -55,7 +53,7 @@ pub fn copy_of(alloc: Global, bytes: &[u8]) -> Result<Vec<u8>, Memory>
     Vec::from_slice(alloc, bytes).map_err(|_| Memory)
 }
 
-/// Appends the number as an INTEGER; `Memory` as for [`put`].
+/// Appends the number as an INTEGER.
 pub fn put_number(out: &mut Vec<u8>, number: u64) -> Result<(), Memory>
     ensures ok { AppendsOnOk out.old out.new result (integer_value number) }
     ensures value { IsTlv (integer_value number) 2 (integer number) }
@@ -68,7 +66,7 @@ pub fn put_number(out: &mut Vec<u8>, number: u64) -> Result<(), Memory>
     put_integer(out, &number.to_be_bytes())
 }
 
-/// Appends the serial number as an INTEGER (RFC 5280 4.1.2.2); `Memory` as for [`put`].
+/// Appends the serial number as an INTEGER (RFC 5280 4.1.2.2).
 pub fn put_serial(out: &mut Vec<u8>, serial: Serial) -> Result<(), Memory>
     ensures ok { AppendsOnOk out.old out.new result (integer_value serial) }
     ensures value { IsTlv (integer_value serial) 2 (integer serial) }
@@ -81,7 +79,7 @@ pub fn put_serial(out: &mut Vec<u8>, serial: Serial) -> Result<(), Memory>
     put_integer(out, &serial.bytes20())
 }
 
-/// Appends a BIT STRING of fewer than 2^32 - 1 bytes, without unused bits (X.690 8.6.2.2); `Memory` as for [`put`].
+/// Appends a BIT STRING of fewer than 2^32 - 1 bytes, without unused bits (X.690 8.6.2.2).
 pub fn put_bits(out: &mut Vec<u8>, bytes: &[u8]) -> Result<(), Memory>
     requires { length bytes.now + 1 < 2 ^ 32 }
     ensures ok { AppendsOnOk out.old out.new result (bits_value bytes.now) }
@@ -95,7 +93,7 @@ pub fn put_bits(out: &mut Vec<u8>, bytes: &[u8]) -> Result<(), Memory>
     put_with_leading_zero(out, BIT_STRING, bytes)
 }
 
-/// Appends the Time of the moment (RFC 5280 4.1.2.5), in UTC: a UTCTime through 2049, a GeneralizedTime from 2050 on; `Memory` as for [`put`].
+/// Appends the Time of the moment (RFC 5280 4.1.2.5), in UTC: a UTCTime through 2049, a GeneralizedTime from 2050 on.
 #[tactic(auto, unfolding(crate::specs::WrittenValues::time_value, reg_core::specs::Calendar::utc_text, reg_core::specs::Calendar::general_text))]
 pub fn put_utc_or_general(out: &mut Vec<u8>, moment: Moment) -> Result<(), Memory>
     ensures ok { AppendsOnOk out.old out.new result (time_value moment) }
@@ -113,7 +111,7 @@ pub fn put_utc_or_general(out: &mut Vec<u8>, moment: Moment) -> Result<(), Memor
     }
 }
 
-/// Appends the GeneralizedTime of the moment (RFC 5280 4.1.2.5.2), to the second and in UTC; `Memory` as for [`put`].
+/// Appends the GeneralizedTime of the moment (RFC 5280 4.1.2.5.2), to the second and in UTC.
 #[tactic(auto, unfolding(reg_core::specs::Calendar::general_text))]
 pub fn put_general(out: &mut Vec<u8>, moment: Moment) -> Result<(), Memory>
     ensures ok { AppendsOnOk out.old out.new result (general_value moment) }
@@ -126,7 +124,7 @@ pub fn put_general(out: &mut Vec<u8>, moment: Moment) -> Result<(), Memory>
     put(out, GENERALIZED_TIME, &general_text(moment.civil()))
 }
 
-/// Appends the INTEGER of a number. `octets` are its big-endian octets, perhaps with zeros in front, and `digits` those after the zeros.
+/// Appends the INTEGER of a number. `octets` are its big-endian octets, perhaps with zero octets in front.
 fn put_integer(out: &mut Vec<u8>, octets: &[u8]) -> Result<(), Memory>
     requires { length octets.now ≤ 20 }
     ensures ok { AppendsOnOk out.old out.new result (tlv 2 (with_clear_bit (without_zeros octets.now))) }
@@ -139,15 +137,15 @@ fn put_integer(out: &mut Vec<u8>, octets: &[u8]) -> Result<(), Memory>
     ensures full { LacksCapacityFor out.old result (tlv 2 (with_clear_bit (without_zeros octets.now))) }
     ensures room { vec_capacity out.old ≤ vec_capacity out.new }
 {
-    let digits = trim_zeros(octets);
-    match digits {
-        [first, ..] if *first < 128 => put(out, INTEGER, digits),
-        // One more octet, a zero, keeps the sign bit clear. For the number 0 it is the only octet (X.690 8.3.3).
-        _ => put_with_leading_zero(out, INTEGER, digits),
+    let trimmed = trim_zeros(octets);
+    match trimmed {
+        [first, ..] if *first < 128 => put(out, INTEGER, trimmed),
+        // The first octet's highest bit is the sign. A zero octet in front keeps it clear, and is the only octet for the number 0 (X.690 8.3.3).
+        _ => put_with_leading_zero(out, INTEGER, trimmed),
     }
 }
 
-/// Appends the value with this tag whose contents are a zero octet and the bytes. (In a BIT STRING that octet counts the unused bits.)
+/// Appends the value with this tag whose contents are a zero octet and then the bytes. In a BIT STRING, that octet is the number of unused bits.
 #[tactic(auto, unfolding(crate::specs::Der::tlv))]
 fn put_with_leading_zero(out: &mut Vec<u8>, tag: u8, bytes: &[u8]) -> Result<(), Memory>
     requires { length bytes.now + 1 < 2 ^ 32 }
@@ -166,7 +164,7 @@ fn put_with_leading_zero(out: &mut Vec<u8>, tag: u8, bytes: &[u8]) -> Result<(),
     Ok(())
 }
 
-/// Appends the tag and the length octets of a value with `size` octets of contents (X.690 10.1), and reserves capacity for the contents.
+/// Appends the tag and the length octets (X.690 10.1) of a value with `size` octets of contents, and reserves the capacity for the contents.
 #[tactic(auto, unfolding(crate::specs::Der::length_octets, crate::specs::Der::fewest))]
 fn start_value(out: &mut Vec<u8>, tag: u8, size: usize) -> Result<(), Memory>
     requires { size < 2 ^ 32 }
@@ -185,10 +183,10 @@ fn start_value(out: &mut Vec<u8>, tag: u8, size: usize) -> Result<(), Memory>
         return Ok(());
     }
     let octets = (size as u32).to_be_bytes();
-    let digits = trim_zeros(&octets);
-    reserve(out, 2 + digits.len() + size)?;
-    append(out, &[tag, LONG_FORM + digits.len() as u8]);
-    append(out, digits);
+    let trimmed = trim_zeros(&octets);
+    reserve(out, 2 + trimmed.len() + size)?;
+    append(out, &[tag, LONG_FORM + trimmed.len() as u8]);
+    append(out, trimmed);
     Ok(())
 }
 
@@ -201,7 +199,7 @@ fn reserve(out: &mut Vec<u8>, more: usize) -> Result<(), Memory>
     out.reserve(more).map_err(|_| Memory)
 }
 
-/// Appends bytes for which `out` has the capacity: so it allocates nothing, and can't fail.
+/// Appends bytes for which `out` has the capacity. So it allocates nothing, and the ignored result can't be an error.
 fn append(out: &mut Vec<u8>, bytes: &[u8])
     requires { length out.old.items + length bytes.now ≤ vec_capacity out.old }
     ensures items { out.new.items ≡ out.old.items ++ bytes.now }

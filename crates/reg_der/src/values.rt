@@ -1,4 +1,4 @@
-//! Reads values with an expected tag.
+//! Reads DER values with an expected tag.
 
 ghost use Rattle.std.specs.Prelude.{◌≡◌, ◌<◌, ◌≤◌, length, IfSome, option_copied};
 ghost use Rattle.reg_core.specs.Integer.{value as number_written};
@@ -8,7 +8,7 @@ ghost use Rattle.reg_der.specs.TaggedValues.{expect_at, last_at, optional_at, wh
 
 use crate::tlv_reader::{Tlv, take};
 
-/// The value at the front, and the bytes after it. `None` if no value is there, or it has another tag.
+/// The value at the front, and the bytes after it. `None` if no value is there, or one with another tag.
 #[tactic(auto, using(crate::proofs::ValueLemmas::tlv_some), unfolding(crate::specs::TaggedValues::expect_at))]
 pub fn expect(tag: u8, bytes: &[u8]) -> Option<(Tlv<'_>, &[u8])>
     ensures exact { AgreesWith (λ x. (x.0.contents.now, x.1.now)) result (expect_at tag bytes.now) }
@@ -36,7 +36,8 @@ pub fn whole(tag: u8, bytes: &[u8]) -> Option<&[u8]>
     }
 }
 
-/// Reads an optional field: its contents, or `None` if the first byte is not this tag; and the bytes after it. Outer `None`: the field isn't whole.
+/// Reads an optional field. If the first byte is the field's tag: the field's contents and the bytes after it, or `None` if no whole value is there.
+/// If the first byte is another one, or there is none: `Some((None, bytes))`.
 #[tactic(auto, unfolding(crate::specs::TaggedValues::optional_at))]
 pub fn optional(tag: u8, bytes: &[u8]) -> Option<(Option<&[u8]>, &[u8])>
     ensures exact { AgreesWith (λ x. (option_copied x.0, x.1.now)) result (optional_at tag bytes.now) }
@@ -50,7 +51,7 @@ pub fn optional(tag: u8, bytes: &[u8]) -> Option<(Option<&[u8]>, &[u8])>
     }
 }
 
-/// As [`optional`], for the last field: `Some(None)` if there are no bytes; `None` if the bytes are not one value with this tag and nothing else.
+/// Reads an optional last field. Without any bytes: `Some(None)`. Else its contents, or `None` unless the bytes are exactly one value with this tag.
 #[tactic(auto, unfolding(crate::specs::TaggedValues::last_at))]
 pub fn last(tag: u8, bytes: &[u8]) -> Option<Option<&[u8]>>
     ensures exact { AgreesWith (λ x. option_copied x) result (last_at tag bytes.now) }
@@ -61,7 +62,7 @@ pub fn last(tag: u8, bytes: &[u8]) -> Option<Option<&[u8]>>
     Some(Some(whole(tag, bytes)?))
 }
 
-/// The number in big-endian octets, of which there are at most eight.
+/// The number that at most eight octets encode, big-endian.
 pub fn number(octets: &[u8]) -> u64
     requires { length octets.now ≤ 8 }
     ensures { result ≡ number_written octets.now }

@@ -1,4 +1,4 @@
-//! The program `desk`: the register and status service of one certification authority.
+//! The program `desk`: the register and status service of one certification authority. Each call of the system needs a `HostRuntime` (`rt`).
 #![tactic(auto)]
 
 use reg_desk_cli::{Usage, not_utf8_usage, read_words};
@@ -22,8 +22,8 @@ fn main(rt: HostRuntime) -> ExitCode {
     ExitCode::from(status)
 }
 
-/// Opens `/dev/null` in place of each closed standard stream, and returns these files, which `main` keeps open. Otherwise a socket could get the file
-/// descriptor 1, and its client what the program prints. Input is opened for writing only, outputs for reading only, so that their use fails.
+/// Opens `/dev/null` in place of each closed standard stream: the system gives a file the lowest free descriptor. `main` keeps these files, so that
+/// no socket gets descriptor 1 and sends a client what the program prints. Input is opened write-only, outputs read-only, so that their use fails.
 fn fill_closed_streams(rt: &HostRuntime) -> io::Result<Vec<File>> {
     let mut filled = Vec::new(rt.alloc());
     for stream in [0, 1, 2] {
@@ -46,7 +46,6 @@ fn words_of(rt: &HostRuntime) -> Result<Vec<String>, Usage> {
     }
 }
 
-/// Prints help, the version, or why the command line can't be read. Returns [`Usage::status`], or 1 (fault F5) if the text can't be written.
 fn print_usage(rt: &HostRuntime, usage: &Usage) -> u8 {
     let printed = match usage {
         Usage::Help(text) | Usage::Version(text) => print!(rt; "{text}"),

@@ -33,7 +33,7 @@ impl<'a> Argument<'a> {
     }
 }
 
-/// The steps of a schedule as given, perhaps invalid: a moment, and the most days of validity for a notBefore from it on. Contracts see their list.
+/// The steps of `desk schedule` as given, perhaps invalid. Each is a moment, and the most days of validity for a notBefore from that moment on.
 #[derive(Drop)]
 pub struct Steps {
     steps: Vec<(Moment, u64)>,

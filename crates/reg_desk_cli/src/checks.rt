@@ -1,4 +1,4 @@
-//! Checks options before a register is created or opened.
+//! Checks arguments and options before a register is created or opened, and makes the issuer, policy, schedule or key identifier that they give.
 
 ghost use Rattle.std.specs.Prelude.{◌≡◌, ◌⊎◌, IfErr, IfOk, IsErr, Ok};
 ghost use Rattle.reg_core.specs.Schedule.{IsSchedule};
@@ -13,11 +13,11 @@ use reg_core::{Fault, Label, Memory, Policy, Schedule};
 use reg_der::{Issuer, IssuerFault};
 use std::alloc::Global;
 
-/// The number of the first CRL that has the key identifier: that of a new register's first CRL, so all have it.
+/// The number of a new register's first CRL. `init` sets a key identifier from this CRL on; `key-id` may set others from later CRLs on.
 const FIRST_CRL: u64 = 1;
 
-/// The issuer whose Name and key the two words have in hexadecimal. `BadIssuer` if a word is not hexadecimal, or if the
-/// Name or the key is invalid (RFC 5280 4.1.2.4, 4.1.2.7); otherwise the only failure is out of memory.
+/// The issuer with this Name in DER and this key (the bits of its subjectPublicKey), both in hexadecimal. Errors: `BadIssuer` if one is not
+/// hexadecimal, or invalid (RFC 5280 4.1.2.4, 4.1.2.7; see [`Issuer::new`]); the fault `Memory`.
 pub fn issuer_of(alloc: Global, name: &Argument<'_>, key: &Argument<'_>) -> Result<Issuer, Failure>
     ensures ok { IfOk result (WritesIssuer name.now key.now) }
     ensures err { IfErr result (IsNoIssuer name.now key.now) }
@@ -32,7 +32,7 @@ pub fn issuer_of(alloc: Global, name: &Argument<'_>, key: &Argument<'_>) -> Resu
     }
 }
 
-/// The key identifier (RFC 5280 4.2.1.2), 1 to 64 bytes, that the word has in hexadecimal; else `BadIssuer`, or the fault `Memory`.
+/// The key identifier in hexadecimal (RFC 5280 4.2.1.2). Errors: `BadIssuer` if it is not hexadecimal, or not of 1 to 64 bytes; the fault `Memory`.
 pub fn key_identifier_of(alloc: Global, key_id: &Argument<'_>) -> Result<Label, Failure>
     ensures ok { IfOk result (WritesIdentifier key_id.now) }
     ensures err { IfErr result (IsNoIdentifier key_id.now) }
@@ -44,8 +44,8 @@ pub fn key_identifier_of(alloc: Global, key_id: &Argument<'_>) -> Result<Label, 
     }
 }
 
-/// The issuer with this Name and key, and, if `key_id` is given, with this key identifier in each of its CRLs. Errors: those of
-/// [`issuer_of`], then those of [`key_identifier_of`].
+/// The issuer with this Name and key. `key_id` is the key identifier in each of its CRLs; `None` for the SHA-1 of the key. All are in hexadecimal.
+/// Errors: those of [`issuer_of`], then those of [`key_identifier_of`].
 pub fn identified_issuer_of(
     alloc: Global,
     name: &Argument<'_>,
@@ -80,8 +80,8 @@ fn bytes_of(alloc: Global, word: &Argument<'_>) -> Result<Vec<u8>, Failure>
     }
 }
 
-/// The policy with a longest validity of `days` at any notBefore, the seconds from thisUpdate to nextUpdate of CRLs and of OCSP responses, and the
-/// most rows of a table; `BadPolicy` if one of these is out of its range.
+/// The policy by which a certificate with any notBefore is valid for at most `days`, a CRL and an OCSP response have `crl_life` and `ocsp_life`
+/// seconds from thisUpdate to nextUpdate, and each table has at most `cap` rows. `BadPolicy` if one of these numbers is out of its range.
 pub fn policy_of(days: u64, crl_life: u64, ocsp_life: u64, cap: u64) -> Result<Policy, Failure>
     ensures ok { IfOk result (λ policy.
         (policy ≡ terms_of_days days crl_life ocsp_life cap) × IsPolicy policy) }
@@ -93,7 +93,7 @@ pub fn policy_of(days: u64, crl_life: u64, ocsp_life: u64, cap: u64) -> Result<P
     }
 }
 
-/// The issuer and the policy of a new register. Errors: those of [`identified_issuer_of`], then those of [`policy_of`].
+/// The issuer and the policy of a new register, from the arguments of [`identified_issuer_of`] and [`policy_of`]. Errors: theirs, in this order.
 pub fn issuer_and_policy_of(
     alloc: Global,
     name: &Argument<'_>,
@@ -114,8 +114,8 @@ pub fn issuer_and_policy_of(
     Ok((issuer, policy))
 }
 
-/// The schedule with these steps, each a notBefore and the longest validity in days from it on. `BadPolicy` unless they are 1 to 16 steps with 1 to
-/// 398 days, the first at 1970-01-01T00:00:00Z, with moments that ascend.
+/// The schedule with these steps. Each is a moment, and the longest validity in days of a certificate whose notBefore is from then to the next step.
+/// `BadPolicy` unless they are 1 to 16 steps of 1 to 398 days, with ascending moments, the first 1970-01-01T00:00:00Z.
 pub fn schedule_of(steps: &Steps) -> Result<Schedule, Failure>
     ensures ok { IfOk result (λ schedule. (schedule ≡ steps.now) × IsSchedule schedule) }
     ensures err { IfErr result (IsNoSchedule steps.now) }

@@ -21,7 +21,7 @@ use reg_core::Moment;
 use reg_core_lists::{Cursor, Filter, Format};
 use std::alloc::{AllocError, Global};
 
-/// The defaults, as `Policy::usual`: most days of validity, seconds from thisUpdate to nextUpdate of CRLs and of OCSP responses, most rows a table.
+/// `init`'s defaults (`Policy::usual`): most days of validity; seconds from thisUpdate to nextUpdate of CRLs and OCSP answers; most rows of a table.
 const DEFAULT_DAYS: u64 = 398;
 
 const DEFAULT_CRL_LIFE: u64 = 691_200;
@@ -49,13 +49,13 @@ pub(crate) fn read_command<'a>(
     } else if name == "crl" {
         Ok(read_crl(given))
     } else {
-        read_serving(alloc, name, given)
+        read_socket_job(alloc, name, given)
     }
 }
 
-/// As `read_command`, for `serve`, `open`, `at`, `replay` and the commands of [`read_other_job`].
+/// The rest of [`read_command`]: commands that serve HTTP (`serve`, `open`) or send lines to a desk that does (`at`, `replay`), then all others.
 #[tactic(auto, unfolding(crate::specs::Jobs::serving_job_in))]
-fn read_serving<'a>(
+fn read_socket_job<'a>(
     alloc: Global,
     name: &str,
     given: &ArgMatches<'a>,
@@ -122,7 +122,7 @@ fn read_script<'a>(given: &ArgMatches<'a>) -> Option<Job<'a>>
     script_job(word_of(given, "file"), signer, script_options_of(given))
 }
 
-/// The job of `script`: with `--clock` or `--strict` it is `Lines`, or `None` without FILE; else `Script`.
+/// The job of `script`: `Job::Lines` with `--clock` or `--strict`, which need FILE; `Job::Script` without them.
 fn script_job<'a>(
     file: Option<Argument<'a>>,
     signer: Option<SignerAddress<'a>>,
@@ -130,14 +130,14 @@ fn script_job<'a>(
 ) -> Option<Job<'a>>
     ensures { result ≡ script_by file.entry signer.entry options }
 {
-    let by_lines = options.is_clocked || options.is_strict;
+    let needs_file = options.is_clocked || options.is_strict;
     match file {
-        Some(file) if by_lines => Some(Job::Lines(LineScript {
+        Some(file) if needs_file => Some(Job::Lines(LineScript {
             file,
             signer,
             options,
         })),
-        None if by_lines => None,
+        None if needs_file => None,
         file => Some(Job::Script { file, signer }),
     }
 }
@@ -154,7 +154,7 @@ fn read_import<'a>(given: &ArgMatches<'a>) -> Option<Job<'a>>
     }))
 }
 
-/// The moment of `--now`, or `Some(None)` for `--clock`; `None` if neither or both are given, or the value of `--now` is no moment.
+/// The moment of `--now`. `Some(None)`: that of the clock (`--clock`). `None`: neither or both are given, or the value of `--now` is no moment.
 #[tactic(auto, unfolding(crate::specs::Jobs::import_moment))]
 fn import_moment(given: &ArgMatches<'_>) -> Option<Option<Moment>>
     ensures { result ≡ import_moment (rows_of (found_of given.now)) }
@@ -162,7 +162,6 @@ fn import_moment(given: &ArgMatches<'_>) -> Option<Option<Moment>>
     one_moment(moment_option(given, "now")?, is_set(given, "clock"))
 }
 
-/// `Some(now)`, where no moment stands for the clock, if exactly one of the two is given; else `None`.
 fn one_moment(now: Option<Moment>, is_clocked: bool) -> Option<Option<Moment>>
     ensures { result ≡ one_moment now is_clocked }
 {
@@ -246,7 +245,7 @@ fn read_at<'a>(given: &ArgMatches<'a>) -> Option<Job<'a>>
     )
 }
 
-/// The job of `at`, from the files of `--import` and `--revoke` and the values of `--orders`; `None` if these options do not go together.
+/// The job of `at`, from the values of `--import`, `--revoke` and `--orders`; `None` if these don't go together. `rows` is `None` for standard input.
 fn at_job<'a>(
     control_path: Argument<'a>,
     imported: Option<Argument<'a>>,

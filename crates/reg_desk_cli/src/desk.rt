@@ -1,4 +1,5 @@
-//! Makes the `Command` of the crate `clap` from `table.rt`. The clauses `local` say that clap accepts an option only where it is declared.
+//! Makes the program's command line, a `Command` of the crate `clap`, from the entries in `table.rt`. The clauses `app` and `rule` state what clap
+//! accepts. The clauses `local` state that it accepts an option only where the option is declared (before the commands, or for one command).
 
 ghost use Rattle.std.specs.Prelude.{◌≡◌, IfOk, OnOk, [], false, map};
 ghost use Rattle.clap.specs.Words.{App, app_of, rule_of, with_subcommand};
@@ -13,7 +14,6 @@ use std::alloc::{AllocError, Global};
 /// The program's version, as `--version` prints it.
 pub const VERSION: &str = "0.2.0";
 
-/// The program's command line: `desk COMMAND ..`.
 pub(crate) fn desk<'a>(alloc: Global) -> Result<Command<'a>, AllocError>
     ensures { IfOk result (λ made. app_of made ≡ desk_app) }
 {
@@ -23,6 +23,7 @@ pub(crate) fn desk<'a>(alloc: Global) -> Result<Command<'a>, AllocError>
     without_commands(alloc)?.subcommands(commands)
 }
 
+/// The prover needs more time for each step of a function that uses this long constant. So only this small function uses it.
 fn first_commands() -> &'static [CommandEntry]
     ensures { map app_of_entry result.now ≡ first_command_apps }
 {
@@ -65,7 +66,7 @@ fn add_command<'a>(
     Ok(())
 }
 
-/// The command line without its commands.
+/// The command line with the options that come before a command (`--why`), and without commands. [`bare`] has neither.
 fn without_commands<'a>(alloc: Global) -> Result<Command<'a>, AllocError>
     ensures app { IfOk result (λ made. app_of made ≡ app_without_commands) }
     ensures local { IfOk result (λ made. (fields_of made).has_globals ≡ false) }
@@ -73,7 +74,6 @@ fn without_commands<'a>(alloc: Global) -> Result<Command<'a>, AllocError>
     with_parts(alloc, bare(alloc), OPTIONS_BEFORE_COMMAND)
 }
 
-/// The command line without its commands and without `--why`.
 fn bare<'a>(alloc: Global) -> Command<'a>
     ensures app { app_of result ≡ bare_app }
     ensures local { (fields_of result).has_globals ≡ false }
@@ -115,6 +115,7 @@ fn with_parts<'a>(
     Ok(command)
 }
 
+/// clap's argument for a part of the table. `id` is clap's id, and the long name of an option; `name` or `names` stands for its value in help.
 fn arg<'a>(alloc: Global, part: &Part) -> Result<Arg<'a>, AllocError>
     ensures rule { IfOk result (λ arg. rule_of arg ≡ rule_of_part part.now) }
     ensures local { IfOk result (λ arg. arg.global ≡ false) }
@@ -148,7 +149,7 @@ fn needed<'a>(alloc: Global, id: &'a str, name: &'a str, help: &'a str) -> Arg<'
     word(alloc, id, name, help).long(id).required(true)
 }
 
-/// A positional argument that may be left out and takes one value; `long` makes it an option.
+/// A positional argument that may be left out and takes one value; the caller's `long` makes it an option.
 fn word<'a>(alloc: Global, id: &'a str, name: &'a str, help: &'a str) -> Arg<'a>
     ensures rule { rule_of result ≡ may id.entry.now }
     ensures local { result.global ≡ false }

@@ -14,15 +14,14 @@ pub enum Failure {
     NotEmpty,
     /// The file has no database yet, or its schema, its row in the table `office` (issuer and policy) or its schedule is not that of a register.
     NotARegister,
-    /// A newer version of the program wrote the register.
+    /// The register's version (in its table `office`) is newer than the program's. `OldVersion`: it is older; only an audit reports this.
     NewVersion,
-    /// The register to be audited has an older version.
     OldVersion,
     /// The Name, the key or the key identifier is invalid.
     BadIssuer,
     /// An option of `init` is out of its range (`--days`, `--crl-life`, `--ocsp-life` or `--cap`), or the steps given to `schedule` are invalid.
     BadPolicy,
-    /// The clock is more than 30 days past the last accepted moment, and the operator has not accepted it.
+    /// The clock is more than 30 days past the moment of the last accepted command, and the operator has not accepted it (`--accept-clock`).
     BadClock,
     /// The latest CRL is signed, and new ones would have another algorithm or a placeholder digest; or the issuer's key does not fit the signer's
     /// algorithm; or a signer is given for a register in memory.
@@ -31,9 +30,8 @@ pub enum Failure {
     BadResponder,
     /// A reply was a refusal or a fault, at a control socket or in a strict script or import; or a replay stopped at a line of the log.
     Refused,
-    /// The last line of the input has no line end, and did not run.
+    /// The last line of the input has no line end, and did not run. `RefusedNoLineEnd`, at a control socket: a reply was a refusal or a fault, too.
     NoLineEnd,
-    /// Both at a control socket: a reply was a refusal or a fault, and the last line has no line end.
     RefusedNoLineEnd,
     /// An audit found a broken row, or a schema that is not that of a register.
     Broken,
@@ -122,7 +120,7 @@ pub fn status_of(ending: &Result<(), Failure>) -> u8
     }
 }
 
-/// The text as a label. It needs no `Option` as [`Label::of`] does, because the text has 1 to 64 bytes.
+/// A text of 1 to 64 bytes as a label. It uses `joined` with an empty second text, because [`Label::of`] gives an `Option`.
 fn words(text: &[u8]) -> Label
     requires not_empty { 1 ≤ length text.now }
     requires short { length text.now ≤ 64 }

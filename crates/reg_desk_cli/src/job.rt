@@ -1,4 +1,4 @@
-//! The jobs of the program, with their options.
+//! The jobs of the program (`Job`), with their arguments and options. FILE, and each field `file`, is the path of a register.
 
 ghost use Rattle.std.specs.Prelude.{◌≡◌};
 ghost use Rattle.reg_desk_cli.specs.Statuses.{usage_status};
@@ -8,7 +8,7 @@ use reg_core::Moment;
 use reg_core_lists::{Cursor, Filter, Format};
 use reg_crl_signer::Algorithm;
 
-/// A signer: the Unix socket at which it listens, and the algorithm of its signatures.
+/// A signer: the path of the Unix socket at which it listens, and the algorithm of its signatures.
 #[derive(Drop)]
 pub struct SignerAddress<'a> {
     pub socket: Argument<'a>,
@@ -18,11 +18,11 @@ pub struct SignerAddress<'a> {
 /// The responder to OCSP requests for a register that is served (RFC 6960 2.2).
 #[derive(Drop)]
 pub enum ResponderChoice<'a> {
-    /// The issuer: the signer of CRLs signs the responses too. Each signed response embeds the issuer's certificate, if its path is given.
+    /// The issuer: the signer of CRLs signs the responses too. Each signed response contains the certificate at the path `certificate`, if given.
     Issuer {
         certificate: Option<Argument<'a>>,
     },
-    /// A responder with its own key and signer, and the path of its certificate, which each signed response embeds (RFC 6960 4.2.2.2).
+    /// A responder with its own key and signer (`address`). Each signed response contains the certificate at that path (RFC 6960 4.2.2.2).
     Delegate {
         certificate: Argument<'a>,
         address: SignerAddress<'a>,
@@ -32,35 +32,31 @@ pub enum ResponderChoice<'a> {
 /// The options of a script that has `--clock` or `--strict`.
 #[derive(Clone, Copy, PartialEq, Eq)]
 pub struct ScriptOptions {
-    /// The lines have no moments: they run at the moments of the machine's clock.
+    /// `--clock`: the lines have no moments of their own, and run at those of the machine's clock.
     pub is_clocked: bool,
-    /// The lines run even if the clock is more than 30 days past the last accepted moment.
+    /// `--accept-clock`: the lines run even if the clock is more than 30 days past the moment of the last accepted command.
     pub accepts_clock: bool,
-    /// The script ends at the first refusal or fault, and does not run a last line without its line end.
+    /// `--strict`: the script ends at the first refusal or fault, and does not run a last line without its line end.
     pub is_strict: bool,
 }
 
-/// A register to be created.
+/// A register to be created. A certificate is valid for at most `days`; CRLs and OCSP responses have `crl_life` and `ocsp_life` seconds from
+/// thisUpdate to nextUpdate; each table has at most `cap` rows.
 #[derive(Drop)]
 pub struct NewRegister<'a> {
     pub file: Argument<'a>,
-    /// The DER of the issuer's Name, in hexadecimal (RFC 5280 4.1.2.4).
+    /// In hexadecimal: the DER of the issuer's Name, and the bits of its subjectPublicKey (RFC 5280 4.1.2.4, 4.1.2.7).
     pub name: Argument<'a>,
-    /// The bits of the issuer's subjectPublicKey, in hexadecimal (RFC 5280 4.1.2.7).
     pub key: Argument<'a>,
     /// The key identifier of the issuer's certificate, in hexadecimal (RFC 5280 4.2.1.2). Without it CRLs have the SHA-1 of the key.
     pub key_id: Option<Argument<'a>>,
-    /// The longest validity of a certificate, in days.
     pub days: u64,
-    /// The seconds from thisUpdate to nextUpdate of a CRL.
     pub crl_life: u64,
-    /// The seconds from thisUpdate to nextUpdate of an OCSP response.
     pub ocsp_life: u64,
-    /// The greatest number of rows of each table.
     pub cap: u64,
 }
 
-/// A script with `--clock` or `--strict` over a register.
+/// Runs the script of standard input, with `--clock` or `--strict`, over a register. Without a signer, a placeholder digest replaces each signature.
 #[derive(Drop)]
 pub struct LineScript<'a> {
     pub file: Argument<'a>,
@@ -68,15 +64,13 @@ pub struct LineScript<'a> {
     pub options: ScriptOptions,
 }
 
-/// An import: certificates to be registered, one from each row of standard input.
+/// Registers a certificate for each row of standard input, all at one moment. The last two fields are as in [`ScriptOptions`], but about rows.
 #[derive(Drop)]
 pub struct ImportJob<'a> {
     pub file: Argument<'a>,
     /// The moment of the import; `None` for that of the machine's clock when the import begins.
     pub moment: Option<Moment>,
-    /// As in [`ScriptOptions`].
     pub accepts_clock: bool,
-    /// The import ends at the first refusal or fault, and skips a last row without its line end.
     pub is_strict: bool,
 }
 
@@ -87,111 +81,100 @@ pub enum Loopback {
     V6,
 }
 
-/// Where HTTP connections are accepted.
+/// Where HTTP connections are accepted: the address, and the TCP port from 1 to 65,535.
 #[derive(Clone, Copy, PartialEq, Eq)]
 pub struct Endpoint {
     pub address: Loopback,
-    /// 1 to 65,535.
     pub port: u16,
 }
 
-/// A register that is served for a number of HTTP connections.
+/// Answers some HTTP connections, and ends. With neither a signer of CRLs (`signer`) nor a delegate, a placeholder digest replaces each signature.
 #[derive(Drop)]
 pub struct ServeJob<'a> {
     pub file: Argument<'a>,
     pub endpoint: Endpoint,
-    /// How many HTTP connections are answered, 1 to 1,000,000.
+    /// How many HTTP connections are answered, with at most one request each: 1 to 1,000,000.
     pub requests: u32,
-    /// The signer of CRLs, which also signs responses if the responder is the issuer.
     pub signer: Option<SignerAddress<'a>>,
     pub responder: ResponderChoice<'a>,
-    /// The path of a published CRL. Its number must not be above that of the register's latest CRL, and each serial number that it lists must be
-    /// revoked; otherwise nothing is served.
+    /// The path of a published CRL. Nothing is served if its number is above that of the register's latest CRL, or if it lists a serial number that
+    /// is not revoked in the register: then the register may be an old copy.
     pub published: Option<Argument<'a>>,
 }
 
-/// A register that is kept open, with a control socket at the path `control`.
+/// Keeps a register open until the program ends: answers requests over HTTP, and lines at a control socket, which it creates at the path `control`.
+/// `signer`, `responder` and `published` are as in [`ServeJob`]. Without a signer, a placeholder digest replaces each signature if the issuer
+/// responds (`--unsigned`); if a delegate does, no CRL is issued.
 #[derive(Drop)]
 pub struct OpenJob<'a> {
     pub file: Argument<'a>,
     pub endpoint: Endpoint,
     pub control: Argument<'a>,
-    /// As in [`ServeJob`].
     pub signer: Option<SignerAddress<'a>>,
     pub responder: ResponderChoice<'a>,
-    /// As in [`ServeJob`].
     pub published: Option<Argument<'a>>,
 }
 
-/// A list of a register's rows, to be written to standard output.
+/// Writes a list of a register's rows to standard output, as CSV with a header or as one JSON object for each line. `from` names the list: it is
+/// the cursor before the list's first row. `moment` is the moment for which the list is made (`None` for that of the machine's clock).
 #[derive(Drop)]
 pub struct ListJob<'a> {
     pub file: Argument<'a>,
-    /// Which list: the cursor before its first row.
     pub from: Cursor,
-    /// The moment for which the list is written; `None` for that of the machine's clock.
     pub moment: Option<Moment>,
     pub filter: Filter,
     pub form: Format,
 }
 
-/// The order that is entered for each certificate: the id of its subscriber, and the longest validity in days.
+/// The order that is entered for each certificate: the id of its subscriber, and the longest validity in days of a certificate under it.
 #[derive(Clone, Copy, PartialEq, Eq)]
 pub struct OrderTerms {
     pub subscriber: u64,
     pub days: u64,
 }
 
-/// The task for the certificate of each row of a file.
+/// What is done with the certificate of each row of a file: it is registered under a new order; or its revocation is requested, and it is revoked.
 #[derive(Clone, Copy, PartialEq, Eq)]
 pub enum RowTask {
-    /// It is registered under a new order.
     Register(OrderTerms),
-    /// Its revocation is requested, and then it is revoked.
     Revoke,
 }
 
-/// A job of the program, with its arguments and options. FILE is the path of a register.
+/// A job of the program, with its arguments and options. A variant that has a struct is described at the struct.
 #[derive(Drop)]
 pub enum Job<'a> {
     Init(NewRegister<'a>),
-    /// Runs the script of standard input, over FILE or over a register in memory: each line has its moment, and refusals don't end the script.
-    /// Without a signer, a placeholder digest replaces each signature.
+    /// Runs a script as [`LineScript`] does, but without its options; over FILE, or over a register in memory if that is `None`.
     Script {
         file: Option<Argument<'a>>,
         signer: Option<SignerAddress<'a>>,
     },
-    /// As `Script` over FILE, but with `--clock` or `--strict`.
     Lines(LineScript<'a>),
-    /// Registers the rows of standard input, all at one moment.
     Import(ImportJob<'a>),
-    /// Writes a CRL; the latest one if no number is given.
+    /// Writes, in DER, the CRL with this number; `None`: the latest one.
     Crl {
         file: Argument<'a>,
         number: Option<u64>,
     },
-    /// Answers a number of HTTP connections at a port. With neither a signer nor a delegate, a placeholder digest replaces each signature.
     Serve(ServeJob<'a>),
-    /// Keeps a register open until the program ends: answers requests over HTTP at a port, and lines at a control socket. The signer signs; only
-    /// with `--unsigned` a placeholder digest replaces each signature. With a delegate and no signer, no CRL is signed.
     Open(OpenJob<'a>),
-    /// Sends the lines of standard input to the control socket at a path; or the rows of a CSV file, as `register` lines.
+    /// Sends the lines of standard input to a control socket. If `rows` is given, sends the rows of that CSV file instead, as `register` lines.
     At {
         control_path: Argument<'a>,
         rows: Option<Argument<'a>>,
     },
-    /// Does a task with the certificate of each row of a file, at the control socket at a path.
+    /// Does `task` with the certificate of each row of the CSV file at the path `rows`, by lines that it sends to a control socket.
     EachRow {
         control_path: Argument<'a>,
         rows: Argument<'a>,
         task: RowTask,
     },
-    /// Sends the accepted commands of the log file `log` to the control socket at `control_path` again.
+    /// Reads a log (the file at the path `log`), and sends its accepted commands to a control socket once more.
     Replay {
         control_path: Argument<'a>,
         log: Argument<'a>,
     },
-    /// Sets how many days a certificate may be valid, by its notBefore.
+    /// Sets the longest validity of a certificate in days, by its notBefore.
     Schedule {
         file: Argument<'a>,
         steps: Steps,
@@ -201,9 +184,8 @@ pub enum Job<'a> {
         file: Argument<'a>,
         key_id: Argument<'a>,
     },
-    /// Writes a list of the register, as CSV with a header or as one JSON object for each line, at a moment or at the machine's clock.
     Listing(ListJob<'a>),
-    /// Copies the register, which no program has open, to a path that has no file.
+    /// Copies the register to the path `path`, where no file may be yet. No program may have the register open.
     Copy {
         file: Argument<'a>,
         path: Argument<'a>,
@@ -214,26 +196,22 @@ pub enum Job<'a> {
     },
 }
 
-/// A job, and the options that are not part of it.
+/// A job, and the options that are not part of it: `--why` (`is_explained`), `--log` (`has_log`) and `--log-file`.
 #[derive(Drop)]
 pub struct Invocation<'a> {
     pub job: Job<'a>,
-    /// `--why`: reports the cause of a failure, if it is known. If a registration with E08, E09 or E12 ends a strict script or import, says why.
+    /// Whether one more line tells a failure's cause, if known; or, if a refused registration (E08, E09, E12) ended a strict run, why it was refused.
     pub is_explained: bool,
-    /// Whether `serve` or `open` logs each exchange on standard error.
+    /// Where `serve` and `open` log each exchange: on standard error, in the file at this path, in both, or nowhere.
     pub has_log: bool,
-    /// The path of the file in which `serve` or `open` logs each exchange.
     pub log_file: Option<Argument<'a>>,
 }
 
-/// Why there is no invocation.
+/// Why there is no invocation: the text of help or of the version, for standard output; an error message, for standard error; or out of memory.
 #[derive(Drop)]
 pub enum Usage {
-    /// The text of help, for standard output.
     Help(String),
-    /// The text of the version, for standard output.
     Version(String),
-    /// What is wrong with the command line, for standard error.
     Bad(String),
     Memory,
 }

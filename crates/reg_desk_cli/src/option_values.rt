@@ -1,4 +1,5 @@
 //! Reads the values of a command's arguments and options. `matches` is what clap found, and `id` names an argument, or an option by its long name.
+//! An `Option<Option<..>>` is `Some(None)` if the option is not given, and `None` if its value is invalid.
 
 ghost use Rattle.std.specs.Prelude.{◌≡◌, ◌≤◌, ◌==◌, IfOk, IfSome, List, ℕ, map, option_and_then, option_map, position};
 ghost use Rattle.reg_core.specs.Calendar.{moment_of};
@@ -34,7 +35,7 @@ fn texts_of<'m, 'a>(matches: &'m ArgMatches<'a>, id: &str) -> Option<&'m [&'a st
     matches.get_strs(id)
 }
 
-/// The number of an option, or the default if the option is not given; `None` if its value is no number.
+/// The number of an option, or `otherwise` if the option is not given; `None` if its value is no number.
 pub(crate) fn number_or(matches: &ArgMatches<'_>, id: &str, otherwise: u64) -> Option<u64>
     ensures { result ≡ value_or_default otherwise id.now (rows_of (found_of matches.now)) }
 {
@@ -44,7 +45,6 @@ pub(crate) fn number_or(matches: &ArgMatches<'_>, id: &str, otherwise: u64) -> O
     }
 }
 
-/// The number of an option; `Some(None)` if the option is not given, `None` if its value is no number.
 pub(crate) fn number_option(matches: &ArgMatches<'_>, id: &str) -> Option<Option<u64>>
     ensures { result ≡ given id.now (rows_of (found_of matches.now)) }
 {
@@ -85,7 +85,6 @@ pub(crate) fn moment(matches: &ArgMatches<'_>, id: &str) -> Option<Moment>
     Moment::read(text_of(matches, id)?.as_bytes())
 }
 
-/// The moment of an option; `Some(None)` if the option is not given, `None` if its value is no moment.
 pub(crate) fn moment_option(matches: &ArgMatches<'_>, id: &str) -> Option<Option<Moment>>
     ensures { result ≡ moment_given id.now (rows_of (found_of matches.now)) }
 {
@@ -95,7 +94,6 @@ pub(crate) fn moment_option(matches: &ArgMatches<'_>, id: &str) -> Option<Option
     }
 }
 
-/// The address of `--listen`, or 127.0.0.1 if it is not given; `None` for any text but `127.0.0.1` and `[::1]`.
 pub(crate) fn loopback(matches: &ArgMatches<'_>) -> Option<Loopback>
     ensures { result ≡ loopback_in (rows_of (found_of matches.now)) }
 {
@@ -117,7 +115,6 @@ fn read_loopback(text: &str) -> Option<Loopback>
     }
 }
 
-/// The filter from four options of `list`; `None` if the value of one can't be read.
 #[tactic(auto, unfolding(crate::specs::Jobs::filter_in))]
 pub(crate) fn filter_option(matches: &ArgMatches<'_>) -> Option<Filter>
     ensures { result ≡ filter_in (rows_of (found_of matches.now)) }
@@ -130,7 +127,7 @@ pub(crate) fn filter_option(matches: &ArgMatches<'_>) -> Option<Filter>
     })
 }
 
-/// The text of an option; `Some(None)` if the option is not given, `None` if the text does not have 1 to 64 bytes.
+/// The text of an option, which must have 1 to 64 bytes; for [`prefix_option`], 1 to 40 hexadecimal digits.
 pub(crate) fn label_option(matches: &ArgMatches<'_>, id: &str) -> Option<Option<Label>>
     ensures { result ≡ label_given id.now (rows_of (found_of matches.now)) }
 {
@@ -140,7 +137,6 @@ pub(crate) fn label_option(matches: &ArgMatches<'_>, id: &str) -> Option<Option<
     }
 }
 
-/// The hexadecimal digits of an option; `Some(None)` if the option is not given, `None` if its value is not 1 to 40 such digits.
 pub(crate) fn prefix_option(matches: &ArgMatches<'_>, id: &str) -> Option<Option<Label>>
     ensures { result ≡ prefix_given id.now (rows_of (found_of matches.now)) }
 {
@@ -157,8 +153,8 @@ pub(crate) fn signer_option<'a>(matches: &ArgMatches<'a>) -> Option<Option<Signe
     signer_by(matches, "signer", "algorithm")
 }
 
-/// The responder to OCSP requests: a delegate if `--responder`, `--responder-signer` and `--responder-algorithm` are given, the issuer if none is.
-/// `None` if only some are given, if no algorithm has the name, or if a delegate is given with `--embed`.
+/// The responder to OCSP requests: the issuer; or a delegate with its own key, if `--responder`, `--responder-signer` and `--responder-algorithm` are
+/// given. `None` if only some of these are, if no algorithm has the name, or if a delegate is given with `--embed`.
 #[tactic(auto, unfolding(crate::specs::Jobs::responder_in))]
 pub(crate) fn responder<'a>(matches: &ArgMatches<'a>) -> Option<ResponderChoice<'a>>
     ensures { result ≡ responder_in (rows_of (found_of matches.now)) }
@@ -212,7 +208,7 @@ fn signer_by<'a>(
 }
 
 /// The signer of CRLs for `open`; `Some(None)` with `--unsigned`, or with a delegate and no signer. `None` where [`signer_option`] gives `None`, if
-/// `--unsigned` is given with a signer or a delegate, or if none of the three is given.
+/// `--unsigned` is given with a signer or a delegate, or if there is no signer, no delegate and no `--unsigned`.
 pub(crate) fn signer_or_unsigned<'a>(
     matches: &ArgMatches<'a>,
     responder: &ResponderChoice<'_>,
@@ -258,7 +254,7 @@ pub(crate) fn script_options_of(matches: &ArgMatches<'_>) -> ScriptOptions
     }
 }
 
-/// Whether an option without a value is given: then clap gives it the value `true`.
+/// Whether a flag (an option that takes no value) is given. If it is, clap's value for it is `true`.
 pub(crate) fn is_set(matches: &ArgMatches<'_>, id: &str) -> bool
     ensures { result ≡ has_flag id.now (rows_of (found_of matches.now)) }
 {
@@ -268,7 +264,6 @@ pub(crate) fn is_set(matches: &ArgMatches<'_>, id: &str) -> bool
     }
 }
 
-/// The subscriber's id and the days of `--orders`; `Some(None)` if it is not given, `None` if its values are not two numbers.
 pub(crate) fn order_terms_option(matches: &ArgMatches<'_>) -> Option<Option<OrderTerms>>
     ensures { result ≡ order_terms_given (rows_of (found_of matches.now)) }
 {

@@ -1,4 +1,4 @@
-//! Reads the words of a command line as an invocation. `desk` is clap's description of the command line, `matches` what clap found in the words.
+//! Reads the words of a command line. `desk` is clap's description of it, `matches` what clap found in the words, `given` in those after the command.
 
 ghost use Rattle.std.specs.Prelude.{◌≡◌, IfErr, IfOk, map};
 ghost use Rattle.clap.specs.Words.{app_of, found_of, rows_of, subcommand_rows_of, kind_of};
@@ -18,9 +18,8 @@ use std::convert::AsStr;
 
 const TEXT_WANTED: &str = "an argument is not UTF-8 text: each path and name must be UTF-8";
 
-/// Reads the words of a command line, of which the first is the program's name. Options of `init` that are not given have the values of the default
-/// policy. Errors: `Help` and `Version` if the words ask for them. `Bad` if clap finds an error, if a value is malformed or out of range, or if an
-/// option excludes or lacks another one: `open` takes no `--unsigned` with a signer, for example. `Memory` if out of memory.
+/// Reads the words of a command line, the program's name first. Errors: `Memory`; `Help` and `Version` if the words ask for them; `Bad` if clap finds
+/// an error, if a value is malformed or out of range, or if an option excludes or lacks another one: `--unsigned` excludes `--signer`, for example.
 pub fn read_words<'a, S: AsStr>(alloc: Global, words: &'a [S]) -> Result<Invocation<'a>, Usage>
     ensures invocation { IfOk result (IsInvocationOf (map S.text words.entry.now)) }
     ensures usage { IfErr result (IsUsageOf (map S.text words.entry.now)) }
@@ -85,7 +84,6 @@ fn word_after_command<'a>(matches: &ArgMatches<'a>, id: &str) -> Option<Argument
     }
 }
 
-/// The job of the given command; `None` if one of its values is malformed or out of range, or if one of its options excludes or lacks another.
 fn read_job<'a>(alloc: Global, matches: &ArgMatches<'a>) -> Result<Option<Job<'a>>, AllocError>
     ensures { IfOk result (λ job. job ≡ job_found (subcommand_rows_of matches.now)) }
 {
@@ -121,7 +119,6 @@ fn bad_value(alloc: Global, desk: &mut Command<'_>, matches: &ArgMatches<'_>) ->
     }
 }
 
-/// A usage error with this text, in the form in which clap prints its own.
 fn clap_error(alloc: Global, desk: &mut Command<'_>, kind: ErrorKind, text: &str) -> Usage
     ensures { PrintsUsage kind result }
 {

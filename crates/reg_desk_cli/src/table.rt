@@ -8,7 +8,7 @@ pub(crate) enum Part {
     /// One or more arguments: all that are left.
     Rest(&'static str, &'static str, &'static str),
     RequiredOption(&'static str, &'static str, &'static str),
-    /// As `RequiredOption`, with an older name after the id, which is accepted too, but not in the help.
+    /// As `RequiredOption`, with an older name after the id. The older name is accepted too, but help leaves it out.
     Renamed(&'static str, &'static str, &'static str, &'static str),
     OptionalOption(&'static str, &'static str, &'static str),
     /// An option that may be left out and takes several values: its id, the name of each value, and its help.
@@ -26,7 +26,6 @@ pub(crate) struct CommandEntry {
     pub(crate) parts: &'static [Part],
 }
 
-// The help for each argument and option: what it is, its unit, its range and its default.
 const NEW_FILE: &str = "The register's file; it must be new or empty";
 
 const NAME: &str = "The issuer's Name, its DER in hexadecimal, at most 1024 bytes";
@@ -166,8 +165,7 @@ const CAUSE_ANYWHERE: &str =
 
 pub(crate) const OPTIONS_BEFORE_COMMAND: &[Part] = &[Part::Flag("why", CAUSE_ANYWHERE)];
 
-/// The first commands, in the order in which help lists them. The others are in a constant of their own, and only one small function uses this one,
-/// because a long constant costs the prover seconds in each step of a function that uses it.
+/// The commands that help lists first, in its order; then come [`OTHER_COMMANDS`]. One long constant would slow the proofs of functions that use it.
 pub(crate) const FIRST_COMMANDS: &[CommandEntry] = &[
     CommandEntry {
         name: "init",
@@ -267,7 +265,6 @@ pub(crate) const FIRST_COMMANDS: &[CommandEntry] = &[
     },
 ];
 
-/// The other commands, in the order in which help lists them, after those of `FIRST_COMMANDS`.
 pub(crate) const OTHER_COMMANDS: &[CommandEntry] = &[
     CommandEntry {
         name: "at",

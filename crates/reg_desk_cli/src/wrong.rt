@@ -1,4 +1,5 @@
-//! The messages for a malformed or out-of-range value, and for options that exclude or lack each other.
+//! Messages about a command line that clap accepts and `desk` does not: for a malformed or out-of-range value, and for options that exclude or lack
+//! each other. clap's id of an option is its long name without `--`.
 
 use crate::option_values::{
     label_option, loopback, moment, number_within, prefix_option, read_step, responder,
@@ -12,10 +13,10 @@ pub(crate) const LAST_PORT: u64 = 65_535;
 
 pub(crate) const MOST_REQUESTS: u64 = 1_000_000;
 
-/// The greatest number that [`read_number`] takes: it has 18 digits.
+/// The greatest number that [`read_number`] reads: eighteen nines.
 const MOST: u64 = 999_999_999_999_999_999;
 
-/// The options whose value is a number: the id and the name of each, and its bounds here. `policy_of` checks the narrower bounds of a policy.
+/// The options whose value is a number: the id and the name of each, and the least and greatest number. `policy_of` checks a policy's bounds later.
 const NUMBERS: [(&str, &str, u64, u64); 7] = [
     ("days", "--days", 0, MOST),
     ("crl-life", "--crl-life", 0, MOST),
@@ -26,7 +27,6 @@ const NUMBERS: [(&str, &str, u64, u64); 7] = [
     ("requests", "--requests", 1, MOST_REQUESTS),
 ];
 
-/// The options whose value is a moment: the id and the name of each.
 const MOMENTS: [(&str, &str); 4] = [
     ("before", "--before"),
     ("now", "--now"),
@@ -34,8 +34,7 @@ const MOMENTS: [(&str, &str); 4] = [
     ("to", "--to"),
 ];
 
-/// The options of a responder: the id and the name of each. The algorithm is first, so that the message names it if it is unknown.
-const RESPONDERS: [(&str, &str); 3] = [
+const RESPONDER_OPTIONS: [(&str, &str); 3] = [
     ("responder-algorithm", "--responder-algorithm"),
     ("responder-signer", "--responder-signer"),
     ("responder", "--responder"),
@@ -72,7 +71,7 @@ const AT_WANTED: &str = "at takes --import or --revoke, and not both; --orders n
 const OPEN_WANTED: &str =
     "open needs --signer SOCKET with --algorithm NAME, or --unsigned for a placeholder digest instead of signatures, and not both; with --responder, --signer may be left out, and --unsigned is refused";
 
-/// A wrong value, its option, and what is wanted.
+/// A wrong value, its option, and the rule for such values (`wanted`).
 #[derive(Clone, Copy)]
 struct Wrong<'a> {
     option: &'static str,
@@ -90,7 +89,7 @@ impl<'a> Wrong<'a> {
     }
 }
 
-/// The message for a wrong value, or else for options that exclude or lack each other; `None` if out of memory.
+/// The message for the first wrong value, or else for options that exclude or lack each other; `None` if out of memory.
 pub(crate) fn wrong_text(alloc: Global, matches: &ArgMatches<'_>) -> Option<String> {
     let Some(wrong) = first_wrong(matches) else {
         return String::from_str(alloc, combination_wanted(matches)).ok();
@@ -110,7 +109,8 @@ fn combination_wanted(matches: &ArgMatches<'_>) -> &'static str {
     }
 }
 
-/// The first wrong value of the given command, in the order of these checks; `None` if they find none.
+/// The first wrong value of the given command, in the order of these checks; `None` if they find none. The functions of `option_values.rt` that the
+/// checks call return `None` for a wrong value, and most of them `Some` if the option is not given.
 fn first_wrong<'a>(matches: &ArgMatches<'a>) -> Option<Wrong<'a>> {
     let (_, given) = matches.subcommand()?;
     if let Some(wrong) = wrong_number(given) {
@@ -185,7 +185,6 @@ fn wrong_orders<'a>(given: &ArgMatches<'a>) -> Option<Wrong<'a>> {
     None
 }
 
-/// The value of a filter that can't be read.
 fn wrong_filter<'a>(given: &ArgMatches<'a>) -> Option<Wrong<'a>> {
     if label_option(given, "subscriber").is_none() {
         let value = text_of(given, "subscriber")?;
@@ -198,7 +197,7 @@ fn wrong_filter<'a>(given: &ArgMatches<'a>) -> Option<Wrong<'a>> {
     None
 }
 
-/// The option of a signer that is given without the other, or names no algorithm.
+/// If only one of `--algorithm` and `--signer` is given, it is the wrong option. If both are, the algorithm is unknown: `--algorithm` is wrong.
 fn wrong_signer<'a>(given: &ArgMatches<'a>) -> Option<Wrong<'a>> {
     if signer_option(given).is_some() {
         return None;
@@ -210,12 +209,12 @@ fn wrong_signer<'a>(given: &ArgMatches<'a>) -> Option<Wrong<'a>> {
     Some(Wrong::of(option, value, SIGNER_WANTED))
 }
 
-/// An option of a responder, if one is missing, `--embed` is given too, or an algorithm is unknown.
+/// The first of `RESPONDER_OPTIONS` that is given, if not all three are given, if `--embed` is given too, or if the algorithm is unknown.
 fn wrong_responder<'a>(given: &ArgMatches<'a>) -> Option<Wrong<'a>> {
     if responder(given).is_some() {
         return None;
     }
-    for (id, option) in RESPONDERS {
+    for (id, option) in RESPONDER_OPTIONS {
         if let Some(value) = text_of(given, id) {
             return Some(Wrong::of(option, value, RESPONDER_WANTED));
         }

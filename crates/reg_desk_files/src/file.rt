@@ -19,21 +19,18 @@ use std::hash::{BuildHasher, RandomState};
 use std::io::ErrorKind;
 use std::os::unix::fs::OpenOptionsExt;
 
-/// The bytes of a page of a register that `desk` creates.
+/// How many bytes a page has in a register that `desk` creates.
 const PAGE: u64 = 4096;
 
-/// The fewest pages of the page cache, for 8 MB.
-const FEWEST_PAGES: usize = 2_000;
+const MIN_CACHE_PAGES: usize = 2_000;
 
-/// The most pages of the page cache, for 512 MiB.
-const MOST_PAGES: usize = 131_072;
+const MAX_CACHE_PAGES: usize = 131_072;
 
 const OWNER_ONLY: u32 = 0o600;
 
-/// Opens the database at a path for writing, or creates it. The crate `sqlite` checks each page, index and constraint. `start` only tells contracts
-/// what the file and its log (`-wal`) hold. The page cache has room for twice the pages of the file, at least 2,000 and at most 131,072. So a
-/// look-up seldom reads the file, and a transaction writes each page to the log once. Errors: `Memory`; `Store`, with its cause if that is known, if
-/// the file can't be opened or is no database. `Store` too if the path is `:memory:` or begins with `file:`.
+/// Opens the database at a path for writing, or creates it. The crate `sqlite` then checks each page, index and constraint. `start` only tells
+/// contracts what the file and its log (`-wal`) hold. Errors: `Memory`; `Store`, with its cause if that is known, if the file can't be opened, if it
+/// is no database, or if the path is `:memory:` or begins with `file:`.
 pub fn open_file<S: Start>(
     rt: &HostRuntime,
     path: &str,
@@ -52,14 +49,15 @@ pub fn open_file<S: Start>(
     }
     let options = options_for(rt, path)?;
     let files = sqlite_std_file::open(rt, path, start)?;
-    // `false`: a new database has no page checksums.
+    // `false`: a new database gets no page checksums. After an error, the open files (`_`) are closed.
     match Connection::open_files_with(rt.alloc(), files, options, false) {
         Ok(connection) => Ok(connection),
         Err((error, _)) => Err(FileFault::from(error)),
     }
 }
 
-/// The options to open the database at a path: the size of its page cache, and a random seed for the salts of its log.
+/// The options to open the database at a path. The seed for its log's salts is random: `RandomState` gives a fixed value a random hash. The page
+/// cache has room for twice the file's pages (8 MB to 512 MiB): look-ups seldom read the disk. As many changed pages can wait in memory for the log.
 pub(crate) fn options_for(rt: &HostRuntime, path: &str) -> Result<Options, FileFault>
     ensures room { IfOk result (λ options. (2000 ≤ options.cache_pages) × (options.cache_pages ≤ 131072)
         × (options.spill_pages ≡ options.cache_pages)) }
@@ -80,25 +78,22 @@ fn cache_pages_for(rt: &HostRuntime, path: &str) -> usize
     ensures fewest { 2000 ≤ result }
     ensures most { result ≤ 131072 }
 {
-    // A file whose size can't be read counts as empty.
     let bytes = fs::metadata(rt, path).map_or(0, |it| it.len());
     usize::try_from((bytes / PAGE).saturating_mul(2))
-        .unwrap_or(MOST_PAGES)
-        .max(FEWEST_PAGES)
-        .min(MOST_PAGES)
+        .unwrap_or(MAX_CACHE_PAGES)
+        .max(MIN_CACHE_PAGES)
+        .min(MAX_CACHE_PAGES)
 }
 
-/// Why no file was created.
+/// Why no file was created. `Taken`: something is at the path or at that of its log; or a system call failed, with its cause if that is known.
 #[derive(Clone, Copy, PartialEq, Eq)]
 pub enum ClaimFault {
-    /// Out of memory.
     Memory,
-    /// Something is at the path or at that of its log, or the system refused to look there or to create the file; with the cause if it is known.
     Taken(Option<Cause>),
 }
 
-/// Creates an empty file at a path with mode 0600. Fails if a file is at the path; or at the path of its log (`-wal`), since a log may be all that is
-/// left of a register. A dangling symbolic link counts as a file. If two programs call this at once for one path, only one of them succeeds.
+/// Creates an empty file at a path with mode 0600, if there is no file, and none at the path of its log (`-wal`): a log may be all that is left of a
+/// register. A dangling symbolic link counts as a file. If two programs call this at once for one path, only one of them succeeds.
 pub fn claim_file(rt: &HostRuntime, path: &str) -> Result<(), ClaimFault> {
     let Ok(log) = log_path(rt, path) else {
         return Err(ClaimFault::Memory);

@@ -1,4 +1,4 @@
-//! Finds out whether a file and its log hold a database, before it is opened.
+//! Finds out whether a file and its log (`-wal`) hold a database, before it is opened.
 
 ghost use Rattle.std.specs.Prelude.{◌≡◌, ◌≢◌, ◌↔◌, false, IfErr, IsTrue};
 ghost use Rattle.sqlite.specs.Files.{HoldsDatabase, IsBlankAs, IsNothing};
@@ -15,22 +15,19 @@ use sqlite_pool::probe_blank;
 use sqlite_wal::{Error, PageSize, probe_first_page, probe_page_size};
 use std::alloc::Global;
 
-/// The bytes of a page of a database that opening would create.
-const NEW_PAGE: usize = 4096;
+const NEW_PAGE_SIZE: usize = 4096;
 
 /// The content of a file and its log, as far as reading their beginnings shows.
 #[derive(Clone, Copy, PartialEq, Eq)]
 pub enum FileContent {
-    /// No database yet: the files are empty, or an interrupted creation left a part of the first page. Opening for writing would create one.
+    /// No database yet: the file is empty, or an interrupted creation left a part of its first page. Opening for writing would create one.
     Nothing,
-    /// No database, but something else.
     Other,
     /// The beginning of a database. Only opening finds out whether the rest is one too.
     PossibleDatabase,
 }
 
-/// Finds out, by reads alone, what opening would find in a file and its log. Errors: `Memory`; `Store` if a read failed, or if the log is not that of
-/// a database.
+/// Finds out what opening would find in a file and its log. Errors: `Memory`; `Store` if a read failed, or if the log is not that of a database.
 pub fn probe_content<D: Disk>(alloc: Global, files: &mut Files<D>) -> Result<FileContent, FileFault>
     requires log { IsTrue (D.Disk.is_usable files.old.log) }
     requires db { IsTrue (D.Disk.is_usable files.old.db) }
@@ -51,7 +48,6 @@ pub fn probe_content<D: Disk>(alloc: Global, files: &mut Files<D>) -> Result<Fil
     Ok(FileContent::Other)
 }
 
-/// Whether opening would create a database, be it one without page checksums or one with them.
 fn is_nothing<D: Disk>(alloc: Global, files: &mut Files<D>) -> Result<bool, Error>
     requires log { IsTrue (D.Disk.is_usable files.old.log) }
     requires db { IsTrue (D.Disk.is_usable files.old.db) }
@@ -66,7 +62,8 @@ fn is_nothing<D: Disk>(alloc: Global, files: &mut Files<D>) -> Result<bool, Erro
     is_blank(alloc, files, true)
 }
 
-/// Whether opening would create a database. `has_sums` says whether each page of the new database would have a checksum of 8 octets.
+/// Whether opening would create a database, or finish an interrupted creation. `has_sums`: each page would end with a checksum of 8 octets, as
+/// SQLite's extension cksumvfs writes it.
 fn is_blank<D: Disk>(alloc: Global, files: &mut Files<D>, has_sums: bool) -> Result<bool, Error>
     requires log { IsTrue (D.Disk.is_usable files.old.log) }
     requires db { IsTrue (D.Disk.is_usable files.old.db) }
@@ -75,11 +72,11 @@ fn is_blank<D: Disk>(alloc: Global, files: &mut Files<D>, has_sums: bool) -> Res
     ensures log { OnlyReads D.Disk files.old.log files.new.log }
     ensures db { OnlyReads D.Disk files.old.db files.new.db }
 {
-    let size = PageSize::new(NEW_PAGE).unwrap();
+    let size = PageSize::new(NEW_PAGE_SIZE).unwrap();
     probe_blank(alloc, files, size, has_sums)
 }
 
-/// Whether a page size is named, by the log or else by the file, and the first page begins as that of a database.
+/// Whether the log or else the file names a page size, and the first page begins as that of a database.
 fn begins<D: Disk>(alloc: Global, files: &mut Files<D>) -> Result<bool, Error>
     requires log { IsTrue (D.Disk.is_usable files.old.log) }
     requires db { IsTrue (D.Disk.is_usable files.old.db) }
@@ -88,8 +85,8 @@ fn begins<D: Disk>(alloc: Global, files: &mut Files<D>) -> Result<bool, Error>
     ensures log { OnlyReads D.Disk files.old.log files.new.log }
     ensures db { OnlyReads D.Disk files.old.db files.new.db }
 {
-    let named = probe_page_size(files)?;
-    match named {
+    let page_size = probe_page_size(files)?;
+    match page_size {
         Some(size) => begins_with(alloc, files, size),
         None => Ok(false),
     }

@@ -1,4 +1,4 @@
-//! Writes the pages of a database to a new file, which has another name until it is complete and synced.
+//! Copies a database to a new file: writes its pages under another name, and gives the file its own name once it is whole and synced.
 
 ghost use Rattle.std.specs.Prelude.{IfErr};
 ghost use Rattle.reg_desk_files.specs.Reading.{IsFileFault};
@@ -16,12 +16,11 @@ use std::{fs, io};
 
 const OWNER_ONLY: u32 = 0o600;
 
-/// The suffix of a copy's name while it is written.
 const PARTIAL_SUFFIX: &str = ".part";
 
-/// Writes all pages to a new file, and returns how many bytes it has. The file is written under the name with `.part` and synced. Then it gets its
-/// own name, in one step that replaces no file. If this fails, the new file is removed. Errors: `Memory`; `Store` if a page can't be read, or if the
-/// file can't be written or named. `Store` too if there is a file at its path, or at that path with `-wal`, `-journal` or `.part`.
+/// Writes all pages to a new file at the path `to`, and returns how many bytes it has. The file is written at that path with `.part`, and synced.
+/// Then it gets its own name, in one step that replaces no file. If any of this fails, the new file is removed. Errors: `Memory`; `Store` if a page
+/// can't be read, or if the file can't be written or named. `Store` too if there is a file at `to`, or at `to` with `-wal`, `-journal` or `.part`.
 pub(crate) fn write_copy<D: Disk>(
     rt: &HostRuntime,
     pager: &mut Pager<D>,
@@ -29,7 +28,7 @@ pub(crate) fn write_copy<D: Disk>(
 ) -> Result<u64, FileFault>
     ensures { IfErr result IsFileFault }
 {
-    check_all_free(rt, to)?;
+    check_no_files(rt, to)?;
     let part_path = with_suffix(rt, to, PARTIAL_SUFFIX)?;
     let mut file = new_file(rt, part_path.as_str())?;
     match fill_and_name(rt, pager, &mut file, part_path.as_str(), to) {
@@ -41,19 +40,18 @@ pub(crate) fn write_copy<D: Disk>(
     }
 }
 
-fn check_all_free(rt: &HostRuntime, to: &str) -> Result<(), FileFault>
+fn check_no_files(rt: &HostRuntime, to: &str) -> Result<(), FileFault>
     ensures { IfErr result IsFileFault }
 {
     if to.is_empty() {
         return Err(fault_with_cause(Fault::Store, Some(Cause::NoFile)));
     }
-    check_free(rt, to, "")?;
-    check_free(rt, to, "-wal")?;
-    check_free(rt, to, "-journal")
+    check_no_file(rt, to, "")?;
+    check_no_file(rt, to, "-wal")?;
+    check_no_file(rt, to, "-journal")
 }
 
-/// Checks that at the path with this suffix there is no file, and no symbolic link, not even a dangling one.
-fn check_free(rt: &HostRuntime, to: &str, suffix: &str) -> Result<(), FileFault>
+fn check_no_file(rt: &HostRuntime, to: &str, suffix: &str) -> Result<(), FileFault>
     ensures { IfErr result IsFileFault }
 {
     let path = with_suffix(rt, to, suffix)?;
@@ -86,13 +84,13 @@ fn fill_and_name<D: Disk>(
 {
     let bytes = put_pages(pager, file)?;
     or_create_fault(file.sync_all())?;
-    name(rt, part_path, to)?;
+    rename_without_replacing(rt, part_path, to)?;
     Ok(bytes)
 }
 
-/// Gives a complete file its name, if that is free; then removes its former name and syncs the folder. If the removal or the sync fails, removes the
-/// new name too.
-fn name(rt: &HostRuntime, part_path: &str, to: &str) -> Result<(), FileFault>
+/// Gives the whole file its own name `to`, if that is free; then removes the name with `.part` and syncs the folder. If the removal or the sync
+/// fails, removes the name `to` too.
+fn rename_without_replacing(rt: &HostRuntime, part_path: &str, to: &str) -> Result<(), FileFault>
     ensures { IfErr result IsFileFault }
 {
     or_create_fault(fs::hard_link(rt, part_path, to))?;
@@ -105,7 +103,6 @@ fn name(rt: &HostRuntime, part_path: &str, to: &str) -> Result<(), FileFault>
     }
 }
 
-/// Removes a file's former name, and syncs its folder.
 fn remove_former_name(rt: &HostRuntime, part_path: &str) -> io::Result<()> {
     let mut folder = fs::canonicalize(rt, part_path)?;
     folder.pop();
@@ -114,7 +111,6 @@ fn remove_former_name(rt: &HostRuntime, part_path: &str) -> io::Result<()> {
     folder.sync_all()
 }
 
-/// Turns the error of a system call into the fault of a file that can't be created.
 fn or_create_fault(outcome: io::Result<()>) -> Result<(), FileFault>
     ensures { IfErr result IsFileFault }
 {

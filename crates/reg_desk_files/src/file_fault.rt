@@ -10,11 +10,10 @@ use std::alloc::AllocError;
 use std::io;
 use std::io::ErrorKind;
 
+/// A fault, which is `Memory` or `Store`, and its cause, if that is known.
 #[derive(Clone, Copy, PartialEq, Eq)]
 pub struct FileFault {
-    /// `Memory` or `Store`.
     pub fault: Fault,
-    /// `None` if it is not known.
     pub cause: Option<Cause>,
 }
 

@@ -1,4 +1,4 @@
-//! Locks a database's file by the bytes that SQLite locks, and makes the paths of the files beside it.
+//! Locks a database's file at the offsets at which SQLite locks it, and makes the paths of the files beside it, such as its WAL (in code: log).
 
 ghost use Rattle.std.specs.Prelude.{◌≡◌, ◌++◌, codes, string_bytes, IfErr, IfOk};
 ghost use Rattle.reg_desk_files.specs.Reading.{IsFileFault};
@@ -12,13 +12,13 @@ use std::io::ErrorKind;
 use std::os::fd::AsRawFd;
 use std::{fs, io};
 
-/// The offset of the bytes that SQLite locks in a database file (pending, reserved and shared locks), and how many they are.
+/// The offset of the bytes that SQLite locks in a database file (for its pending, reserved and shared locks). `LOCKS_LENGTH`: how many these are.
 const LOCKS: u64 = 1_073_741_824;
 
 const LOCKS_LENGTH: u64 = 512;
 
-/// Locks the bytes that SQLite locks, without waiting. The lock ends when the file is closed. Errors: `Store`, with the cause `InUse` if another lock
-/// prevents this one; `Memory`.
+/// Takes a shared or exclusive lock (`kind`) on these bytes, without waiting. The lock ends when the file is closed. Errors: `Store`, with cause
+/// `InUse` if another lock prevents this one; `Memory`.
 pub(crate) fn lock(file: &fs::File, kind: RangeLock) -> Result<(), FileFault>
     ensures { IfErr result IsFileFault }
 {
@@ -32,9 +32,9 @@ pub(crate) fn lock(file: &fs::File, kind: RangeLock) -> Result<(), FileFault>
     }
 }
 
-/// Checks that `file`, which the caller found at the path of a database that this program has open, is that database. If it is, this program's lock
-/// for writing prevents the shared lock that is tried here, even in the same process (open file description locks). Errors: `Store` with the cause
-/// `NoFile` if the shared lock succeeds, because another file has that path now; else those of [`lock`].
+/// Checks that `file`, which was opened at the path of a database that this program has open, is still that database. If it is, this program's own
+/// lock for writing prevents the shared lock that is tried here, because such locks belong to an open file, not to a process. Errors: `Store` with
+/// the cause `NoFile` if the shared lock succeeds: another file is at that path now; else those of [`lock`], without `InUse`.
 pub(crate) fn check_locked(file: &fs::File) -> Result<(), FileFault>
     ensures { IfErr result IsFileFault }
 {
@@ -45,7 +45,6 @@ pub(crate) fn check_locked(file: &fs::File) -> Result<(), FileFault>
     }
 }
 
-/// Opens a file for writing and locks it exclusively; `None` if either fails.
 pub(crate) fn lock_exclusively(rt: &HostRuntime, path: &str) -> Option<fs::File> {
     let mut options = OpenOptions::new();
     options.read(true).write(true);

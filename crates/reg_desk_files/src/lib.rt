@@ -23,4 +23,4 @@ pub use read_file::ReadFile;
 pub use read_only::{
     ReadFailure, Sources, check_database, copy_of, open_existing, open_sources, read_at,
 };
-pub use source::Source;
+pub use source::ReadAt;

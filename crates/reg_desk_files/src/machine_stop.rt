@@ -1,4 +1,4 @@
-//! Stops a machine and opens a register's files again, for the laws about crashes. No other code calls this.
+//! A model of a crash, for the theorems about crashes: the machine stops, and a register's files are opened again. The program never calls it.
 
 ghost use Rattle.std.specs.Prelude.{◌≡◌, false, IfOk};
 ghost use Rattle.sqlite.specs.Files.{file_state, over_files};
@@ -9,11 +9,9 @@ use sqlite::{Connection, Error, FileStore, Leftover, Options};
 use sqlite_disk::Crash;
 use std::alloc::Global;
 
-/// Stops the machine: closes the files as they are, lets each lose what was not synced, and opens them again.
-///
-/// For a stop in the middle of a call, the disk fails each operation from some one on, as [`Fuse`](sqlite_disk::Fuse) does: the call returns a fault,
-/// and then `restart` is called. The law `a_register_opened_after_a_stop_stands_before_or_after` of `reg_office` says which records the register
-/// then shows. Errors: those of [`Connection::open_files`].
+/// Closes the files as they are, lets each lose bytes that were not synced, and opens them again. Errors: those of [`Connection::open_files`]. A
+/// stop in the middle of a call is modelled by a disk that fails from some operation on, as a [`Fuse`](sqlite_disk::Fuse) does; `restart` follows the
+/// failed call. The theorem `a_register_opened_after_a_stop_stands_before_or_after` of `reg_office` states which records the register then shows.
 pub fn restart<D: Crash + Drop>(
     alloc: Global,
     connection: Connection<FileStore<D>>,

@@ -6,31 +6,29 @@ ghost use Rattle.sqlite_disk.specs.Refusal.{finds_no_room};
 ghost use Rattle.sqlite_wal.specs.Files.{seen_image};
 ghost use Rattle.reg_desk_files.specs.Overlaid.{bytes_of, bytes_with, file_below, honest_with, image};
 
-use crate::source::Source;
+use crate::source::ReadAt;
 use sqlite_disk::{Disk, Files, Tally, digest_of};
 use std::alloc::{AllocError, Global};
 use std::io;
 use std::io::ErrorKind;
 
-/// One of the files that a database gets: either bytes in memory, which it may write; or a file that is only read, to which each write is refused.
-/// It is no layer over another file.
+/// One of the files that a database gets: a file that is only read (`below`), to which each write is refused; or, if that is `None`, bytes in memory
+/// (`kept`), which may be written.
 #[derive(Drop)]
-pub struct Overlay<F: Source> {
-    /// The file that is read, if there is one.
+pub struct Overlay<F: ReadAt> {
     below: Option<F>,
-    /// The bytes in memory, if there is no file.
     kept: Vec<u8>,
-    /// The key of the digests by which a page is checked when it is read again.
+    /// The key of the digests that the crate `sqlite` keeps of pages, to check each later read of a page.
     key: u64,
     /// How many calls failed, and how many of these read bytes with another digest than the caller expected (`caught`).
     faults: u64,
     caught: u64,
 }
 
-impl<F: Source> Overlay<F> {
-    /// Bytes in memory, with the key of the digests.
+impl<F: ReadAt> Overlay<F> {
+    /// Bytes in memory. `key` is the key of the digests, here and in [`Overlay::over`].
     pub fn copied(bytes: Vec<u8>, key: u64) -> Overlay<F>
-        ensures bytes { bytes_of F.Source.bytes result ≡ bytes.items }
+        ensures bytes { bytes_of F.ReadAt.bytes result ≡ bytes.items }
         ensures alone { file_below result ≡ None }
     {
         Overlay {
@@ -42,9 +40,8 @@ impl<F: Source> Overlay<F> {
         }
     }
 
-    /// A file that is only read, with the key of the digests.
     pub fn over(alloc: Global, file: F, key: u64) -> Overlay<F>
-        ensures bytes { bytes_of F.Source.bytes result ≡ F.Source.bytes file }
+        ensures bytes { bytes_of F.ReadAt.bytes result ≡ F.ReadAt.bytes file }
         ensures below { file_below result ≡ Some file }
     {
         Overlay {
@@ -57,8 +54,8 @@ impl<F: Source> Overlay<F> {
     }
 
     fn size(&self) -> io::Result<usize>
-        ensures { IfOk result (λ size. IsTrue (honest_with F.Source.is_honest self.now.below)
-            → size ≡ length (bytes_with F.Source.bytes self.now.below self.now.kept.items)) }
+        ensures { IfOk result (λ size. IsTrue (honest_with F.ReadAt.is_honest self.now.below)
+            → size ≡ length (bytes_with F.ReadAt.bytes self.now.below self.now.kept.items)) }
     {
         match &self.below {
             Some(file) => file.size(),
@@ -67,8 +64,8 @@ impl<F: Source> Overlay<F> {
     }
 
     fn fill(&self, at: usize, buf: &mut [u8]) -> io::Result<()>
-        ensures { OnOk result (IsTrue (honest_with F.Source.is_honest self.now.below) → 0 < length buf.old
-            → Holds (bytes_with F.Source.bytes self.now.below self.now.kept.items) at buf.new) }
+        ensures { OnOk result (IsTrue (honest_with F.ReadAt.is_honest self.now.below) → 0 < length buf.old
+            → Holds (bytes_with F.ReadAt.bytes self.now.below self.now.kept.items) at buf.new) }
     {
         match &self.below {
             Some(file) => file.fill(at, buf),
@@ -78,9 +75,9 @@ impl<F: Source> Overlay<F> {
 }
 
 /// The two files that a database gets: a log (`-wal`) that was copied into memory, and a database file that is only read.
-pub fn overlaid<F: Source>(alloc: Global, log: Vec<u8>, db: F, key: u64) -> Files<Overlay<F>>
+pub fn overlaid<F: ReadAt>(alloc: Global, log: Vec<u8>, db: F, key: u64) -> Files<Overlay<F>>
     ensures image { seen_image ⟦<Overlay<F> as Disk>⟧ result.log result.db
-        ≡ image log.items (F.Source.bytes db) }
+        ≡ image log.items (F.ReadAt.bytes db) }
     ensures below { file_below result.db ≡ Some db }
     ensures alone { file_below result.log ≡ None }
 {
@@ -90,10 +87,10 @@ pub fn overlaid<F: Source>(alloc: Global, log: Vec<u8>, db: F, key: u64) -> File
     }
 }
 
-impl<F: Source> Disk for Overlay<F> {
-    ghost seen = { λ o. bytes_with F.Source.bytes o.below o.kept.items };
+impl<F: ReadAt> Disk for Overlay<F> {
+    ghost seen = { λ o. bytes_with F.ReadAt.bytes o.below o.kept.items };
 
-    ghost may_leave = { λ o left. left ≡ bytes_with F.Source.bytes o.below o.kept.items };
+    ghost may_leave = { λ o left. left ≡ bytes_with F.ReadAt.bytes o.below o.kept.items };
 
     ghost is_usable = { λ _. true };
 
@@ -101,17 +98,18 @@ impl<F: Source> Disk for Overlay<F> {
 
     ghost tally_of = { λ o. record { caught = o.caught; refused = 0 } };
 
-    ghost is_clean = { λ o. honest_with F.Source.is_honest o.below };
+    ghost is_clean = { λ o. honest_with F.ReadAt.is_honest o.below };
 
     ghost key_of = { λ o. o.key };
 
-    ghost is_fair = { λ o _. honest_with F.Source.is_honest o.below };
+    ghost is_fair = { λ o _. honest_with F.ReadAt.is_honest o.below };
 
     ghost seen_may_stay = { λ _. refl };
 
     ghost fair_if_clean = { λ _ _ clean. clean };
 
-    // Whether a crash may mix old and new bytes in a write: contracts model no crash of this disk (`may_leave`).
+    // Whether a crash can leave old and new bytes of one write mixed. Here it can't, because no write reaches a file. By `may_leave`, a crash leaves
+    // all bytes as they are, even those in memory; no process can read these after a crash.
     fn mixes(&self) -> bool {
         false
     }
@@ -128,6 +126,7 @@ impl<F: Source> Disk for Overlay<F> {
         }
     }
 
+    // Whether no sync has failed: here none can.
     fn may_be_used(&self) -> bool {
         true
     }
@@ -144,6 +143,7 @@ impl<F: Source> Disk for Overlay<F> {
         filled
     }
 
+    // `want` is the digest, with this `key`, that the caller expects of the bytes from the offset `at` on.
     fn read_checked(&mut self, key: u64, want: u64, at: usize, buf: &mut [u8]) -> io::Result<()> {
         let filled = self.fill(at, buf);
         count(&filled, &mut self.faults);
@@ -178,7 +178,6 @@ impl<F: Source> Disk for Overlay<F> {
         }
     }
 
-    // The file below did not change, and memory can't be synced.
     fn sync(&mut self) -> io::Result<()> {
         Ok(())
     }

@@ -14,7 +14,7 @@ use crate::file_fault::{FileFault, create_fault_of, damaged_fault, fault_with_ca
 use crate::overlay::overlaid;
 use crate::read_file::OpenedBy;
 use crate::read_only::{ReadFailure, Sources, check_has_database, sources_at};
-use crate::source::Source;
+use crate::source::ReadAt;
 use reg_core::Fault;
 use sqlite::Options;
 use sqlite_disk::{Disk, Files};
@@ -23,18 +23,16 @@ use sqlite_wal::{PageSize, probe_page_size};
 use std::alloc::Global;
 use std::io::Write;
 
-/// Copies a database that no program has open for writing, to a path without a file, and returns how many bytes the copy has. The copy has mode 0600,
-/// and gets that path once it is complete and synced. After an error no copy is left. Errors: `Nothing` if there is no database yet; `Memory`;
-/// `Store` if the files can't be read, or if the copy can't be written. `Store` too if there is a file at the second path, or at that path with
-/// `-wal`, `-journal` or `.part`.
+/// Copies a database that no program has open for writing, to the path `to`, and returns how many bytes the copy has. The copy has mode 0600, and
+/// gets that path once it is complete and synced. After an error no copy is left. Errors: `Nothing` if there is no database yet; `Memory`; `Store` if
+/// the files can't be read, if the copy can't be written, or if there is a file at `to`, or at `to` with `-wal`, `-journal` or `.part`.
 pub fn copy_closed(rt: &HostRuntime, path: &str, to: &str) -> Result<u64, ReadFailure>
     ensures { IfErr result IsReadFailureOfFiles }
 {
     copy_locked(rt, path, OpenedBy::NoWriter, to)
 }
 
-/// As [`copy_closed`], for a database that this program has open, between two transactions; `Store` also if no lock for writing is held on the file
-/// at the path, because another file has that path now.
+/// As [`copy_closed`], for a database that this program has open and locked, between two transactions. `Store` also if another file is at `path` now.
 pub fn copy_open(rt: &HostRuntime, path: &str, to: &str) -> Result<u64, ReadFailure>
     ensures { IfErr result IsReadFailureOfFiles }
 {
@@ -52,14 +50,14 @@ fn copy_locked(
     copy_sources(rt, sources_at(rt, path, opened_by)?, to)
 }
 
-fn copy_sources<F: Source + Drop>(
+fn copy_sources<F: ReadAt + Drop>(
     rt: &HostRuntime,
     sources: Sources<F>,
     to: &str,
 ) -> Result<u64, ReadFailure>
     ensures { IfErr result IsReadFailureOfFiles }
 {
-    // The default page cache is enough, since a copy reads each page once.
+    // The default page cache (2,000 pages) is enough, since a copy reads each page once.
     let options = Options::new(sources.options.seed);
     let files = overlaid(rt.alloc(), sources.log, sources.db, sources.key);
     copy_files(rt, files, options, to)

@@ -6,7 +6,7 @@ ghost use Rattle.reg_desk_files.specs.Reading.{IsFileFault};
 
 use crate::file_fault::{FileFault, fault_with_cause};
 use crate::file_locks::{check_locked, lock, with_suffix};
-use crate::source::Source;
+use crate::source::ReadAt;
 use os::RangeLock;
 use reg_core::Fault;
 use std::fs::OpenOptions;
@@ -20,7 +20,7 @@ pub struct ReadFile {
     file: fs::File,
 }
 
-impl Source for ReadFile {
+impl ReadAt for ReadFile {
     ghost bytes = { λ _. [] };
 
     ghost is_honest = { λ _. false };
@@ -34,17 +34,15 @@ impl Source for ReadFile {
     }
 }
 
-/// Which program has the database open while its files are read.
+/// Which program has the database open for writing while its files are read: none, or this one, which does not write meanwhile.
 #[derive(Clone, Copy)]
 pub(crate) enum OpenedBy {
-    /// No program has it open for writing. A shared lock keeps out `desk`, and SQLite in rollback mode; but not SQLite in WAL mode, which takes only
-    /// a shared lock itself.
+    /// A shared lock keeps out `desk` and SQLite in rollback mode, but not SQLite in WAL mode, which takes a shared lock too.
     NoWriter,
-    /// This program, which does not write meanwhile.
     ThisProgram,
 }
 
-/// A database's file, with its lock if [`lock_files`] locked it, and its log, if there is one.
+/// A database's file (`db`), with its lock if [`lock_files`] locked it, and its log (`-wal`), if there is one.
 #[derive(Drop)]
 pub(crate) struct LockedFiles {
     pub(crate) log: Option<ReadFile>,
@@ -52,9 +50,7 @@ pub(crate) struct LockedFiles {
 }
 
 /// Opens the files of a database read-only, also through a symbolic link. With `NoWriter`, the database's file is locked until the result is dropped.
-/// Errors: `Memory`; `Store` if a system call fails, or if SQLite left a rollback journal, which only SQLite can play back. `Store` with `NoWriter`
-/// if a program holds a lock for writing, and with `ThisProgram` if none does. `Store` too if the path is `:memory:` or begins with `file:`, or if a
-/// file is not a regular one or has two names (hard links).
+/// Errors: those of [`read_at`](crate::read_at). But with `ThisProgram`, that file must be locked for writing: `Store` (cause `NoFile`) if it is not.
 pub(crate) fn lock_files(
     rt: &HostRuntime,
     path: &str,
@@ -91,8 +87,7 @@ fn open_log(rt: &HostRuntime, path: &str) -> Result<Option<ReadFile>, FileFault>
     }
 }
 
-/// Whether SQLite has to play back a rollback journal at the path: a file that has bytes, the first not zero; or anything but a regular file with one
-/// name.
+/// Whether SQLite may have to play back a rollback journal at the path: its first byte isn't 0, or it is anything but a regular file with one name.
 fn has_hot_journal(rt: &HostRuntime, path: &str) -> io::Result<bool> {
     match open_regular(rt, path) {
         Ok(journal) => is_hot(&journal),
@@ -111,8 +106,7 @@ fn is_hot(journal: &ReadFile) -> io::Result<bool> {
     Ok(first[0] != 0)
 }
 
-/// Opens a regular file read-only; `Unsupported` for anything else, also a symbolic link or a file with a second name (hard link): SQLite may have
-/// another `-wal` beside that name.
+/// Opens a regular file read-only; `Unsupported` for anything else, such as a symbolic link, or a file with two names (each may have a `-wal`).
 fn open_regular(rt: &HostRuntime, path: &str) -> io::Result<ReadFile> {
     // A pipe is not opened: that would wait for a writer.
     if !fs::symlink_metadata(rt, path)?.is_file() {

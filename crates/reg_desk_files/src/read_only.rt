@@ -1,4 +1,4 @@
-//! Opens a register's files as a database that is only read.
+//! Opens a register's files as a database that is only read: the database file, and its WAL (in code: log) as a copy in memory.
 
 ghost use Rattle.std.specs.Prelude.{◌≡◌, false, length, IfErr, IfOk, IsTrue, OnOk};
 ghost use Rattle.sqlite.specs.Files.{file_state, image_of, IsNothing, IsOpened};
@@ -14,22 +14,20 @@ use crate::file_check::{FileContent, probe_content};
 use crate::file_fault::{FileFault, damaged_fault};
 use crate::overlay::{Overlay, overlaid};
 use crate::read_file::{LockedFiles, OpenedBy, ReadFile, lock_files};
-use crate::source::Source;
+use crate::source::ReadAt;
 use reg_core::Fault;
 use sqlite::{Connection, FileStore, Options};
 use sqlite_disk::{Disk, Files};
 use std::alloc::{AllocError, Global};
 use std::hash::{BuildHasher, RandomState};
 
-/// Opening appends fewer bytes than this to the copy of a log.
+/// The copy of a log has so many more bytes of capacity than the log. Opening the database appends fewer bytes than this to the copy.
 const ROOM: usize = 64;
 
-/// Why files can't be read.
+/// Why files can't be read as a database. `Nothing`: there is no database in them yet, but opening them for writing would create one.
 #[derive(Clone, Copy, PartialEq, Eq)]
 pub enum ReadFailure {
-    /// There is no database in them yet: opening for writing would create one.
     Nothing,
-    /// They can't be opened or read, because of this fault.
     Fault(FileFault),
 }
 
@@ -43,28 +41,27 @@ impl From<FileFault> for ReadFailure {
     }
 }
 
-/// The database's file, which is only read, a copy of its log, and the options to open the database.
+/// A database's file, which is only read, a copy of its log (`-wal`; empty if there is none), and the options to open the database.
 #[derive(Drop)]
-pub struct Sources<F: Source> {
-    /// The bytes of the log (`-wal`); none if there is no log.
+pub struct Sources<F: ReadAt> {
     pub log: Vec<u8>,
     pub db: F,
-    /// The key of the digests by which a page that is read again is checked.
+    /// The random key of the digests that `sqlite` keeps of pages, to check later reads. (`RandomState` gives any fixed value a random hash.)
     pub key: u64,
     pub options: Options,
 }
 
-/// Opens the file at a path read-only, also through a symbolic link, and copies its log into memory. Creates no file. Until the result is dropped,
-/// `desk` can't open the file for writing; SQLite in WAL mode can. Errors: `Memory`; `Store`, with its cause if that is known, if the files can't be
-/// read, or if a program has locked the file for writing. `Store` too if SQLite left a rollback journal, if the path is `:memory:` or begins with
-/// `file:`, or if a file is not a regular one or has two names (hard links).
+/// Opens the database file at a path read-only, also through a symbolic link, and copies its log into memory. Creates no file. Until the result is
+/// dropped, `desk` can't open the file for writing; SQLite in WAL mode can. Errors: `Memory`; `Store`, with its cause if that is known, if the files
+/// can't be read, or if a program has locked the file for writing. `Store` too if SQLite left a rollback journal, if the path is `:memory:` or begins
+/// with `file:`, or if a file is not a regular one or has two names (hard links).
 pub fn read_at(rt: &HostRuntime, path: &str) -> Result<Sources<ReadFile>, FileFault>
     ensures { IfErr result IsFileFault }
 {
     sources_at(rt, path, OpenedBy::NoWriter)
 }
 
-/// As [`read_at`]; `opened_by` says which program has the files open for writing, if one does.
+/// As [`read_at`], but with `opened_by`: whether no program has the database open for writing, or this one has and does not write meanwhile.
 pub(crate) fn sources_at(
     rt: &HostRuntime,
     path: &str,
@@ -95,25 +92,25 @@ pub fn check_database(rt: &HostRuntime, path: &str) -> Result<(), ReadFailure>
     check_sources(rt.alloc(), read_at(rt, path)?)
 }
 
-fn check_sources<F: Source + Drop>(alloc: Global, sources: Sources<F>) -> Result<(), ReadFailure>
+fn check_sources<F: ReadAt + Drop>(alloc: Global, sources: Sources<F>) -> Result<(), ReadFailure>
     ensures { IfErr result IsReadFailureOfFiles }
 {
     let mut files = overlaid(alloc, sources.log, sources.db, sources.key);
     check_has_database(alloc, &mut files)
 }
 
-/// Opens a database over a file that has no method that writes, and a copy of its log. So no use of the connection changes the file: opening
-/// writes only into the copy. Errors are those of [`open_existing`].
-pub fn open_sources<F: Source + Drop>(
+/// Opens the database in these sources. No use of the connection changes the file, because `F` has no method that writes. What opening writes goes
+/// only to the copy of the log. Errors: those of [`open_existing`].
+pub fn open_sources<F: ReadAt + Drop>(
     alloc: Global,
     sources: Sources<F>,
 ) -> Result<Connection<FileStore<Overlay<F>>>, ReadFailure>
     ensures opened { IfOk result (λ connection. HasCleanDisk (file_state connection) → IsOpened connection) }
     ensures found { IfOk result (λ connection. HasCleanDisk (file_state connection)
-        → FindsIn (image sources.log.items (F.Source.bytes sources.db)) (file_state connection)) }
+        → FindsIn (image sources.log.items (F.ReadAt.bytes sources.db)) (file_state connection)) }
     ensures begun { IfOk result (λ connection.
         HasCleanDisk (file_state connection)
-        → ¬ IsNothing (image sources.log.items (F.Source.bytes sources.db))) }
+        → ¬ IsNothing (image sources.log.items (F.ReadAt.bytes sources.db))) }
     ensures fresh { IfOk result IsNew }
     ensures idle { IfOk result (λ connection. connection.in_transaction ≡ false) }
     ensures faults { IfErr result IsReadFailureOfFiles }
@@ -142,7 +139,7 @@ pub fn open_existing<D: Disk + Drop>(
     ensures faults { IfErr result IsReadFailureOfFiles }
 {
     check_has_database(alloc, &mut files)?;
-    // `false`: a new database has no page checksums. This one exists, and keeps what it has.
+    // `false`: a database that is created has no page checksums. Here none is created, and an existing one stays as it is.
     match Connection::open_files_with(alloc, files, options, false) {
         Ok(connection) => Ok(connection),
         Err((error, _)) => Err(ReadFailure::Fault(FileFault::from(error))),
@@ -168,10 +165,10 @@ pub(crate) fn check_has_database<D: Disk>(
     }
 }
 
-/// A copy of all bytes of a file, with capacity for those that opening appends. Errors: `Memory`; `Store` if a call failed.
-pub fn copy_of<F: Source>(alloc: Global, file: &F) -> Result<Vec<u8>, FileFault>
+/// A copy of all bytes of a file, such as a log, with `ROOM` more bytes of capacity. Errors: `Memory`; `Store` if a call failed.
+pub fn copy_of<F: ReadAt>(alloc: Global, file: &F) -> Result<Vec<u8>, FileFault>
     ensures bytes { IfOk result (λ copy.
-        IsTrue (F.Source.is_honest file.now) → copy.items ≡ F.Source.bytes file.now) }
+        IsTrue (F.ReadAt.is_honest file.now) → copy.items ≡ F.ReadAt.bytes file.now) }
     ensures faults { IfErr result IsFileFault }
 {
     let size = file.size()?;

@@ -11,7 +11,7 @@ use Rattle.reg_lines.proofs.PublicLaws.{concat_push}
 use Rattle.reg_lines.specs.Script.{IsWholeLine}
 use Rattle.reg_desk_jobs.specs.Conversations.{IsCutOff, IsInput}
 use Rattle.reg_desk_jobs.specs.RowTasks.{Exchange, IsRowDone, LineAnswered, LineReplied, LinesAnswered, Link, RepliesWritten, SendsRows, SendsThen, has_first_word, link_of}
-use Rattle.reg_desk_jobs.proofs.Talking.{all_push, input_is, whole_push}
+use Rattle.reg_desk_jobs.proofs.ConversationLemmas.{all_push, input_is, whole_push}
 
 -- one line more is answered
 answered_push : (task : RowTask) (s m t : Link) (lines replies : List (List ℕ)) (line reply : List ℕ) → LinesAnswered task s m lines replies → LineAnswered task m t line reply
@@ -93,13 +93,13 @@ pub rows_under : (task : RowTask) (input under : Option (List ℕ)) (s t : Link)
 rows_under task input under s t out out' result same sends = subst (λ i. SendsRows task i s t out out' result) same sends
 
 -- What was sent and came up to a line, up to its reply, and up to the last one.
-module _ (sent sent' sent'' incoming incoming' incoming'' : Option (List ℕ)) (line word first : List ℕ) (Next : List ℕ → Exchange) where
+module _ (sent sent' sent'' incoming incoming' incoming'' : Option (List ℕ)) (line word first : List ℕ) (NextLine : List ℕ → Exchange) where
   -- a reply leads on: more is sent, and the last reply is the row's
   pub leads_on : (result : Result (Vec ℕ Global) Failure) → Appends sent sent' line → Consumes incoming incoming' first → IsTrue (has_first_word first word)
-      → IfOk result (λ reply. Next first (link_of sent' incoming') (link_of sent'' incoming'') reply.items)
-      → IfOk result (λ reply. SendsThen line word Next (link_of sent incoming) (link_of sent'' incoming'') reply.items)
-  leads_on (Ok reply) asked heard leads next = inr (link_of sent' incoming', first, (asked, heard), leads, next)
-  leads_on (Err why) asked heard leads next = tt
+      → IfOk result (λ reply. NextLine first (link_of sent' incoming') (link_of sent'' incoming'') reply.items)
+      → IfOk result (λ reply. SendsThen line word NextLine (link_of sent incoming) (link_of sent'' incoming'') reply.items)
+  leads_on (Ok reply) asked replied leads next = inr (link_of sent' incoming', first, (asked, replied), leads, next)
+  leads_on (Err why) asked replied leads next = tt
 
 -- a line is sent, and its reply is the row's
 pub sent_alone : (S C : Vec ℕ Global → Type 0) (result : Result (Vec ℕ Global) Failure) → IfOk result S → IfOk result C → IfOk result (λ reply. S reply × C reply)

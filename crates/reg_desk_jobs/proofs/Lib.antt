@@ -1,7 +1,7 @@
 pub mod Comparing
 pub mod DeskRuns
-pub mod Fates
+pub mod PrintedTexts
 pub mod NextLines
 pub mod Replaying
 pub mod EachRow
-pub mod Talking
+pub mod ConversationLemmas

@@ -9,8 +9,8 @@ use Rattle.std.proofs.lemmas.Bool.{and_parts, eqb-true, false≢true}
 use Rattle.std.proofs.lemmas.List.{get_or_default, nil_from_length, take_more}
 use Rattle.reg_lines.specs.Script.{HasNoLf, IsWholeLine}
 use Rattle.reg_desk_jobs.specs.Conversations.{IsCutOff, IsInput, IsReadAs, NextIs}
-use Rattle.reg_desk_jobs.specs.declared.at_job.Next.{Next}
-use Rattle.reg_desk_jobs.specs.declared.at_job.Next.TheVariants as next
+use Rattle.reg_desk_jobs.specs.declared.at_job.NextLine.{NextLine}
+use Rattle.reg_desk_jobs.specs.declared.at_job.NextLine.TheVariants as next
 
 -- ---- what the bytes are
 
@@ -66,7 +66,7 @@ none_there : (input : Option (List ℕ)) (bytes : List ℕ) → IfSome input (λ
 none_there None bytes through none = tt
 none_there (Some xs) bytes through none = take_through-nil 10 xs (ap length (sym through ∙ none))
 
-pub next_is : (input input' : Option (List ℕ)) (bytes : List ℕ) (it : Next) → Consumes input input' bytes → IfSome input (λ xs. bytes ≡ take_through 10 xs)
+pub next_is : (input input' : Option (List ℕ)) (bytes : List ℕ) (it : NextLine) → Consumes input input' bytes → IfSome input (λ xs. bytes ≡ take_through 10 xs)
     → IsReadAs bytes it → NextIs input input' it
 next_is input input' bytes (next.Line line) took through (is, whole) =
     (subst IsWholeLine (sym is) whole, subst (Consumes input input') (sym is) took)

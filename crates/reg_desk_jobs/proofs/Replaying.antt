@@ -10,7 +10,7 @@ use Rattle.reg_lines.specs.Script.{IsWholeLine}
 use Rattle.reg_desk_jobs.specs.Conversations.{AreWhole, IsCutOff, IsInput}
 use Rattle.reg_desk_jobs.specs.Replays.{LineEnds, LineReplayed, Replayed, ReplayState, Replays, ReplaysLog, state_of}
 use Rattle.reg_desk_jobs.specs.declared.replay_job.Renumbered.{Renumbered}
-use Rattle.reg_desk_jobs.proofs.Talking.{input_is, whole_push}
+use Rattle.reg_desk_jobs.proofs.ConversationLemmas.{input_is, whole_push}
 
 -- one line more is replayed
 pub replayed_push : (s m t : ReplayState) (log : List (List ℕ)) (line : List ℕ) → Replayed s log m → LineReplayed m line t → Replayed s (log ++ line ∷ []) t

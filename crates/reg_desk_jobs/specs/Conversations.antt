@@ -9,8 +9,8 @@ use Rattle.reg_desk_cli.specs.declared.failure.Failure.TheVariants as failure
 use Rattle.reg_lines.specs.Accepted.{IsAccepted}
 use Rattle.reg_lines.specs.Script.{HasNoLf, IsWholeLine}
 use Rattle.reg_lines.specs.RowLines.{ListingEnds}
-use Rattle.reg_desk_jobs.specs.declared.at_job.Next.{Next}
-use Rattle.reg_desk_jobs.specs.declared.at_job.Next.TheVariants as next
+use Rattle.reg_desk_jobs.specs.declared.at_job.NextLine.{NextLine}
+use Rattle.reg_desk_jobs.specs.declared.at_job.NextLine.TheVariants as next
 use Rattle.reg_desk_jobs.specs.declared.at_job.Piece.{Piece}
 use Rattle.reg_desk_jobs.specs.declared.at_job.PieceEnd.{PieceEnd}
 use Rattle.reg_desk_jobs.specs.declared.at_job.PieceEnd.TheVariants as piece_end
@@ -35,13 +35,13 @@ IsConversationFault why =
     ⊎ ((why ≡ failure.Fault fault.Write) ⊎ (why ≡ failure.Fault fault.Memory))
 
 -- bytes that were read up to and including the first LF, or to the end of the input: a line, a last line without its line end, or nothing
-abbrev pub IsReadAs : List ℕ → Next → Type 0
+abbrev pub IsReadAs : List ℕ → NextLine → Type 0
 IsReadAs bytes (next.Line line) = (line.items ≡ bytes) × IsWholeLine bytes
 IsReadAs bytes next.Cut = IsCutOff bytes
 IsReadAs bytes next.End = bytes ≡ []
 
 -- what comes next in an input, before and after it was read: a line, a last line without its line end, or nothing
-abbrev pub NextIs : Option (List ℕ) → Option (List ℕ) → Next → Type 0
+abbrev pub NextIs : Option (List ℕ) → Option (List ℕ) → NextLine → Type 0
 NextIs input input' (next.Line line) = IsWholeLine line.items × Consumes input input' line.items
 NextIs input input' next.Cut = (left : List ℕ) × IsCutOff left × IsInput input left
 NextIs input input' next.End = IsInput input []

@@ -8,8 +8,8 @@ use Rattle.reg_core.specs.Serial.{serial_of}
 use Rattle.reg_core.specs.Label.{label_of}
 use Rattle.reg_lines.specs.Fields.{fields_of}
 use Rattle.reg_lines.specs.Script.{line_of}
-use Rattle.reg_desk_jobs.specs.declared.log_entries.Entry.{Entry}
-use Rattle.reg_desk_jobs.specs.declared.log_entries.Entry.TheVariants.{Line, Request, Decision}
+use Rattle.reg_desk_jobs.specs.declared.log_entries.LoggedCommand.{LoggedCommand}
+use Rattle.reg_desk_jobs.specs.declared.log_entries.LoggedCommand.TheVariants.{Line, Request, Decision}
 use Rattle.reg_desk_jobs.specs.declared.log_entries.LogMeaning.{LogMeaning}
 use Rattle.reg_desk_jobs.specs.declared.log_entries.LogMeaning.TheVariants.{Nothing, Unknown, Command}
 use Rattle.reg_desk_jobs.specs.declared.log_entries.ExchangeText.{ExchangeText}
@@ -27,14 +27,14 @@ split_at_quote text = option_map (λ mark. (take mark text, drop (mark + 1) text
 
 -- an exchange, as the log has it: the moment and the client, the request, the answer, and the fields after them
 pub record LoggedExchange : Type 0 where
-  pub client : List ℕ
+  pub moment_and_client : List ℕ
   pub asked : List ℕ
   pub answered : List ℕ
   pub after_answer : List ℕ
 
 abbrev pub exchange_of : ExchangeText → LoggedExchange
 exchange_of logged_exchange = record {
-  client = logged_exchange.client.now;
+  moment_and_client = logged_exchange.moment_and_client.now;
   asked = logged_exchange.asked.now;
   answered = logged_exchange.answered.now;
   after_answer = logged_exchange.after_answer.now;
@@ -43,11 +43,11 @@ exchange_of logged_exchange = record {
 -- the exchange of a line of the log: four of its parts, which its first four quotation marks separate; none if there are fewer
 unfoldable pub exchange_in : List ℕ → Option LoggedExchange
 exchange_in line = do
-  client ← split_at_quote line
-  asked ← split_at_quote client.1
+  moment_and_client ← split_at_quote line
+  asked ← split_at_quote moment_and_client.1
   between ← split_at_quote asked.1
   answered ← split_at_quote between.1
-  Some (record { client = client.0; asked = asked.0; answered = answered.0; after_answer = answered.1 })
+  Some (record { moment_and_client = moment_and_client.0; asked = asked.0; answered = answered.0; after_answer = answered.1 })
 
 -- the first word of a text, of those that spaces separate; empty if there is none
 abbrev pub first_word : List ℕ → List ℕ
@@ -58,14 +58,14 @@ abbrev pub second_word : List ℕ → List ℕ
 second_word text = get_or (fields_of text) 1 []
 
 -- the decision of a request with this number and serial number
-unfoldable pub decision_by : List ℕ → List ℕ → Option Entry
+unfoldable pub decision_by : List ℕ → List ℕ → Option LoggedCommand
 decision_by number digits = do
   id ← number_of number
   serial ← serial_of digits
   Some (Decision id serial)
 
 -- the entered request with this number, serial number and ground
-unfoldable pub request_by : List ℕ → List ℕ → List ℕ → Option Entry
+unfoldable pub request_by : List ℕ → List ℕ → List ℕ → Option LoggedCommand
 request_by number digits word = do
   id ← number_of number
   serial ← serial_of digits
@@ -73,7 +73,7 @@ request_by number digits word = do
   Some (Request id serial name)
 
 -- the entry in the fields after `request`: two fields name a decided request, three an entered one
-unfoldable pub request_named : List (List ℕ) → Option Entry
+unfoldable pub request_named : List (List ℕ) → Option LoggedCommand
 request_named [] = None
 request_named (number ∷ []) = None
 request_named (number ∷ digits ∷ []) = decision_by number digits
@@ -118,7 +118,7 @@ is_control client = bytes_eq client (codes "control") || bytes_eq client (codes 
 -- the client is the control socket, and the reply shows acceptance
 abbrev pub was_accepted : LoggedExchange → Bool
 was_accepted logged_exchange =
-    is_control (second_word logged_exchange.client) && accepted logged_exchange.answered
+    is_control (second_word logged_exchange.moment_and_client) && accepted logged_exchange.answered
 
 -- the meaning of an exchange that names no request: a command only if the control socket accepted it, it changes the register, and it is whole
 unfoldable pub unnamed : LoggedExchange → LogMeaning
@@ -148,6 +148,6 @@ LogsPart line = ((exchange_in (line_of line) ≡ None) × IsTrue (has_quote (lin
     × (log_meaning_of logged_exchange ≡ Unknown))
 
 -- a line of the log has this exchange, which means this command
-abbrev pub LogsEntry : List ℕ → LoggedExchange → Entry → Type 0
-LogsEntry line logged_exchange entry =
-    (exchange_in (line_of line) ≡ Some logged_exchange) × (log_meaning_of logged_exchange ≡ Command entry)
+abbrev pub LogsEntry : List ℕ → LoggedExchange → LoggedCommand → Type 0
+LogsEntry line logged_exchange logged_command =
+    (exchange_in (line_of line) ≡ Some logged_exchange) × (log_meaning_of logged_exchange ≡ Command logged_command)

@@ -11,8 +11,8 @@ use Rattle.reg_desk_cli.specs.declared.failure.Failure.TheVariants as failure
 use Rattle.reg_lines.specs.Script.{IsWholeLine, line_of}
 use Rattle.reg_desk_jobs.specs.Conversations.{AreWhole, IsCutOff, IsInput, IsConversationFault, ExchangesLine}
 use Rattle.reg_desk_jobs.specs.LogEntries.{LoggedExchange, LogsEntry, LogsNothing, LogsPart, first_word, second_word}
-use Rattle.reg_desk_jobs.specs.declared.log_entries.Entry.{Entry}
-use Rattle.reg_desk_jobs.specs.declared.log_entries.Entry.TheVariants.{Line, Request, Decision}
+use Rattle.reg_desk_jobs.specs.declared.log_entries.LoggedCommand.{LoggedCommand}
+use Rattle.reg_desk_jobs.specs.declared.log_entries.LoggedCommand.TheVariants.{Line, Request, Decision}
 use Rattle.reg_desk_jobs.specs.declared.replay_job.Renumbered.{Renumbered}
 
 -- ---- the line that is sent for an entry, and whether its reply agrees
@@ -24,19 +24,19 @@ number_now numbers logged =
 
 -- the text that is sent: the logged line; a request with its serial number and ground; a decision with its word, the number that the request has
 -- now, and its serial number
-abbrev pub text_to_send : List Renumbered → LoggedExchange → Entry → List ℕ
+abbrev pub text_to_send : List Renumbered → LoggedExchange → LoggedCommand → List ℕ
 text_to_send numbers logged_exchange Line = logged_exchange.asked
 text_to_send numbers logged_exchange (Request id serial name) =
     codes "request" ++ (32 ∷ serial_text serial) ++ (32 ∷ name)
 text_to_send numbers logged_exchange (Decision id serial) =
     first_word logged_exchange.asked ++ (32 ∷ decimal (number_now numbers id)) ++ (32 ∷ serial_text serial)
 
-abbrev pub line_to_send : List Renumbered → LoggedExchange → Entry → List ℕ
-line_to_send numbers logged_exchange entry = text_to_send numbers logged_exchange entry ++ 10 ∷ []
+abbrev pub line_to_send : List Renumbered → LoggedExchange → LoggedCommand → List ℕ
+line_to_send numbers logged_exchange logged_command = text_to_send numbers logged_exchange logged_command ++ 10 ∷ []
 
 -- whether a reply agrees with that of the log: in its first two words; for a decision, whose second word may be `late` now, in the first one; for a
 -- request, which may have come over HTTP, if its first word is `request`
-abbrev pub agrees : LoggedExchange → Entry → List ℕ → Bool
+abbrev pub agrees : LoggedExchange → LoggedCommand → List ℕ → Bool
 agrees logged_exchange Line reply =
     bytes_eq (first_word reply) (first_word logged_exchange.answered)
     && bytes_eq (second_word reply) (second_word logged_exchange.answered)
@@ -45,7 +45,7 @@ agrees logged_exchange (Decision id serial) reply =
     bytes_eq (first_word reply) (first_word logged_exchange.answered)
 
 -- the number that a reply gives to an entered request, with its number in the log; none for another entry, or if the reply has no number
-abbrev pub renumbered : Entry → List ℕ → List Renumbered
+abbrev pub renumbered : LoggedCommand → List ℕ → List Renumbered
 renumbered Line reply = []
 renumbered (Request id serial name) reply =
     option_map_or (λ number. record { logged = id; given = number } ∷ []) (number_of (second_word reply)) []
@@ -70,42 +70,42 @@ abbrev pub state_of : Option (List ℕ) → Option (List ℕ) → Option (List �
 state_of sent incoming out numbers = record { sent = sent; incoming = incoming; out = out; numbers = numbers }
 
 -- the command of an entry is sent; its reply agrees, and the number that it gives is kept
-abbrev pub ReplyAgrees : ReplayState → LoggedExchange → Entry → ReplayState → Type 0
-ReplyAgrees s logged_exchange entry t = (reply : List ℕ)
+abbrev pub ReplyAgrees : ReplayState → LoggedExchange → LoggedCommand → ReplayState → Type 0
+ReplyAgrees s logged_exchange logged_command t = (reply : List ℕ)
     × ExchangesLine s.sent t.sent s.incoming t.incoming s.out t.out
-    (line_to_send s.numbers logged_exchange entry)
+    (line_to_send s.numbers logged_exchange logged_command)
     reply
-    × IsTrue (agrees logged_exchange entry (line_of reply))
-    × (t.numbers ≡ s.numbers ++ renumbered entry (line_of reply))
+    × IsTrue (agrees logged_exchange logged_command (line_of reply))
+    × (t.numbers ≡ s.numbers ++ renumbered logged_command (line_of reply))
 
 -- the command of an entry is sent; its reply differs, and the line of the log is written after it
-abbrev pub ReplyDiffers : ReplayState → LoggedExchange → Entry → List ℕ → ReplayState → Type 0
-ReplyDiffers s logged_exchange entry line t = (reply : List ℕ) × (out : Option (List ℕ))
+abbrev pub ReplyDiffers : ReplayState → LoggedExchange → LoggedCommand → List ℕ → ReplayState → Type 0
+ReplyDiffers s logged_exchange logged_command line t = (reply : List ℕ) × (out : Option (List ℕ))
     × ExchangesLine s.sent t.sent s.incoming t.incoming s.out out
-    (line_to_send s.numbers logged_exchange entry)
+    (line_to_send s.numbers logged_exchange logged_command)
     reply
-    × IsFalse (agrees logged_exchange entry (line_of reply)) × Appends out t.out line
+    × IsFalse (agrees logged_exchange logged_command (line_of reply)) × Appends out t.out line
 
 -- how the replay of an entry of the log ends
 abbrev pub EntryEnds
-    : ReplayState → LoggedExchange → Entry → List ℕ → ReplayState → Result (Unit {0}) Failure → Type 0
-EntryEnds s logged_exchange entry line t (Ok done) = ReplyAgrees s logged_exchange entry t
-EntryEnds s logged_exchange entry line t (Err why) =
-    IsConversationFault why ⊎ ((why ≡ failure.Refused) × ReplyDiffers s logged_exchange entry line t)
+    : ReplayState → LoggedExchange → LoggedCommand → List ℕ → ReplayState → Result (Unit {0}) Failure → Type 0
+EntryEnds s logged_exchange logged_command line t (Ok done) = ReplyAgrees s logged_exchange logged_command t
+EntryEnds s logged_exchange logged_command line t (Err why) =
+    IsConversationFault why ⊎ ((why ≡ failure.Refused) × ReplyDiffers s logged_exchange logged_command line t)
 
 -- a line of the log is replayed: it has no accepted command, or one whose reply agrees
 abbrev pub LineReplayed : ReplayState → List ℕ → ReplayState → Type 0
 LineReplayed s line t =
     (LogsNothing line × (t ≡ s))
-    ⊎ ((logged_exchange : LoggedExchange) × (entry : Entry) × LogsEntry line logged_exchange entry
-    × ReplyAgrees s logged_exchange entry t)
+    ⊎ ((logged_exchange : LoggedExchange) × (logged_command : LoggedCommand) × LogsEntry line logged_exchange logged_command
+    × ReplyAgrees s logged_exchange logged_command t)
 
 -- a replay stops at a line of the log, which is written: it names a command only in part, and nothing is sent; or the reply differs
 abbrev pub LineStops : ReplayState → List ℕ → ReplayState → Type 0
 LineStops s line t =
     (LogsPart line × (t.sent ≡ s.sent) × (t.incoming ≡ s.incoming) × Appends s.out t.out line)
-    ⊎ ((logged_exchange : LoggedExchange) × (entry : Entry) × LogsEntry line logged_exchange entry
-    × ReplyDiffers s logged_exchange entry line t)
+    ⊎ ((logged_exchange : LoggedExchange) × (logged_command : LoggedCommand) × LogsEntry line logged_exchange logged_command
+    × ReplyDiffers s logged_exchange logged_command line t)
 
 -- how the replay of a line of the log ends
 abbrev pub LineEnds : ReplayState → List ℕ → ReplayState → Result (Unit {0}) Failure → Type 0

@@ -16,8 +16,8 @@ use Rattle.reg_lines.specs.Accepted.{IsAccepted}
 use Rattle.reg_lines.specs.Script.{line_of}
 use Rattle.reg_desk_jobs.specs.Conversations.{AreWhole, IsInput, IsConversationFault, IsFailureBy}
 use Rattle.reg_desk_jobs.specs.LogEntries.{first_word, second_word}
-use Rattle.reg_desk_jobs.specs.declared.row_job.RegistrationRow.{RegistrationRow}
-use Rattle.reg_desk_jobs.specs.declared.row_job.RevocationRow.{RevocationRow}
+use Rattle.reg_desk_jobs.specs.declared.row_job.RegistrationInput.{RegistrationInput}
+use Rattle.reg_desk_jobs.specs.declared.row_job.RevocationInput.{RevocationInput}
 
 -- ---- a row
 
@@ -36,15 +36,15 @@ split_at_comma text =
     option_map (λ comma. (take comma text, drop (comma + 1) text)) (position (λ byte. byte == 44) text)
 
 -- the row `SERIAL,GROUND`
-unfoldable pub revocation_row_in : List ℕ → Option RevocationRow
+unfoldable pub revocation_row_in : List ℕ → Option RevocationInput
 revocation_row_in text = do
   fields ← split_at_comma text
   serial ← serial_of fields.0
   word ← label_of fields.1
-  Some (record { serial = serial; word = word })
+  Some (record { serial = serial; ground_word = word })
 
 -- the row `SERIAL,NOTBEFORE,NOTAFTER`
-unfoldable pub registration_row_in : List ℕ → Option RegistrationRow
+unfoldable pub registration_row_in : List ℕ → Option RegistrationInput
 registration_row_in text = do
   fields ← split_at_comma text
   moments ← split_at_comma fields.1
@@ -56,16 +56,16 @@ registration_row_in text = do
 -- ---- the lines that are sent for a row
 
 -- the line that requests the revocation of a row's certificate
-abbrev pub row_request : RevocationRow → List ℕ
-row_request row = codes "request" ++ (32 ∷ serial_text row.serial) ++ (32 ∷ row.word) ++ 10 ∷ []
+abbrev pub row_request : RevocationInput → List ℕ
+row_request row = codes "request" ++ (32 ∷ serial_text row.serial) ++ (32 ∷ row.ground_word) ++ 10 ∷ []
 
 -- the line that revokes it, with the second word of the reply, the request's number
-abbrev pub row_revocation : RevocationRow → List ℕ → List ℕ
+abbrev pub row_revocation : RevocationInput → List ℕ → List ℕ
 row_revocation row reply =
     codes "revoke" ++ (32 ∷ second_word (line_of reply)) ++ (32 ∷ serial_text row.serial) ++ 10 ∷ []
 
 -- the line that asks for the status of a row's certificate
-abbrev pub row_status : RegistrationRow → List ℕ
+abbrev pub row_status : RegistrationInput → List ℕ
 row_status row = codes "status" ++ (32 ∷ serial_text row.serial) ++ 10 ∷ []
 
 -- the line that enters an order
@@ -73,7 +73,7 @@ abbrev pub row_order : OrderTerms → List ℕ
 row_order terms = codes "order" ++ (32 ∷ decimal terms.subscriber) ++ (32 ∷ decimal terms.days) ++ 10 ∷ []
 
 -- the line that registers a row's certificate, with the second word of the reply, the order's number
-abbrev pub row_registration : RegistrationRow → List ℕ → List ℕ
+abbrev pub row_registration : RegistrationInput → List ℕ → List ℕ
 row_registration row reply =
     codes "register" ++ (32 ∷ second_word (line_of reply)) ++ (32 ∷ serial_text row.serial)
     ++ (32 ∷ moment_text row.not_before)
@@ -99,26 +99,26 @@ Sends line s t reply = Appends s.sent t.sent line × Consumes s.incoming t.incom
 abbrev pub has_first_word : List ℕ → List ℕ → Bool
 has_first_word reply word = bytes_eq (first_word (line_of reply)) word
 
--- a line is sent; if the first word of its reply is this word, `Next` follows
+-- a line is sent; if the first word of its reply is this word, `NextLine` follows
 abbrev pub SendsThen : List ℕ → List ℕ → (List ℕ → Exchange) → Exchange
-SendsThen line word Next s t reply =
+SendsThen line word NextLine s t reply =
     (Sends line s t reply × IsFalse (has_first_word reply word))
     ⊎ ((m : Link) × (first : List ℕ) × Sends line s m first × IsTrue (has_first_word first word)
-    × Next first m t reply)
+    × NextLine first m t reply)
 
 -- a row's request, and its revocation if the first word of the reply is `request`; without a row, `request` alone
-abbrev pub RevokesRow : Option RevocationRow → Exchange
+abbrev pub RevokesRow : Option RevocationInput → Exchange
 RevokesRow None = Sends (codes "request\n")
 RevokesRow (Some row) =
     SendsThen (row_request row) (codes "request") (λ entered. Sends (row_revocation row entered))
 
 -- an order, and the row's registration if the first word of the reply is `order`
-abbrev pub OrdersRow : OrderTerms → RegistrationRow → Exchange
+abbrev pub OrdersRow : OrderTerms → RegistrationInput → Exchange
 OrdersRow terms row =
     SendsThen (row_order terms) (codes "order") (λ ordered. Sends (row_registration row ordered))
 
 -- a row's status, and then as `OrdersRow` states if the first word of the reply is `unknown`; without a row, `register` alone
-abbrev pub RegistersRow : OrderTerms → Option RegistrationRow → Exchange
+abbrev pub RegistersRow : OrderTerms → Option RegistrationInput → Exchange
 RegistersRow terms None = Sends (codes "register\n")
 RegistersRow terms (Some row) = SendsThen (row_status row) (codes "unknown") (λ unknown. OrdersRow terms row)
 

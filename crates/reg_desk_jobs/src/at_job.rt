@@ -1,4 +1,4 @@
-//! The job `at`: sends lines, or rows as lines, to the control socket of an open desk, and writes its replies.
+//! The job `at`: sends lines, or rows as lines, to the control socket of an open desk, and writes the desk's replies.
 
 ghost use Rattle.std.specs.Prelude.{◌≡◌, ◌⊎◌, ◌↔◌, ◌<◌, IsFalse, IsTrue, IfErr, IfOk, MatchResult};
 ghost use Rattle.std.specs.Io.{StopsAt};
@@ -16,39 +16,32 @@ use std::alloc::Global;
 use std::io::{BufRead, BufReader, Read, Write};
 use std::os::unix::net::UnixStream;
 
-/// The next line of an input, if there is one.
+/// The next line of an input, with its LF; `Cut`: a last line without LF, whose bytes are dropped; or `End`: no line is left.
 #[derive(Drop)]
-pub(crate) enum Next {
-    /// A line, with its LF.
+pub(crate) enum NextLine {
     Line(Vec<u8>),
-    /// A last line without its LF; its bytes are dropped.
     Cut,
     End,
 }
 
-/// The next lines of an input, which are sent in one write.
+/// The next lines of an input, which are sent in one write: their bytes, with each LF (`text`); how many they are; and why the piece ends.
 #[derive(Drop)]
 struct Piece {
-    /// The lines, each with its LF, and how many they are.
     text: Vec<u8>,
     count: usize,
     end: PieceEnd,
 }
 
-/// Why a piece has no further line.
+/// Why a piece ends: it has as many lines as it may have; the next line has no LF, so it is not sent; or the input ends.
 #[derive(Clone, Copy)]
 enum PieceEnd {
-    /// The piece has as many lines as it may have.
     Full,
-    /// A last line without its LF comes next.
     Cut,
-    /// The input is at its end.
     End,
 }
 
-/// The most rows whose lines are sent before their replies are read, so that the desk can run as many in one transaction. This causes no deadlock,
-/// although the desk reads no line while a reply is unsent. A socket's buffer (208 KB) has room for 256 lines of at most 111 bytes, even if the desk
-/// reads none; and for 278 replies, even if this job reads none: a reply has at most 84 bytes, for which the kernel counts 768.
+/// The most rows whose lines are sent before a reply is read, so that the desk can run them in one transaction. Neither side blocks the other: the
+/// lines are one write of at most 28 KB, and a socket's buffer (208 KB) holds 278 replies of at most 84 bytes, as the kernel counts 768 for each.
 const MOST_IN_FLIGHT: usize = 256;
 
 /// Sends each line of standard input (`reader`) to the control socket at a path, once the reply to the line before has come, and writes its reply.
@@ -105,14 +98,14 @@ fn exchange_at<M: Machine, R: Read, W: Write>(
         (W.contents writer.old) (W.contents writer.new) result }
 {
     match machine.connect_to_socket(control_path) {
-        Ok(link) => exchange_lines_over(alloc, &link, most_in_flight, reader, writer),
+        Ok(stream) => exchange_lines_over(alloc, &stream, most_in_flight, reader, writer),
         Err(_) => Err(Failure::Fault(Fault::Read)),
     }
 }
 
 fn exchange_lines_over<R: Read, W: Write>(
     alloc: Global,
-    link: &UnixStream,
+    stream: &UnixStream,
     most_in_flight: usize,
     reader: &mut R,
     writer: &mut W,
@@ -121,10 +114,10 @@ fn exchange_lines_over<R: Read, W: Write>(
     ensures { ExchangesLinesOver (R.remaining reader.old) (W.contents writer.old) (W.contents writer.new)
         result }
 {
-    let Ok(mut incoming) = BufReader::new(alloc, link) else {
+    let Ok(mut incoming) = BufReader::new(alloc, stream) else {
         return Err(Failure::Fault(Fault::Memory));
     };
-    let mut outgoing = link;
+    let mut outgoing = stream;
     match BufReader::new(alloc, reader) {
         Ok(mut input) => exchange_lines(
             alloc,
@@ -138,11 +131,10 @@ fn exchange_lines_over<R: Read, W: Write>(
     }
 }
 
-/// Sends the lines of the input to a control socket through `outgoing`: at most `most_in_flight` in one write, and the next ones once the replies to
-/// these have come from `incoming`. Writes each reply to `writer` once it has come. A last line without its LF is not sent. Errors after all lines
-/// were sent: `Refused` if a reply was a refusal or a fault, `NoLineEnd` if a last line without its LF is left, and `RefusedNoLineEnd` for both.
-/// Else: `Read` if the input fails, the connection fails or ends before the end of a reply, or out of memory for a line or a reply; `Memory` if out
-/// of memory for the lines of one write; `Write` if they can't be sent, or a reply can't be written.
+/// Sends the lines of `input` to a control socket (`outgoing`), at most `most_in_flight` in one write. Then reads their replies from `incoming`, and
+/// writes each to `writer`, before it sends more. A last line without its LF is not sent. Errors once all lines are sent: `Refused` if a reply was a
+/// refusal or a fault; `NoLineEnd` if a last line has no LF; `RefusedNoLineEnd` for both. Earlier errors: `Read` if the input or connection fails, a
+/// reply is cut off, or memory runs out for a line or reply; `Memory` if it runs out for the lines of one write; `Write` if a write fails.
 pub fn exchange_lines<R: BufRead, W: Write, C: BufRead, S: Write>(
     alloc: Global,
     most_in_flight: usize,
@@ -168,7 +160,7 @@ pub fn exchange_lines<R: BufRead, W: Write, C: BufRead, S: Write>(
             PieceEnd::End => return ended(is_accepted),
         }
     }
-    // No input has this many lines.
+    // Not reached: no input has this many lines.
     Err(Failure::Fault(Fault::Read))
 }
 
@@ -178,7 +170,7 @@ pub(crate) fn both(first: bool, second: bool) -> bool
     first && second
 }
 
-/// The result once all lines were sent: `Ok`, or `Refused` if a reply was a refusal or a fault (then `is_accepted` is `false`).
+/// The result once all lines were sent. `is_accepted`, here and in [`cut_off`]: no reply was a refusal or a fault.
 pub(crate) fn ended(is_accepted: bool) -> Result<(), Failure>
     ensures { MatchResult result (λ done. IsTrue is_accepted)
         (λ why. (why ≡ Failure.Refused) × IsFalse is_accepted) }
@@ -190,7 +182,6 @@ pub(crate) fn ended(is_accepted: bool) -> Result<(), Failure>
     }
 }
 
-/// The failure at a last line without its LF, by whether no reply before it was a refusal or a fault (`is_accepted`).
 pub(crate) fn cut_off(is_accepted: bool) -> Failure
     ensures { ((result ≡ Failure.NoLineEnd) × IsTrue is_accepted)
         ⊎ ((result ≡ Failure.RefusedNoLineEnd) × IsFalse is_accepted) }
@@ -202,7 +193,6 @@ pub(crate) fn cut_off(is_accepted: bool) -> Failure
     }
 }
 
-/// Reads the next lines of an input, at most `most`. `Read` if the input fails, or out of memory for a line; `Memory` if out of memory for the piece.
 fn next_piece<R: BufRead>(alloc: Global, most: usize, input: &mut R) -> Result<Piece, Failure>
     ensures ok { IfOk result (IsPiece most (R.remaining input.old) (R.remaining input.new)) }
     ensures err { IfErr result IsConversationFault }
@@ -210,16 +200,16 @@ fn next_piece<R: BufRead>(alloc: Global, most: usize, input: &mut R) -> Result<P
     let mut text = Vec::new(alloc);
     for count in 0..most {
         match next_line(alloc, input)? {
-            Next::Line(line) => match text.extend_from_slice(&line) {
+            NextLine::Line(line) => match text.extend_from_slice(&line) {
                 Ok(()) => {}
                 Err(_) => return Err(Failure::Fault(Fault::Memory)),
             },
-            Next::Cut => return Ok(Piece {
+            NextLine::Cut => return Ok(Piece {
                 text,
                 count,
                 end: PieceEnd::Cut,
             }),
-            Next::End => return Ok(Piece {
+            NextLine::End => return Ok(Piece {
                 text,
                 count,
                 end: PieceEnd::End,
@@ -253,7 +243,7 @@ fn pass_replies<W: Write, C: BufRead>(
     Ok(all_accepted)
 }
 
-/// Sends a line to a control socket, writes its reply, and returns it.
+/// Sends a line to a control socket, writes its reply to `writer`, and returns it. [`request_reply`] only returns it.
 pub(crate) fn exchange<W: Write, C: BufRead, S: Write>(
     alloc: Global,
     line: &[u8],
@@ -272,7 +262,6 @@ pub(crate) fn exchange<W: Write, C: BufRead, S: Write>(
     Ok(reply)
 }
 
-/// Sends a line to a control socket, and returns its reply.
 pub(crate) fn request_reply<C: BufRead, S: Write>(
     alloc: Global,
     line: &[u8],
@@ -289,8 +278,7 @@ pub(crate) fn request_reply<C: BufRead, S: Write>(
     next_reply(alloc, incoming)
 }
 
-/// Reads the next line of an input; `Read` if the input fails, or out of memory for the line.
-pub(crate) fn next_line<R: BufRead>(alloc: Global, input: &mut R) -> Result<Next, Failure>
+pub(crate) fn next_line<R: BufRead>(alloc: Global, input: &mut R) -> Result<NextLine, Failure>
     ensures ok { IfOk result (NextIs (R.remaining input.old) (R.remaining input.new)) }
     ensures err { IfErr result IsConversationFault }
 {
@@ -301,18 +289,17 @@ pub(crate) fn next_line<R: BufRead>(alloc: Global, input: &mut R) -> Result<Next
     }
 }
 
-/// `line` has the bytes up to an LF, or to the end of the input.
-fn next_of(line: Vec<u8>) -> Next
+fn next_of(line: Vec<u8>) -> NextLine
     requires { StopsAt line.items 10 }
     ensures { IsReadAs line.items result }
 {
     if has_end(line.as_slice()) {
-        return Next::Line(line);
+        return NextLine::Line(line);
     }
     if line.as_slice().is_empty() {
-        return Next::End;
+        return NextLine::End;
     }
-    Next::Cut
+    NextLine::Cut
 }
 
 fn has_end(line: &[u8]) -> bool

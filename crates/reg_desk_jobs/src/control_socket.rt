@@ -1,4 +1,4 @@
-//! Creates the control socket: a Unix socket to which only its owner may connect.
+//! Creates the control socket: a Unix socket to which only its owner (and root) can connect.
 
 ghost use Rattle.std.specs.Prelude.{OnOk};
 ghost use Rattle.reg_desk_jobs.specs.Serving.{IsControlSocket};
@@ -12,9 +12,9 @@ use std::io::ErrorKind;
 
 const OWNER_ONLY: u32 = 0o600;
 
-/// Creates a Unix socket at a path to which only its owner may connect, and listens on it without blocking. A stale socket, on which no program
-/// listens, is replaced; if several desks try it at once, one succeeds. Errors: `AddrInUse` if a socket is there that does not refuse connections,
-/// or if a program keeps the folder locked for ten seconds; `AlreadyExists` if something else than a socket is there; others are the system's.
+/// Creates the control socket at a path, and listens on it without blocking. A stale socket, on which no program listens, is replaced; if several
+/// desks try that at once, one succeeds. The machine keeps the cause of an error. Errors: `AddrInUse` if a socket is there that does not refuse
+/// connections, or a program keeps the path's folder locked for ten seconds; `AlreadyExists` if a file that is no socket is there; or the system's.
 pub(crate) fn create_control_socket<M: Machine>(machine: &M, path: &str) -> io::Result<UnixListener>
     ensures { OnOk result (IsControlSocket M.socket_created M.has_mode path.now) }
 {
@@ -67,15 +67,13 @@ fn remove_stale<M: Machine>(machine: &M, lock: &File, path: &str) -> io::Result<
     machine.unlink(lock, path)
 }
 
-/// Closes the connections that clients opened before the mode was set. Errors: those of accept(2), as such a client may then still be connected.
+/// Closes the connections that any user may have opened before the mode was set. Errors: those of accept(2); then such connections may stay open.
 fn drop_waiting(listener: &UnixListener) -> io::Result<()> {
-    // Until the queue is empty. It holds `net.core.somaxconn` + 1 connections, and that may be raised, so `u64::MAX` stands for no bound. By now only
-    // the owner and root can connect, so this ends.
+    // Until the queue is empty: only the owner and root can add to it now. Its length is a setting of the kernel, so `u64::MAX` stands for no bound.
     for _ in 0..u64::MAX {
         match listener.accept() {
             Ok(_) => {}
             Err(error) if error.kind() == ErrorKind::WouldBlock => return Ok(()),
-            // The client is gone.
             Err(error) if error.kind() == ErrorKind::ConnectionAborted => {}
             Err(error) => return Err(error),
         }

@@ -1,4 +1,4 @@
-//! The job `copy`: copies a register.
+//! The job `copy`: copies a register's file.
 
 ghost use Rattle.reg_desk_jobs.specs.Ends.{CopyAt};
 
@@ -8,8 +8,7 @@ use reg_desk_service::{Machine, copied_line, millis_since};
 use std::alloc::Global;
 use std::io::Write;
 
-/// Copies the register at a path to another path, and writes how many bytes the copy has and how many milliseconds it took. The job only reads the
-/// register's files. Errors: those of [`Machine::copy`]; `Write`.
+/// Copies the register `file` to the path `to`, and prints the copy's size and the time in ms. Errors: [`Machine::copy`]'s; `Memory`; `Write`.
 pub fn copy<M: Machine, W: Write>(
     alloc: Global,
     machine: &mut M,

@@ -1,4 +1,5 @@
-//! The jobs `init`, `script`, `import`, `crl`, `schedule`, `key-id` and `audit`.
+//! The jobs `init`, `script` (without `--clock` and `--strict`), `import`, `crl`, `schedule`, `key-id` and `audit`. An opening error, below, is an
+//! error of [`Machine::check_database`] or [`Machine::open_in`].
 
 ghost use Rattle.std.specs.Prelude.{◌≡◌, Result, IfErr, IsTrue, None};
 ghost use Rattle.reg_office_api.specs.Items.{items_of};
@@ -31,9 +32,9 @@ use std::alloc::Global;
 use std::cell::Cell;
 use std::io::Write;
 
-/// Creates a register at a path. The issuer and the policy are checked first. At a free path, `claim` creates an empty file. If the job then fails,
-/// it removes that file, unless another program has put a register into it meanwhile (`NotEmpty`). Errors: `BadIssuer`; `BadPolicy`; `NotEmpty` if
-/// the file has a table, an index or a view; `Memory`; `Store`; `Write`.
+/// Creates the register `new`, after a check of its issuer and policy. If nothing is at its path, `claim` creates an empty file there (`is_ours`). If
+/// the job then fails, it removes that file, unless another program has put tables into it meanwhile (`NotEmpty`). Errors: `BadIssuer`; `BadPolicy`;
+/// `NotEmpty` if the file has a table, an index or a view; `Memory`; `Store`; `Write`.
 pub fn init<M: Machine, W: Write>(
     alloc: Global,
     machine: &mut M,
@@ -87,8 +88,8 @@ fn make_at<M: Machine, W: Write>(
     print_text(writer, b"created\n")
 }
 
-/// Runs the script of standard input over the register at a path. If the register's CRL 1 gets a placeholder digest, the job warns on standard
-/// error. Errors: those of [`Machine::check_database`], [`Machine::open_in`] and [`reg_lines::run_script`].
+/// Runs the script in `reader` over the register at a path. Without a signer, CRLs get a placeholder digest instead of a signature, and the job warns
+/// on standard error when CRL 1 gets one. Errors: opening errors; those of [`reg_lines::run_script`].
 pub fn script<M: Machine, R: Source, W: Sink>(
     alloc: Global,
     machine: &mut M,
@@ -100,9 +101,8 @@ pub fn script<M: Machine, R: Source, W: Sink>(
     ensures { ScriptAt M.Machine M.Office.Office R.remaining W.contents R.failed W.failed
         machine.old machine.new reader.old reader.new writer.old writer.new path.now signer.now result }
 {
-    // The signer of CRLs also signs the answers to `ocsp` lines.
+    // The signer of CRLs also signs the answers to `ocsp` lines. They embed no certificate.
     let responder = ResponderChoice::Issuer { certificate: None };
-    // Without a signer, `open_signed` uses the placeholder digest; `open_unsigned` is for jobs that sign nothing.
     let mut office = open_signed(machine, path, signer, &responder)?;
     let is_unsigned = signer.is_none();
     let ran = run_script_over::<M, R, W>(alloc, machine, &mut office, is_unsigned, reader, writer);
@@ -110,10 +110,10 @@ pub fn script<M: Machine, R: Source, W: Sink>(
     ended(ran)
 }
 
-/// Imports standard input into the register at a path, at one moment: the given one, or that of the clock at the start. The clock's moment is refused
-/// if it is more than 30 days past the last accepted moment (`BadClock`), unless the operator accepts that. A strict import ends at the first refusal
-/// or fault (`Refused`), and runs no last row without its line end (`NoLineEnd`). If it ends at E08, E09 or E12, the reason is kept in `reason`.
-/// Other errors: `Read` if the clock can't be read; those of [`Machine::check_database`], [`Machine::open_in`] and [`import`].
+/// Imports the rows in `reader` into a register, all at one moment: the given one, or that of the clock at the start. The clock's moment is refused
+/// (`BadClock`) if it is more than 30 days past the last accepted command's, unless the operator accepts that. A strict import ends at the first
+/// refusal or fault (`Refused`), and runs no last row without its line end (`NoLineEnd`). If a refusal (E08, E09 or E12) ends it, `reason` gets
+/// the details for `--why`. Other errors: `Read` if the clock can't be read; opening errors; those of [`import`].
 pub fn import_rows<M: Machine, R: Source, W: Sink>(
     alloc: Global,
     machine: &mut M,
@@ -139,6 +139,7 @@ pub fn import_rows<M: Machine, R: Source, W: Sink>(
     }
 }
 
+/// Imports at the moment `now`. With `is_checked`, that moment is the clock's, and is refused if it is too far ahead.
 fn import_at<M: Machine, R: Source, W: Sink>(
     alloc: Global,
     machine: &mut M,
@@ -175,7 +176,6 @@ fn import_at<M: Machine, R: Source, W: Sink>(
     ended(imported)
 }
 
-/// Whether the moment of an import is to be checked, and is too far past the last accepted one.
 fn refuses_import<M: Machine>(office: &mut M::Office, now: Moment, is_checked: bool) -> bool
     ensures checked { IsTrue result → IsTrue is_checked }
     ensures looks { LooksIn M.Office.Office
@@ -205,7 +205,6 @@ fn import_strict_rows<M: Machine, R: Source, W: Sink>(
     imported
 }
 
-/// The end of a job, as by [`ended`], but of a run that can also end at a refusal or at a last line without its line end.
 pub(crate) fn run_ended(ran: Result<Ended, Fault>) -> Result<(), Failure>
     ensures { result ≡ exit_of_run ran }
 {
@@ -217,8 +216,7 @@ pub(crate) fn run_ended(ran: Result<Ended, Fault>) -> Result<(), Failure>
     }
 }
 
-/// Writes the DER of the CRL with a number, or of the latest one, of the register at a path. Errors: those of [`Machine::check_database`],
-/// [`Machine::open_in`] and [`Office::crl_bytes`]; `Write`.
+/// Writes the DER of the CRL with this number (`None`: of the latest one). Errors: opening errors; those of [`Office::crl_bytes`]; `Write`.
 pub fn crl<M: Machine, W: Write>(
     alloc: Global,
     machine: &mut M,
@@ -248,8 +246,8 @@ pub(crate) fn print_result<W: Write>(
     }
 }
 
-/// Sets the longest validities of the register at a path, by notBefore. Invalid steps are refused before the path is opened (`BadPolicy`). Other
-/// errors: those of [`Machine::check_database`] and [`Machine::open_in`]; `Write`.
+/// Sets the longest validity of certificates. A step is a moment and a number of days: the most for each certificate whose notBefore is at or after
+/// this moment, and before the next step's. Errors: `BadPolicy` for bad steps (nothing is opened then); opening errors; `Memory`; `Store`; `Write`.
 pub fn schedule<M: Machine, W: Write>(
     alloc: Global,
     machine: &mut M,
@@ -268,8 +266,8 @@ pub fn schedule<M: Machine, W: Write>(
     print_set_result(writer, b"schedule set\n", set)
 }
 
-/// Sets the key identifier of the issuer of the register at a path, for CRLs from the next one on (RFC 5280 5.2.1). Invalid hexadecimal, or not 1 to
-/// 64 bytes of it, is refused before the path is opened (`BadIssuer`). Other errors: those of [`schedule`].
+/// Sets the key identifier of the issuer of the register at a path, for CRLs from the next one on (RFC 5280 5.2.1). `key_id` is 1 to 64 bytes in
+/// hexadecimal; any other text is refused before the path is opened (`BadIssuer`). Other errors: opening errors; `Memory`; `Store`; `Write`.
 pub fn key_identifier<M: Machine, W: Write>(
     alloc: Global,
     machine: &mut M,
@@ -302,8 +300,8 @@ fn print_set_result<W: Write>(
     }
 }
 
-/// Audits the register at a path, and writes the result. The audit only reads, so no file changes. Errors: `Broken` if a row is broken, or if
-/// the schema is not that of a register; `OldVersion`; those of [`Machine::read`] and [`Machine::audit_in`]; `Write`.
+/// Audits the register at a path, and writes the result as a line. No file changes. Errors: `Broken`, after that line, if a row is broken or the
+/// schema is not a register's; `OldVersion`, without a line; those of [`Machine::read`] and [`Machine::audit_in`]; `Write`.
 pub fn audit<M: Machine, W: Write>(
     alloc: Global,
     machine: &M,

@@ -1,4 +1,4 @@
-//! The jobs of the program `desk`, which run on any [`Machine`](reg_desk_service::Machine).
+//! The jobs of the program `desk`, such as `desk audit`, on any [`Machine`](reg_desk_service::Machine), which makes their system calls.
 #![tactic(auto)]
 
 mod at_job;

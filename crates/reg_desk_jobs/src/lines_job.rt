@@ -1,4 +1,4 @@
-//! Runs of scripts over a register, and the job `script` with `--clock` or `--strict`.
+//! The job `script` with `--clock` or `--strict`, and runs of scripts over an open register.
 
 ghost use Rattle.std.specs.Prelude.{◌↔◌, IsTrue, None};
 ghost use Rattle.reg_office_api.specs.Calls.{LeadsIn, LooksIn};
@@ -19,13 +19,12 @@ use reg_office_api::Office;
 use std::alloc::Global;
 use std::cell::Cell;
 
-/// reg_lines' `Host` of a script: the machine's clock, and a warning on standard error if the first CRL gets a placeholder digest, not a signature.
+/// What the trait `Host` of `reg_lines` gives a script: the machine's clock, and a warning on standard error if CRL 1 gets a placeholder digest.
 #[derive(Clone, Copy)]
 struct ScriptHost<'a, M: Machine> {
     machine: &'a M,
-    /// Whether lines run at the clock's moment, and have none of their own.
+    /// `is_clocked`: lines have no moments, and run at the clock's (`--clock`). `is_unsigned`: there is no signer; CRLs get a placeholder digest.
     is_clocked: bool,
-    /// Whether CRLs get a placeholder digest instead of a signature.
     is_unsigned: bool,
 }
 
@@ -51,10 +50,9 @@ impl<'a, M: Machine> Host for ScriptHost<'a, M> {
     }
 }
 
-/// Runs the script of standard input over the register at a path, with these options. A strict script ends at the first refusal or fault (`Refused`),
-/// and runs no last line without its line end (`NoLineEnd`). If it ends at a registration with E08, E09 or E12, the reason is kept in `reason`. If
-/// the register's CRL 1 gets a placeholder digest, the job warns on standard error. With `--clock`, no line runs if the clock is more than 30 days
-/// past the last accepted moment (`BadClock`), unless the operator accepts that. Other errors: those of [`script`](crate::script).
+/// Runs a script as [`script`](crate::script) does. With `--strict`, it ends at the first refusal or fault (`Refused`), and runs no last line without
+/// its line end (`NoLineEnd`). If a registration's refusal (E08, E09 or E12) ends it, `reason` gets the details for `--why`. With `--clock`,
+/// no line runs if the clock is over 30 days past the last accepted command (`BadClock`), unless the operator accepts that. Other errors: `script`'s.
 pub fn script_by_lines<M: Machine, R: Source, W: Sink>(
     alloc: Global,
     machine: &mut M,
@@ -88,7 +86,7 @@ pub fn script_by_lines<M: Machine, R: Source, W: Sink>(
     run_ended(ran)
 }
 
-/// Whether lines run at a clock that is too far ahead and not accepted. `false` if the clock can't be read, which the first line will report.
+/// Whether lines run at a clock that is too far ahead and not accepted. `false` if the clock can't be read, which the first line reports.
 fn refuses_clock<M: Machine>(machine: &M, office: &mut M::Office, options: ScriptOptions) -> bool
     ensures { LooksIn M.Office.Office
         (λ records. IsTrue result → IsClockRefused options M.clock_reached records)
@@ -103,19 +101,19 @@ fn refuses_clock<M: Machine>(machine: &M, office: &mut M::Office, options: Scrip
     is_ahead_of::<M>(office, now)
 }
 
-/// Whether a moment is over 30 days past the last accepted one; `false` if there is none, or if it can't be read, which the job will report.
+/// Whether `now` is over 30 days past the moment of the last accepted command. `false` if there is none, or reading it fails: the job reports that.
 pub(crate) fn is_ahead_of<M: Machine>(office: &mut M::Office, now: Moment) -> bool
     ensures { LooksIn M.Office.Office (λ records. IsTrue result → IsTrue (ahead now records.last None))
         office.old office.new }
 {
     match office.last() {
-        // `None`: only an open desk has a moment that `accept-clock` accepted.
+        // `None`: no moment was accepted by a line `accept-clock`, which only the control socket of an open desk has.
         Ok(last) => is_ahead(now, last, None),
         Err(_) => false,
     }
 }
 
-/// Runs a script, whose lines have their own moments, over an open register.
+/// Runs the script in `reader`, whose lines have their own moments, over an open register. [`run_over`] does so with a script's options.
 pub(crate) fn run_script_over<M: Machine, R: Source, W: Sink>(
     alloc: Global,
     machine: &M,

@@ -17,11 +17,11 @@ use reg_office_api::Office;
 use std::alloc::Global;
 use std::io::Write;
 
-/// How many rows one call of [`Office::page`] reads. The list is the same with any number.
+/// The most rows that one call of [`Office::page`] returns. The list does not depend on it.
 const MOST_ROWS: u64 = 1_000;
 
-/// Opens a register without a signer, and writes a list of it at the given moment, or else at that of the clock, once the whole list was read.
-/// Errors: `Read` if the clock can't be read; those of [`Machine::check_database`], [`Machine::open_in`] and [`Office::page`]; `Write`.
+/// Writes a list of a register, with each status at the job's moment, or else at the clock's. Nothing is written before all rows are read. Errors:
+/// `Read` if the clock can't be read; those of [`Machine::check_database`], [`Machine::open_in`] and [`Office::page`]; `Write`.
 pub fn list<M: Machine, W: Write>(
     alloc: Global,
     machine: &mut M,
@@ -75,11 +75,11 @@ fn list_text<M: Machine>(
             None => return Ok(text),
         }
     }
-    // No register has this many pages.
+    // Not reached: no register has this many pages.
     Err(Fault::Store)
 }
 
-/// The text before the first row: in CSV the header of the list that `from` names.
+/// The text before the first row: in CSV the header of the list that the cursor `from` is in, in JSON nothing.
 fn opening(alloc: Global, form: Format, from: Cursor) -> Result<Vec<u8>, Fault>
     ensures ok { IfOk result (λ text. text.items ≡ opening_text form from) }
     ensures err { IfErr result (λ fault. fault ≡ Fault.Memory) }

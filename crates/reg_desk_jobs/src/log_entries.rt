@@ -12,20 +12,20 @@ use reg_lines::{Fields, is_accepted};
 /// The parts of a line of the log, without its quotation marks. These enclose a control line or HTTP request (`asked`), and its answer (`answered`).
 #[derive(Clone, Copy)]
 pub(crate) struct ExchangeText<'a> {
-    /// The moment and the client (two words), before the first quotation mark.
-    pub(crate) client: &'a [u8],
+    /// Two words before the first quotation mark.
+    pub(crate) moment_and_client: &'a [u8],
     pub(crate) asked: &'a [u8],
     pub(crate) answered: &'a [u8],
-    /// A space, so that the first field is empty; then the answer's length, the microseconds, and perhaps `request ..` or `signer`.
+    /// A space; the answer's length in bytes; the exchange's microseconds; then perhaps `request ID SERIAL ..`; and `signer`, if a signature failed.
     pub(crate) after_answer: &'a [u8],
 }
 
 /// A command that `replay` sends again.
 #[derive(Clone, Copy)]
-pub(crate) enum Entry {
+pub(crate) enum LoggedCommand {
     /// The control line that the exchange quotes (`asked`), as it is.
     Line,
-    /// A request for revocation that was entered: its number then, and its ground (a word for the reason, such as `key-compromise`).
+    /// A request for revocation that was entered. `id` is the number that it got then. `ground` is a word for the reason, such as `key-compromise`.
     Request {
         id: u64,
         serial: Serial,
@@ -38,14 +38,13 @@ pub(crate) enum Entry {
     },
 }
 
-/// The meaning of a line of the log for `replay`.
 #[derive(Clone, Copy)]
 pub(crate) enum LogMeaning {
     /// The exchange has no accepted command that changes the register.
     Nothing,
-    /// A command of which the log has only a part, or whose request for revocation it does not name.
+    /// A command of which the log has only a part, or one on a request for revocation that the log doesn't name.
     Unknown,
-    Command(Entry),
+    Command(LoggedCommand),
 }
 
 /// The exchange of a line of the log; `None` if the line has fewer than four quotation marks.
@@ -53,19 +52,18 @@ pub(crate) enum LogMeaning {
 pub(crate) fn exchange_in(line: &[u8]) -> Option<ExchangeText<'_>>
     ensures { option_map exchange_of result ≡ exchange_in line.now }
 {
-    let (client, rest) = split_at_quote(line)?;
+    let (moment_and_client, rest) = split_at_quote(line)?;
     let (asked, rest) = split_at_quote(rest)?;
     let (_, rest) = split_at_quote(rest)?;
     let (answered, after_answer) = split_at_quote(rest)?;
     Some(ExchangeText {
-        client,
+        moment_and_client,
         asked,
         answered,
         after_answer,
     })
 }
 
-/// The text before the first quotation mark, and the text after it; `None` without one.
 #[tactic(auto, unfolding(crate::specs::LogEntries::split_at_quote))]
 fn split_at_quote(text: &[u8]) -> Option<(&[u8], &[u8])>
     ensures { option_map (λ p. (p.0.now, p.1.now)) result ≡ split_at_quote text.now }
@@ -101,7 +99,7 @@ pub(crate) fn log_meaning_of(logged_exchange: &ExchangeText<'_>) -> LogMeaning
     }
 }
 
-/// The meaning of an exchange that names a request for revocation after three fields (an empty one, a length, microseconds); else `None`.
+/// The meaning of an exchange that names a request for revocation after three fields (an empty one before the space, two numbers); else `None`.
 #[tactic(auto, unfolding(crate::specs::LogEntries::named_in))]
 fn named_in(after_answer: &[u8]) -> Option<LogMeaning>
     ensures { result ≡ named_in (fields_of after_answer.now) }
@@ -114,14 +112,14 @@ fn named_in(after_answer: &[u8]) -> Option<LogMeaning>
         return None;
     }
     match request_named(fields) {
-        Some(entry) => Some(LogMeaning::Command(entry)),
+        Some(command) => Some(LogMeaning::Command(command)),
         None => Some(LogMeaning::Unknown),
     }
 }
 
-/// The entry in the fields after `request`: for a decision they are ID SERIAL, for an entered request ID SERIAL GROUND; `None` for others.
+/// The command in the fields after `request`: ID SERIAL for a decision, ID SERIAL GROUND for an entered request; `None` for other fields.
 #[tactic(auto, unfolding(crate::specs::LogEntries::request_named))]
-fn request_named(mut fields: Fields<'_>) -> Option<Entry>
+fn request_named(mut fields: Fields<'_>) -> Option<LoggedCommand>
     ensures { result ≡ request_named fields.entry }
 {
     let id = fields.next()?;
@@ -134,22 +132,22 @@ fn request_named(mut fields: Fields<'_>) -> Option<Entry>
 }
 
 #[tactic(auto, unfolding(crate::specs::LogEntries::decision_by))]
-fn decision_by(id: &[u8], serial: &[u8]) -> Option<Entry>
+fn decision_by(id: &[u8], serial: &[u8]) -> Option<LoggedCommand>
     ensures { result ≡ decision_by id.now serial.now }
 {
     let id = read_number(id)?;
     let serial = Serial::read(serial)?;
-    Some(Entry::Decision { id, serial })
+    Some(LoggedCommand::Decision { id, serial })
 }
 
 #[tactic(auto, unfolding(crate::specs::LogEntries::request_by))]
-fn request_by(id: &[u8], serial: &[u8], word: &[u8]) -> Option<Entry>
+fn request_by(id: &[u8], serial: &[u8], word: &[u8]) -> Option<LoggedCommand>
     ensures { result ≡ request_by id.now serial.now word.now }
 {
     let id = read_number(id)?;
     let serial = Serial::read(serial)?;
     let ground = Label::of(word)?;
-    Some(Entry::Request { id, serial, ground })
+    Some(LoggedCommand::Request { id, serial, ground })
 }
 
 /// The meaning of an exchange that names no request: a command if the control socket accepted it, it changes the register, and the log has all of it.
@@ -166,7 +164,7 @@ fn unnamed(logged_exchange: &ExchangeText<'_>) -> LogMeaning
     } else if !enters(word) {
         LogMeaning::Nothing
     } else if is_whole(logged_exchange.asked) {
-        LogMeaning::Command(Entry::Line)
+        LogMeaning::Command(LoggedCommand::Line)
     } else {
         LogMeaning::Unknown
     }
@@ -175,7 +173,7 @@ fn unnamed(logged_exchange: &ExchangeText<'_>) -> LogMeaning
 fn was_accepted(logged_exchange: &ExchangeText<'_>) -> bool
     ensures { result ≡ was_accepted (exchange_of logged_exchange.now) }
 {
-    is_control(second_word(logged_exchange.client)) && accepted(logged_exchange.answered)
+    is_control(second_word(logged_exchange.moment_and_client)) && accepted(logged_exchange.answered)
 }
 
 /// Whether a client is the control socket, which older versions of the program log as `counter`.
@@ -185,6 +183,7 @@ fn is_control(client: &[u8]) -> bool
     client == CONTROL_SOCKET.as_bytes() || client == b"counter".as_slice()
 }
 
+/// Whether a reply shows acceptance. An empty one doesn't: the desk had no memory for the reply.
 fn accepted(answered: &[u8]) -> bool
     ensures { result ≡ accepted answered.now }
 {
@@ -216,7 +215,6 @@ fn is_whole(text: &[u8]) -> bool
     text.len() < MOST_QUOTED && !text.contains(&b'\\')
 }
 
-/// The first word of a text; empty if there is none, as with `second_word`.
 pub(crate) fn first_word(text: &[u8]) -> &[u8]
     ensures { result.now ≡ first_word text.now }
 {

@@ -7,9 +7,9 @@ use reg_desk_cli::{Failure, OpenJob};
 use reg_desk_service::{Machine, open_signed};
 use reg_io::{Sink, Source};
 
-/// Serves the register at a path until a signal ends the program, or the clock or the sockets fail: `u64::MAX` means no limit of HTTP connections.
-/// The register is opened first, then the port is bound, then the control socket is created. If a published CRL is given, `reader` has its bytes, and
-/// a register that lacks its number or a revocation is not served. Errors: those of [`serve`](crate::serve); `Read` if the socket can't be created.
+/// Serves a register until a signal ends the program, or the clock or the sockets fail. No number of HTTP connections ends the job (`u64::MAX`). The
+/// job opens the register, binds the port, and then creates the control socket. If it has a published CRL, `reader` gives it, and a register that
+/// lacks its number or one of its revocations is not served. Errors: those of [`serve`](crate::serve); `Read` if the control socket can't be created.
 pub fn serve_open<M: Machine, R: Source, W: Sink>(
     rt: &HostRuntime,
     machine: &mut M,

@@ -11,7 +11,6 @@ use reg_io::write_whole;
 use std::alloc::{AllocError, Global};
 use std::io::Write;
 
-/// Writes a text. `Write` if the writer fails, or accepts no more bytes.
 pub(crate) fn print_text<W: Write>(writer: &mut W, text: &[u8]) -> Result<(), Failure>
     ensures { PrintsText text.now (W.contents writer.old) (W.contents writer.new) result }
 {
@@ -21,7 +20,6 @@ pub(crate) fn print_text<W: Write>(writer: &mut W, text: &[u8]) -> Result<(), Fa
     }
 }
 
-/// Writes a line, which has its LF. `Memory` if `line` is an error; else errors are those of [`print_text`].
 pub(crate) fn print_line<W: Write>(
     writer: &mut W,
     line: Result<Vec<u8>, AllocError>,
@@ -35,8 +33,8 @@ pub(crate) fn print_line<W: Write>(
     }
 }
 
-/// Reports on standard error why a job failed (`ending`): one line, or two for `RefusedNoLineEnd`. With `--why` (`is_asked`), one more line has
-/// the cause (exit status 1), or, indented, why the registration that ended the job was refused (3), if that is known. A failed write is ignored.
+/// Reports on standard error why a job failed (`ending`): one line, or two for `RefusedNoLineEnd`. With `--why` (`is_asked`), an indented line
+/// follows, if known: at exit status 1 the `cause`; at 3 the `reason` why the registration that ended the job was refused. Ignores failed writes.
 pub fn report_exit<W: Write>(
     alloc: Global,
     errors: &mut W,

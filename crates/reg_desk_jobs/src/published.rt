@@ -18,10 +18,9 @@ use reg_office_api::Office;
 use std::alloc::{AllocError, Global};
 use std::io::{ErrorKind, Read, Write};
 
-/// Compares the published CRL in a reader with the register, and writes a line for each item that the register lacks: the CRL number, if it is above
-/// that of the register's latest CRL, and each listed serial number that is not revoked. The CRL's issuer and signature are not verified. No record
-/// changes. Errors: `LacksPublished` if lines were written; `NotACrl` if the bytes are no CRL with a number, or an entry is invalid; `Read`;
-/// `Write`; `Memory`; `Store`.
+/// Writes a line for each item of the published CRL (`reader`) that the register lacks: the CRL's number, if it is above that of the register's
+/// latest CRL, and each listed serial number that is not revoked. The CRL's issuer and signature are not verified. Errors: `LacksPublished` if lines
+/// were written; `NotACrl` if the bytes are no CRL with a number, or an entry is invalid; `Read`; `Write`; `Memory`; `Store`.
 pub(crate) fn check_published<O: Office, R: Read, W: Write>(
     alloc: Global,
     office: &mut O,
@@ -54,7 +53,7 @@ fn read_all<R: Read>(alloc: Global, reader: &mut R) -> Result<Vec<u8>, Fault>
     }
 }
 
-/// The lines for the items that the CRL in these bytes has and the register lacks.
+/// The lines of [`check_published`] for the CRL in these bytes. `summary.last` is the last accepted command's moment.
 fn missing_lines<O: Office>(alloc: Global, office: &mut O, bytes: &[u8]) -> Result<Vec<u8>, Failure>
     ensures { LooksIn O.Office (λ records. FindsMissing records bytes.now (items_of result))
         office.old office.new }
@@ -69,7 +68,7 @@ fn missing_lines<O: Office>(alloc: Global, office: &mut O, bytes: &[u8]) -> Resu
     Ok(lines)
 }
 
-/// Adds a line if the published CRL's number is above that of the register's latest CRL.
+/// Adds a line if the published CRL's number is above that of the register's latest CRL, or above 0 if it has none.
 fn put_missing_crl(lines: &mut Vec<u8>, latest: Option<CrlRow>, number: u64) -> Result<(), Fault>
     ensures { OnOk result (lines.new.items ≡ lines.old.items ++ missing_crl latest number) }
 {
@@ -89,8 +88,8 @@ fn latest_number(latest: Option<CrlRow>) -> u64
     }
 }
 
-/// Adds a line for each entry whose serial number is not revoked at `last`, the last accepted moment. `entries` is the DER in revokedCertificates
-/// (RFC 5280 5.1). `NotACrl` if one can't be read. `next_entry` gives a serial number and the entries after its entry.
+/// Adds a line for each entry whose serial number is not revoked at `last`. `entries` is the DER in revokedCertificates (RFC 5280 5.1). `NotACrl` if
+/// an entry can't be read. `next_entry` gives the first entry's serial number, and the DER after that entry.
 fn put_missing_revocations<O: Office>(
     alloc: Global,
     office: &mut O,
@@ -137,7 +136,7 @@ fn put_unless_revoked(lines: &mut Vec<u8>, revoked: bool, serial: Serial) -> Res
     put_line(lines, b"missing revocation ", &serial.text())
 }
 
-/// Whether a serial number is revoked. The query is as of the last accepted moment: the clock may be behind it, and any later moment gives the same.
+/// Whether a serial number is revoked. Asks at `last`, because the clock may be behind it. The answer is the same at each later moment.
 fn is_revoked<O: Office>(
     alloc: Global,
     office: &mut O,

@@ -4,9 +4,9 @@ ghost use Rattle.std.specs.Prelude.{◌≡◌, ◌++◌, IfOk, OnOk};
 ghost use Rattle.reg_desk_jobs.specs.LogEntries.{exchange_of};
 ghost use Rattle.reg_desk_jobs.specs.Replays.{EntryEnds, LineEnds, ReplaysAt, ReplaysLog, ReplaysOver, StopsWith, agrees, line_to_send, text_to_send, number_now, renumbered, state_of};
 
-use crate::at_job::{Next, exchange, next_line};
+use crate::at_job::{NextLine, exchange, next_line};
 use crate::log_entries::{
-    Entry, ExchangeText, LogMeaning, exchange_in, first_word, has_quote, log_meaning_of,
+    ExchangeText, LogMeaning, LoggedCommand, exchange_in, first_word, has_quote, log_meaning_of,
     second_word,
 };
 use crate::output_lines::print_text;
@@ -25,11 +25,10 @@ struct Renumbered {
     given: u64,
 }
 
-/// Sends each accepted command of a log (`reader`) to the control socket at a path, in the log's order, and writes the replies. A decision about a
-/// request for revocation is sent with its serial number and the number that the request has now. Errors: `Refused` at the first reply that does not
-/// agree with the logged one ([`agrees`]), or at a command that the log has only in part, or whose request the log does not name; then that line of
-/// the log is written last. `NoLineEnd` at a last line without its LF; `Read` if the socket, the log or the connection fails; `Write` if a line can't
-/// be sent or written; `Memory`.
+/// Sends each accepted command of a log (`reader`) to the control socket at a path, in order, and writes the replies. A request for revocation,
+/// also one by `POST /requests`, is sent as `request SERIAL GROUND`. A decision (`revoke`, `decline`) has the number that its request has now.
+/// Errors: `Refused` if a line of the log has only a part of a command, or lacks the `request ID SERIAL` of its command, or if its reply now doesn't
+/// agree ([`agrees`]); that line is written last. `NoLineEnd` at a last line without LF; `Read`, also if it can't connect; `Write`; `Memory`.
 pub fn replay<M: Machine, R: Read, W: Write>(
     alloc: Global,
     machine: &M,
@@ -41,23 +40,23 @@ pub fn replay<M: Machine, R: Read, W: Write>(
         (W.contents writer.old) (W.contents writer.new) result }
 {
     match machine.connect_to_socket(control_path) {
-        Ok(link) => replay_over(alloc, &link, reader, writer),
+        Ok(stream) => replay_over(alloc, &stream, reader, writer),
         Err(_) => Err(Failure::Fault(Fault::Read)),
     }
 }
 
 fn replay_over<R: Read, W: Write>(
     alloc: Global,
-    link: &UnixStream,
+    stream: &UnixStream,
     reader: &mut R,
     writer: &mut W,
 ) -> Result<(), Failure>
     ensures { ReplaysOver (R.remaining reader.old) (W.contents writer.old) (W.contents writer.new) result }
 {
-    let Ok(mut incoming) = BufReader::new(alloc, link) else {
+    let Ok(mut incoming) = BufReader::new(alloc, stream) else {
         return Err(Failure::Fault(Fault::Memory));
     };
-    let mut outgoing = link;
+    let mut outgoing = stream;
     let mut numbers = Vec::new(alloc);
     match BufReader::new(alloc, reader) {
         Ok(mut log) => {
@@ -74,7 +73,7 @@ fn replay_over<R: Read, W: Write>(
     }
 }
 
-/// `numbers` has the requests for revocation that were entered again so far.
+/// Replays the lines of `log`. `numbers` has the requests for revocation that were entered again so far.
 fn replay_log<R: BufRead, W: Write, C: BufRead, S: Write>(
     alloc: Global,
     log: &mut R,
@@ -92,17 +91,17 @@ fn replay_log<R: BufRead, W: Write, C: BufRead, S: Write>(
 {
     for _ in 0..u64::MAX {
         match next_line(alloc, log)? {
-            Next::Line(line) => match replay_line(
+            NextLine::Line(line) => match replay_line(
                 alloc, &line, numbers, writer, incoming, outgoing,
             ) {
                 Ok(()) => {}
                 Err(why) => return Err(why),
             },
-            Next::Cut => return Err(Failure::NoLineEnd),
-            Next::End => return Ok(()),
+            NextLine::Cut => return Err(Failure::NoLineEnd),
+            NextLine::End => return Ok(()),
         }
     }
-    // No log has this many lines.
+    // Not reached: no log has this many lines.
     Err(Failure::Fault(Fault::Read))
 }
 
@@ -125,12 +124,12 @@ fn replay_line<W: Write, C: BufRead, S: Write>(
         Some(logged_exchange) => match log_meaning_of(&logged_exchange) {
             LogMeaning::Nothing => Ok(()),
             LogMeaning::Unknown => stop(writer, line),
-            LogMeaning::Command(entry) => {
+            LogMeaning::Command(logged_command) => {
                 replay_entry(
                     alloc,
                     line,
                     &logged_exchange,
-                    &entry,
+                    &logged_command,
                     numbers,
                     writer,
                     incoming,
@@ -138,7 +137,7 @@ fn replay_line<W: Write, C: BufRead, S: Write>(
                 )
             }
         },
-        // A line with one to three quotation marks is a part of an exchange. A line without any records something else, such as a lost connection.
+        // An exchange has four quotation marks; one to three are a part of one. A line without any records something else, such as a lost connection.
         None if has_quote(text) => stop(writer, line),
         None => Ok(()),
     }
@@ -148,7 +147,7 @@ fn replay_entry<W: Write, C: BufRead, S: Write>(
     alloc: Global,
     line: &[u8],
     logged_exchange: &ExchangeText<'_>,
-    entry: &Entry,
+    logged_command: &LoggedCommand,
     numbers: &mut Vec<Renumbered>,
     writer: &mut W,
     incoming: &mut C,
@@ -156,26 +155,25 @@ fn replay_entry<W: Write, C: BufRead, S: Write>(
 ) -> Result<(), Failure>
     ensures { EntryEnds (state_of (S.contents outgoing.old) (C.remaining incoming.old) (W.contents writer.old)
         numbers.old.items)
-        (exchange_of logged_exchange.now) entry.now line.now
+        (exchange_of logged_exchange.now) logged_command.now line.now
         (state_of (S.contents outgoing.new) (C.remaining incoming.new) (W.contents writer.new)
         numbers.new.items)
         result }
 {
-    let Ok(command) = line_to_send(alloc, numbers, logged_exchange, entry) else {
+    let Ok(command) = line_to_send(alloc, numbers, logged_exchange, logged_command) else {
         return Err(Failure::Fault(Fault::Memory));
     };
     let reply = exchange(alloc, &command, writer, incoming, outgoing)?;
     let text = without_end(&reply);
-    if !agrees(logged_exchange, entry, text) {
+    if !agrees(logged_exchange, logged_command, text) {
         return stop(writer, line);
     }
-    match renumber(numbers, entry, text) {
+    match renumber(numbers, logged_command, text) {
         Ok(()) => Ok(()),
         Err(_) => Err(Failure::Fault(Fault::Memory)),
     }
 }
 
-/// Writes the line of the log at which a replay stops, and returns `Refused`.
 fn stop<W: Write>(writer: &mut W, line: &[u8]) -> Result<(), Failure>
     ensures { StopsWith (W.contents writer.old) line.now (W.contents writer.new) result }
 {
@@ -187,13 +185,13 @@ fn line_to_send(
     alloc: Global,
     numbers: &[Renumbered],
     logged_exchange: &ExchangeText<'_>,
-    entry: &Entry,
+    logged_command: &LoggedCommand,
 ) -> Result<Vec<u8>, AllocError>
     ensures { IfOk result (λ line.
-        line.items ≡ line_to_send numbers.now (exchange_of logged_exchange.now) entry.now) }
+        line.items ≡ line_to_send numbers.now (exchange_of logged_exchange.now) logged_command.now) }
 {
     let mut line = Vec::new(alloc);
-    put_text(&mut line, numbers, logged_exchange, entry)?;
+    put_text(&mut line, numbers, logged_exchange, logged_command)?;
     line.push(b'\n')?;
     Ok(line)
 }
@@ -202,20 +200,20 @@ fn put_text(
     line: &mut Vec<u8>,
     numbers: &[Renumbered],
     logged_exchange: &ExchangeText<'_>,
-    entry: &Entry,
+    logged_command: &LoggedCommand,
 ) -> Result<(), AllocError>
     ensures { OnOk result
         (line.new.items ≡ line.old.items
-        ++ text_to_send numbers.now (exchange_of logged_exchange.now) entry.now) }
+        ++ text_to_send numbers.now (exchange_of logged_exchange.now) logged_command.now) }
 {
-    match *entry {
-        Entry::Line => line.extend_from_slice(logged_exchange.asked),
-        Entry::Request { serial, ground, .. } => {
+    match *logged_command {
+        LoggedCommand::Line => line.extend_from_slice(logged_exchange.asked),
+        LoggedCommand::Request { serial, ground, .. } => {
             line.extend_from_slice(b"request")?;
             put_word(line, &serial.text())?;
             put_word(line, ground.as_bytes())
         }
-        Entry::Decision { id, serial } => {
+        LoggedCommand::Decision { id, serial } => {
             line.extend_from_slice(first_word(logged_exchange.asked))?;
             put_number(line, number_now(numbers, id))?;
             put_word(line, &serial.text())
@@ -236,25 +234,29 @@ fn number_now(numbers: &[Renumbered], logged: u64) -> u64
     number
 }
 
-/// Whether a reply agrees with the logged one: in its first two words; for a decision, in the first. For a request, it must be `request ..`.
-fn agrees(logged_exchange: &ExchangeText<'_>, entry: &Entry, reply: &[u8]) -> bool
-    ensures { result ≡ agrees (exchange_of logged_exchange.now) entry.now reply.now }
+/// Whether the first two words of a reply are as logged. For a decision, only the first counts (it may be late now). A request needs `request ..`.
+fn agrees(logged_exchange: &ExchangeText<'_>, logged_command: &LoggedCommand, reply: &[u8]) -> bool
+    ensures { result ≡ agrees (exchange_of logged_exchange.now) logged_command.now reply.now }
 {
-    match entry {
-        Entry::Line => {
+    match logged_command {
+        LoggedCommand::Line => {
             first_word(reply) == first_word(logged_exchange.answered)
                 && second_word(reply) == second_word(logged_exchange.answered)
         }
-        Entry::Request { .. } => first_word(reply) == b"request".as_slice(),
-        Entry::Decision { .. } => first_word(reply) == first_word(logged_exchange.answered),
+        LoggedCommand::Request { .. } => first_word(reply) == b"request".as_slice(),
+        LoggedCommand::Decision { .. } => first_word(reply) == first_word(logged_exchange.answered),
     }
 }
 
-/// Keeps the number that the reply `request NUMBER ..` gives to a new request for revocation.
-fn renumber(numbers: &mut Vec<Renumbered>, entry: &Entry, reply: &[u8]) -> Result<(), AllocError>
-    ensures { OnOk result (numbers.new.items ≡ numbers.old.items ++ renumbered entry.now reply.now) }
+/// If the command (`logged_command`) is a request for revocation, keeps in `numbers` the number that the reply `request NUMBER ..` gives it.
+fn renumber(
+    numbers: &mut Vec<Renumbered>,
+    logged_command: &LoggedCommand,
+    reply: &[u8],
+) -> Result<(), AllocError>
+    ensures { OnOk result (numbers.new.items ≡ numbers.old.items ++ renumbered logged_command.now reply.now) }
 {
-    let Entry::Request { id, .. } = entry else {
+    let LoggedCommand::Request { id, .. } = logged_command else {
         return Ok(());
     };
     match read_number(second_word(reply)) {

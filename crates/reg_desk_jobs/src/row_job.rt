@@ -1,10 +1,11 @@
-//! `at --import FILE --orders ..` registers each row's certificate under a new order; `at --revoke FILE` requests its revocation, and revokes it.
+//! The jobs that take the rows of a CSV file to an open desk: `at --import FILE --orders ..` registers each row's certificate under a new order, and
+//! `at --revoke FILE` requests its revocation and revokes it. `incoming` and `outgoing` are the two directions of the connection to the desk.
 
 ghost use Rattle.std.specs.Prelude.{◌≡◌, ◌<◌, ◌==◌, ◌↔◌, IfErr, IfOk, IfSome, IsTrue, length, option_map, position};
 ghost use Rattle.reg_desk_jobs.specs.Conversations.{IsConversationFault};
 ghost use Rattle.reg_desk_jobs.specs.RowTasks.{AnswersRow, IsRowDone, LineReplied, OrdersRow, RegistersRow, RevokesRow, SendsRows, SendsRowsAt, SendsRowsOver, has_first_word, header_of, is_skipped, link_of, split_at_comma, registration_row_in, revocation_row_in, row_order, row_registration, row_request, row_revocation, row_status};
 
-use crate::at_job::{Next, both, cut_off, ended, next_line, request_reply};
+use crate::at_job::{NextLine, both, cut_off, ended, next_line, request_reply};
 use crate::log_entries::{first_word, second_word};
 use crate::output_lines::print_text;
 use reg_core::{Fault, Label, Moment, Serial};
@@ -15,24 +16,23 @@ use std::alloc::{AllocError, Global};
 use std::io::{BufRead, BufReader, Read, Write};
 use std::os::unix::net::UnixStream;
 
-/// A row of a file of certificates to revoke: the serial number, and the ground as a word, such as `key-compromise`.
+/// A row of a file of certificates to revoke: the serial number, and the ground (reason) as a word, such as `key-compromise`.
 #[derive(Clone, Copy)]
-struct RevocationRow {
+struct RevocationInput {
     serial: Serial,
-    word: Label,
+    ground_word: Label,
 }
 
-/// A row of a file of certificates to register.
 #[derive(Clone, Copy)]
-struct RegistrationRow {
+struct RegistrationInput {
     serial: Serial,
     not_before: Moment,
     not_after: Moment,
 }
 
-/// Does a task with the certificate of each row at the control socket at a path, in the rows' order, and writes one reply for each: that to the last
-/// line sent for it. A row is `SERIAL,GROUND` to revoke, and `SERIAL,NOTBEFORE,NOTAFTER` to register. Empty lines and lines equal to the header are
-/// skipped. Errors: those of [`at`](crate::at), but only the written replies count, and E19, for an already revoked certificate, counts as accepted.
+/// Does a task with the certificate of each row in `reader`, in their order, by lines at the control socket at a path. For each row, writes the reply
+/// to the last line sent for it. A row is `SERIAL,GROUND` to revoke, and `SERIAL,NOTBEFORE,NOTAFTER` to register. Empty lines and lines equal to the
+/// header are skipped. Errors: those of [`at`](crate::at), but the refusal E19 (already revoked) doesn't count as one.
 pub fn each_row<M: Machine, R: Read, W: Write>(
     alloc: Global,
     machine: &M,
@@ -45,7 +45,7 @@ pub fn each_row<M: Machine, R: Read, W: Write>(
         (W.contents writer.old) (W.contents writer.new) result }
 {
     match machine.connect_to_socket(control_path) {
-        Ok(link) => send_over(alloc, task, &link, reader, writer),
+        Ok(stream) => send_over(alloc, task, &stream, reader, writer),
         Err(_) => Err(Failure::Fault(Fault::Read)),
     }
 }
@@ -53,17 +53,17 @@ pub fn each_row<M: Machine, R: Read, W: Write>(
 fn send_over<R: Read, W: Write>(
     alloc: Global,
     task: RowTask,
-    link: &UnixStream,
+    stream: &UnixStream,
     reader: &mut R,
     writer: &mut W,
 ) -> Result<(), Failure>
     ensures { SendsRowsOver task (R.remaining reader.old) (W.contents writer.old) (W.contents writer.new)
         result }
 {
-    let Ok(mut incoming) = BufReader::new(alloc, link) else {
+    let Ok(mut incoming) = BufReader::new(alloc, stream) else {
         return Err(Failure::Fault(Fault::Memory));
     };
-    let mut outgoing = link;
+    let mut outgoing = stream;
     match BufReader::new(alloc, reader) {
         Ok(mut rows) => send_each(alloc, task, &mut rows, writer, &mut incoming, &mut outgoing),
         Err(_) => Err(Failure::Fault(Fault::Memory)),
@@ -86,19 +86,21 @@ fn send_each<R: BufRead, W: Write, C: BufRead, S: Write>(
     let mut is_done = true;
     for _ in 0..u64::MAX {
         match next_line(alloc, rows)? {
-            Next::Line(line) => match send_line(alloc, task, &line, writer, incoming, outgoing) {
+            NextLine::Line(line) => match send_line(
+                alloc, task, &line, writer, incoming, outgoing,
+            ) {
                 Ok(line_is_done) => is_done = both(is_done, line_is_done),
                 Err(why) => return Err(why),
             },
-            Next::Cut => return Err(cut_off(is_done)),
-            Next::End => return ended(is_done),
+            NextLine::Cut => return Err(cut_off(is_done)),
+            NextLine::End => return ended(is_done),
         }
     }
-    // No input has this many lines.
+    // Not reached: no input has this many lines.
     Err(Failure::Fault(Fault::Read))
 }
 
-/// Does the task with the certificate of a line, and writes the last reply. Returns whether the row is done ([`is_done`]); `true` for a skipped line.
+/// Does the task with the certificate of a row, `line`, and writes the last reply. Returns [`is_done`] of this reply; `true` for a skipped line.
 fn send_line<W: Write, C: BufRead, S: Write>(
     alloc: Global,
     task: RowTask,
@@ -145,11 +147,12 @@ fn answer_row<C: BufRead, S: Write>(
     }
 }
 
-/// Registers the certificate of a row under a new order, if no certificate has its serial number. Returns the last reply.
+/// Asks for the `status` of a row's serial number (`None`: the row can't be read). If the reply is `unknown`, no certificate has it: only then enters
+/// an order, and registers the certificate under it. So a row that is already registered adds no order. Returns the last reply.
 fn register_row<C: BufRead, S: Write>(
     alloc: Global,
     terms: OrderTerms,
-    row: Option<RegistrationRow>,
+    row: Option<RegistrationInput>,
     incoming: &mut C,
     outgoing: &mut S,
 ) -> Result<Vec<u8>, Failure>
@@ -159,7 +162,7 @@ fn register_row<C: BufRead, S: Write>(
     ensures err { IfErr result IsConversationFault }
 {
     let Some(row) = row else {
-        // To this line the desk replies `E22 syntax`, which becomes the reply to a wrong row.
+        // The desk replies `E22 syntax` to this line, and so to a row that can't be read.
         return request_reply(alloc, b"register\n", incoming, outgoing);
     };
     let Ok(query) = status_line(alloc, &row) else {
@@ -172,11 +175,10 @@ fn register_row<C: BufRead, S: Write>(
     order_row(alloc, terms, &row, incoming, outgoing)
 }
 
-/// Enters an order, and registers the certificate of a row under it if the reply gives the order's number. Returns the last reply.
 fn order_row<C: BufRead, S: Write>(
     alloc: Global,
     terms: OrderTerms,
-    row: &RegistrationRow,
+    row: &RegistrationInput,
     incoming: &mut C,
     outgoing: &mut S,
 ) -> Result<Vec<u8>, Failure>
@@ -198,10 +200,10 @@ fn order_row<C: BufRead, S: Write>(
     request_reply(alloc, &registration, incoming, outgoing)
 }
 
-/// Requests that a certificate be revoked, and revokes it if the reply gives the request's number. Returns the last reply.
+/// Requests the revocation of a row's certificate. If the reply (`entered`) is `request NUMBER ..`, revokes it. `row` and result: as `register_row`.
 fn revoke_row<C: BufRead, S: Write>(
     alloc: Global,
-    row: Option<RevocationRow>,
+    row: Option<RevocationInput>,
     incoming: &mut C,
     outgoing: &mut S,
 ) -> Result<Vec<u8>, Failure>
@@ -211,7 +213,6 @@ fn revoke_row<C: BufRead, S: Write>(
     ensures err { IfErr result IsConversationFault }
 {
     let Some(row) = row else {
-        // To this line the desk replies `E22 syntax`, which becomes the reply to a wrong row.
         return request_reply(alloc, b"request\n", incoming, outgoing);
     };
     let Ok(request) = request_line(alloc, &row) else {
@@ -242,32 +243,32 @@ fn header_of(task: RowTask) -> &'static [u8]
     }
 }
 
-/// Reads the row `SERIAL,GROUND`; `None` for any other text.
 #[tactic(auto, unfolding(crate::specs::RowTasks::revocation_row_in))]
-fn revocation_row_in(text: &[u8]) -> Option<RevocationRow>
+fn revocation_row_in(text: &[u8]) -> Option<RevocationInput>
     ensures { result ≡ revocation_row_in text.now }
 {
-    let (serial, word) = split_at_comma(text)?;
+    let (serial, ground) = split_at_comma(text)?;
     let serial = Serial::read(serial)?;
-    let word = Label::of(word)?;
-    Some(RevocationRow { serial, word })
+    let ground_word = Label::of(ground)?;
+    Some(RevocationInput {
+        serial,
+        ground_word,
+    })
 }
 
-/// Reads the row `SERIAL,NOTBEFORE,NOTAFTER`; `None` for any other text.
 #[tactic(auto, unfolding(crate::specs::RowTasks::registration_row_in))]
-fn registration_row_in(text: &[u8]) -> Option<RegistrationRow>
+fn registration_row_in(text: &[u8]) -> Option<RegistrationInput>
     ensures { result ≡ registration_row_in text.now }
 {
     let (serial, moments) = split_at_comma(text)?;
     let (not_before, not_after) = split_at_comma(moments)?;
-    Some(RegistrationRow {
+    Some(RegistrationInput {
         serial: Serial::read(serial)?,
         not_before: Moment::read(not_before)?,
         not_after: Moment::read(not_after)?,
     })
 }
 
-/// The text before the first comma, and the text after it.
 #[tactic(auto, unfolding(crate::specs::RowTasks::split_at_comma))]
 fn split_at_comma(text: &[u8]) -> Option<(&[u8], &[u8])>
     ensures { option_map (λ p. (p.0.now, p.1.now)) result ≡ split_at_comma text.now }
@@ -283,18 +284,22 @@ fn first_comma(text: &[u8]) -> Option<usize>
     text.iter().position(|byte| *byte == b',')
 }
 
-fn request_line(alloc: Global, row: &RevocationRow) -> Result<Vec<u8>, AllocError>
+fn request_line(alloc: Global, row: &RevocationInput) -> Result<Vec<u8>, AllocError>
     ensures { IfOk result (λ line. line.items ≡ row_request row.now) }
 {
     let mut line = Vec::from_slice(alloc, b"request")?;
     put_word(&mut line, &row.serial.text())?;
-    put_word(&mut line, row.word.as_bytes())?;
+    put_word(&mut line, row.ground_word.as_bytes())?;
     line.push(b'\n')?;
     Ok(line)
 }
 
-/// The line that revokes, with the request's number from the reply.
-fn revocation_line(alloc: Global, row: &RevocationRow, reply: &[u8]) -> Result<Vec<u8>, AllocError>
+/// The line `revoke NUMBER SERIAL`. NUMBER is the second word of `reply`, the reply to `request` (in `registration_line`: to `order`).
+fn revocation_line(
+    alloc: Global,
+    row: &RevocationInput,
+    reply: &[u8],
+) -> Result<Vec<u8>, AllocError>
     ensures { IfOk result (λ line. line.items ≡ row_revocation row.now reply.now) }
 {
     let mut line = Vec::from_slice(alloc, b"revoke")?;
@@ -304,7 +309,7 @@ fn revocation_line(alloc: Global, row: &RevocationRow, reply: &[u8]) -> Result<V
     Ok(line)
 }
 
-fn status_line(alloc: Global, row: &RegistrationRow) -> Result<Vec<u8>, AllocError>
+fn status_line(alloc: Global, row: &RegistrationInput) -> Result<Vec<u8>, AllocError>
     ensures { IfOk result (λ line. line.items ≡ row_status row.now) }
 {
     let mut line = Vec::from_slice(alloc, b"status")?;
@@ -323,10 +328,9 @@ fn order_line(alloc: Global, terms: OrderTerms) -> Result<Vec<u8>, AllocError>
     Ok(line)
 }
 
-/// The line that registers, with the order's number from the reply.
 fn registration_line(
     alloc: Global,
-    row: &RegistrationRow,
+    row: &RegistrationInput,
     reply: &[u8],
 ) -> Result<Vec<u8>, AllocError>
     ensures { IfOk result (λ line. line.items ≡ row_registration row.now reply.now) }
@@ -346,7 +350,7 @@ fn has_first_word(reply: &[u8], word: &[u8]) -> bool
     first_word(without_end(reply)) == word
 }
 
-/// Whether a reply is no refusal and no fault, or is E19: the certificate is already revoked.
+/// Whether a reply is no refusal and no fault, or is the refusal E19: the certificate is already revoked.
 fn is_done(reply: &[u8]) -> bool
     ensures { IsTrue result ↔ IsRowDone reply.now }
 {

@@ -21,7 +21,7 @@ use reg_desk_cli::{Endpoint, Failure, Loopback, ResponderChoice, ServeJob, Signe
 use reg_desk_metrics::{ConnectionTotals, Tally};
 use reg_desk_server::{EventLoop, Handler, MOST_HTTP_CONNECTIONS};
 use reg_desk_service::{
-    Admission, CrlSigner, Desk, Machine, open_signed, responder_not_after, signing_of,
+    Admission, CrlSignerChoice, Desk, Machine, open_signed, responder_not_after, signing_of,
 };
 use reg_io::{Sink, Source};
 use std::cell::Cell;
@@ -32,8 +32,8 @@ const LOOPBACK: [u8; 4] = [127, 0, 0, 1];
 
 const LOOPBACK_V6: [u8; 16] = [0, 0, 0, 0, 0, 0, 0, 0, 0, 0, 0, 0, 0, 0, 0, 1];
 
-/// Answers one request on each of as many HTTP connections as the job says. The register is opened before the port is bound. If a published CRL is
-/// given, `reader` has its bytes, and a register that lacks its number or a revocation in it is not served. Errors: those of
+/// Answers `job.requests` HTTP connections, with one request each. Opens the register before it binds the port. If the job has a published CRL,
+/// `reader` gives it, and the register must have reached its number and have its revocations ([`check_published`]). Errors: those of
 /// [`Machine::read_responder`], [`check_published`], [`Machine::check_database`] and [`Machine::open_in`]; `Read` if the port can't be bound, or
 /// serving ends early; `Memory`; `Write`.
 pub fn serve<M: Machine, R: Source, W: Sink>(
@@ -67,7 +67,7 @@ pub fn serve<M: Machine, R: Source, W: Sink>(
     ending
 }
 
-/// Serves the register at the path `file` until `requests` HTTP connections are answered; if `has_published`, once it passes [`check_published`].
+/// Serves the register at the path `file` until `requests` HTTP connections are answered. If `has_published`, [`check_published`] comes first.
 pub(crate) fn serve_checked<'a, 'w, M: Machine, R: Read, W: Write>(
     rt: &HostRuntime,
     machine: &'a M,
@@ -147,7 +147,8 @@ fn serve_desk<'a, 'w, M: Machine, W: Write>(
         Err(why) => return (office, Err(why)),
     };
     let alloc = rt.alloc();
-    let signing = signing_of(&CrlSigner::of(signer, responder));
+    // For the metrics: how CRLs are signed, counters, when the responder's certificate ends, and totals of connections.
+    let signing = signing_of(&CrlSignerChoice::of(signer, responder));
     let tally = Cell::new(Tally::new(signing, responder_not_after(machine, responder)));
     let connection_totals = Cell::new(ConnectionTotals::nothing());
     // The limits on requests for revocation over HTTP.
@@ -216,7 +217,6 @@ fn event_loop_over<H: Handler>(
     }
 }
 
-/// Prints `listening` and the port, answers `requests` HTTP connections, and sends the answers that are not sent yet.
 fn run_event_loop<H: Handler, W: Write>(
     mut event_loop: EventLoop<H>,
     handler: &mut H,
@@ -239,7 +239,7 @@ fn run_event_loop<H: Handler, W: Write>(
     if answered != requests {
         return Err(Failure::Fault(Fault::Read));
     }
-    // Connections whose clients don't read their answers in time are closed.
+    // Sends the answers that are not sent yet. A connection whose client doesn't read its answer in time is closed.
     let _ = event_loop.finish(handler);
     Ok(())
 }

@@ -6,7 +6,7 @@ use Rattle.reg_core.specs.Calendar.{moment_text}
 use Rattle.reg_core.specs.declared.refusal.Fault.{Fault}
 use Rattle.reg_core.specs.declared.refusal.Fault.TheVariants.{Refused}
 use Rattle.reg_core.specs.declared.refusal.Refusal.TheVariants.{ClockBack}
-use Rattle.reg_office_api.specs.declared.register_summary.Rows.{Rows}
+use Rattle.reg_office_api.specs.declared.register_summary.TableSizes.{TableSizes}
 use Rattle.reg_office_api.specs.declared.register_summary.RegisterSummary.{RegisterSummary}
 use Rattle.reg_desk_metrics.specs.Ahead.{is_ahead}
 use Rattle.reg_desk_metrics.specs.declared.health.Health.{Health}
@@ -42,7 +42,7 @@ crl_since now (Ok numbers) = if_past now numbers.due
 crl_since now (Err fault) = None
 
 -- the number of rows of the largest table
-abbrev pub most_rows : Rows → ℕ
+abbrev pub most_rows : TableSizes → ℕ
 most_rows rows = max (max (max (max rows.subscribers rows.orders) rows.certificates) rows.requests) rows.crls
 
 -- whether less than a fifth of the cap is left in a table

@@ -7,10 +7,10 @@ use Rattle.reg_core.specs.declared.refusal.Fault.{Fault}
 use Rattle.reg_core.specs.declared.refusal.Fault.TheVariants.{Refused}
 use Rattle.reg_core.specs.declared.refusal.Refusal.TheVariants.{ClockBack}
 use Rattle.reg_core.specs.declared.rows.CrlRow.{CrlRow}
-use Rattle.reg_office_api.specs.declared.register_summary.Rows.{Rows}
+use Rattle.reg_office_api.specs.declared.register_summary.TableSizes.{TableSizes}
 use Rattle.reg_desk_metrics.specs.Samples.{moment_or_zero, sample, sample_of_seconds}
 use Rattle.reg_desk_metrics.specs.Tallies.{greatest}
-use Rattle.reg_desk_metrics.specs.declared.series_names.TheConstants.{ACCEPTED, ACCEPTED_LINES, ANSWER, ANSWER_CODE, ANSWERED, BEHIND, BROKEN, BUILD, CAP, CERTIFICATE_ROWS, CLOCK, COUNTED, OPEN_CONTROL, CRL_AGE, CRL_DUE, CRL_FAILING, CRL_LAST, CRL_LAST_FAILED, CRL_NUMBER, CRL_ROWS, CRL_SIGNED, CRL_FAILED, EVICTED, EXPIRED, FAULTS, GOOD, LABEL_END, LAST_COMMAND, LATE, NEXT_UPDATE, NO_MEMORY, OCSP_BY_SIGNER, OCSP_BY_STORE, OCSP_FAILING, OCSP_LAST, OCSP_LAST_FAILED, OCSP_SIGNED, OCSP_FAILED, OPEN, ORDER_ROWS, OVERDUE, OPEN_HTTP, READABLE, REFUSED_LINES, REQUEST_ROWS, RESPONDER_ENDS, REVOKED, ROUTE_COUNT, ROUTE_SECONDS, ROUTE_SUM, SECONDS, SECONDS_COUNT, SECONDS_SUM, SECONDS_TO, STORE_FAILING, SUBSCRIBER_ROWS, THIS_UPDATE}
+use Rattle.reg_desk_metrics.specs.declared.series_names.TheConstants.{ACCEPTED, ACCEPTED_LINES, ANSWER, ANSWER_CODE, ANSWERED, BEHIND, BROKEN, BUILD, CAP, CERTIFICATE_ROWS, CLOCK, COUNTED, OPEN_CONTROL, CRL_AGE, CRL_DUE, CRL_FAILING, CRL_LAST, CRL_LAST_FAILED, CRL_NUMBER, CRL_ROWS, CRL_SIGNED, CRL_FAILED, EVICTED, EXPIRED, FAULTS, GOOD, LABEL_END, LAST_COMMAND, LATE, NEXT_UPDATE, NO_MEMORY, OCSP_ERRORS_BY_SIGNER, OCSP_BY_STORE, OCSP_FAILING, OCSP_LAST, OCSP_LAST_FAILED, OCSP_SIGNED, OCSP_FAILED, OPEN, ORDER_ROWS, OVERDUE, OPEN_HTTP, READABLE, REFUSED_LINES, REQUEST_ROWS, RESPONDER_ENDS, REVOKED, ROUTE_COUNT, ROUTE_SECONDS, ROUTE_SUM, SECONDS, SECONDS_COUNT, SECONDS_SUM, SECONDS_TO, STORE_FAILING, SUBSCRIBER_ROWS, THIS_UPDATE}
 use Rattle.reg_desk_metrics.specs.declared.numbers.ConnectionTotals.{ConnectionTotals}
 use Rattle.reg_desk_metrics.specs.declared.numbers.Numbers.{Numbers}
 use Rattle.reg_desk_metrics.specs.declared.numbers.Requests.{Requests}
@@ -47,7 +47,7 @@ crl_text now (Some crl) life = issued_text now crl life
 crl_text now None life = sample CRL_NUMBER.now 0
 
 -- how many rows each table has, and the cap
-unfoldable pub rows_text : Rows → ℕ → List ℕ
+unfoldable pub rows_text : TableSizes → ℕ → List ℕ
 rows_text rows cap =
     sample SUBSCRIBER_ROWS.now rows.subscribers ++ sample ORDER_ROWS.now rows.orders
     ++ sample CERTIFICATE_ROWS.now rows.certificates
@@ -217,7 +217,7 @@ routes_text tally = ROUTE_SECONDS.now ++ routes_prefix tally 12
 -- the OCSP responses that were internalError, by cause
 unfoldable pub failures_text : Tally → List ℕ
 failures_text tally =
-    sample OCSP_BY_SIGNER.now tally.ocsp_signer_failures ++ sample OCSP_BY_STORE.now tally.ocsp_store_failures
+    sample OCSP_ERRORS_BY_SIGNER.now tally.ocsp_signer_failures ++ sample OCSP_BY_STORE.now tally.ocsp_store_failures
 
 -- notAfter of the responder's certificate, if it is known
 abbrev pub responder_text : Option ℕ → List ℕ

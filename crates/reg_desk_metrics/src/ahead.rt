@@ -1,15 +1,15 @@
-//! Whether the clock is too far ahead of the register.
+//! Whether the machine's clock is too far ahead of the register's last command.
 
 ghost use Rattle.std.specs.Prelude.{◌≡◌};
 ghost use Rattle.reg_desk_metrics.specs.Ahead.{is_ahead as ahead, is_far as far};
 
 use reg_core::Moment;
 
-/// 30 days, in seconds. That is longer than a CRL is valid, so a right clock is so far ahead only of a register that was long unused.
+/// 30 days, in seconds. A CRL is valid for less than ten, so a right clock is this far ahead only if no CRL was issued for weeks.
 const MOST_AHEAD: u64 = 2_592_000;
 
-/// Whether the clock, `now`, is more than 30 days past the moment of the last accepted command, `last`, and also more than 30 days past the moment
-/// that the operator accepted with `accept-clock`, if any. `false` if `last` is 0: without a command there is nothing to compare the clock with.
+/// Whether the clock, `now`, is more than 30 days past the moment of the last accepted command (`last`), and also more than 30 days past `accepted`:
+/// a moment that the operator has accepted with the line `accept-clock`, if any. `false` if `last` is 0: no command was accepted yet.
 pub fn is_ahead(now: Moment, last: Moment, accepted: Option<Moment>) -> bool
     ensures { result ≡ ahead now last accepted }
 {

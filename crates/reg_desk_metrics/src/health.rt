@@ -1,4 +1,4 @@
-//! Whether all is well with an open register; if not, what fails, and since when.
+//! The health of an open register, for `GET /health`: what fails, and since when.
 
 ghost use Rattle.std.specs.Prelude.{◌≡◌, ◌++◌, IfOk, OnOk};
 ghost use Rattle.reg_desk_metrics.specs.Healths.{clock_failing_since as clock_spec, crl_since as crl_since_spec, crl_text as crl_spec, is_crl_due_at_once as due_at_once, health_of, health_text, is_none as is_without, is_filling as fills, is_well as all_well, if_past as past_spec, member, rows_since as rows_spec, signers_text, since_text, status_member, store_since_at as store_spec};
@@ -7,25 +7,22 @@ use crate::ahead::is_ahead;
 use crate::numbers::NumbersResult;
 use crate::tally::Tally;
 use reg_core::{Fault, Moment, Refusal};
-use reg_office_api::{RegisterSummary, Rows};
+use reg_office_api::{RegisterSummary, TableSizes};
 use std::alloc::{AllocError, Global};
 
-/// The failures of an open register. All is well if each moment is `None`, and `is_crl_due_at_once` is false.
+/// What fails in an open register. A field is the moment since when its part fails, or the moment in its comment; `None` if the part doesn't fail.
 #[derive(Clone, Copy, PartialEq, Eq)]
 pub struct Health {
-    /// The last command's moment, if the clock is behind it; now, if the clock is too far ahead (`is_ahead`), or from `CLOCK_END` (9999-12-22) on.
+    /// If the clock is behind the last command: that command's moment. If it is over 30 days ahead (`is_ahead`), or not before `CLOCK_END`: now.
     pub(crate) clock: Option<Moment>,
-    /// The next CRL is due at once: there is none yet, or the latest one has a placeholder digest and a key now signs the CRLs.
+    /// The next CRL is due at once (`Numbers::due` is `None`): there is none yet, or the latest has a placeholder digest and a key now signs CRLs.
     pub(crate) is_crl_due_at_once: bool,
     /// The moment when the next CRL became due, if it is past.
     pub(crate) crl: Option<Moment>,
-    /// Since when signatures of CRLs fail.
     pub(crate) crl_signer: Option<Moment>,
-    /// Since when signatures of OCSP answers fail.
     pub(crate) ocsp_signer: Option<Moment>,
     /// Now, if less than a fifth of the cap (the most rows of a table) is left in a table.
     pub(crate) rows: Option<Moment>,
-    /// Since when the store fails.
     pub(crate) store: Option<Moment>,
 }
 
@@ -59,8 +56,7 @@ impl Health {
             && is_none(self.store)
     }
 
-    /// The body of the answer to `GET /health`, in JSON (RFC 8259): each member but `status` is null or its field's moment; `crl` can be `"at-once"`.
-    /// [`AllocError`] if out of memory.
+    /// The body of the answer to `GET /health`, in JSON (RFC 8259). Each member but `status` is its field's moment or null; `crl` can be `"at-once"`.
     #[tactic(auto, unfolding(crate::specs::Healths::health_text))]
     pub fn text(&self, alloc: Global) -> Result<Vec<u8>, AllocError>
         ensures { IfOk result (λ text. text.items ≡ health_text self.now) }
@@ -86,7 +82,7 @@ fn is_none(moment: Option<Moment>) -> bool
     }
 }
 
-/// As `Health::clock`. The register refuses its numbers by `ClockBack` if the clock is behind, and with another refusal only from `CLOCK_END` on.
+/// As `Health::clock`. `found` is the refusal `ClockBack` if the clock is behind; it is another refusal (`ClockEnd`) only from `CLOCK_END` on.
 fn clock_failing_since(
     now: Moment,
     found: &NumbersResult,
@@ -102,7 +98,6 @@ fn clock_failing_since(
     }
 }
 
-/// As `Health::is_crl_due_at_once`: then `due`, the moment when the next CRL is due, is `None`.
 fn is_crl_due_at_once(found: &NumbersResult) -> bool
     ensures { result ≡ due_at_once found.now }
 {
@@ -139,11 +134,10 @@ fn rows_failing_since(now: Moment, found: &NumbersResult) -> Option<Moment>
     }
 }
 
-/// Whether less than a fifth of the cap is left in the table with the most rows.
 fn is_filling(summary: &RegisterSummary) -> bool
     ensures { result ≡ fills summary.now }
 {
-    let Rows {
+    let TableSizes {
         subscribers,
         orders,
         certificates,
@@ -158,7 +152,7 @@ fn is_filling(summary: &RegisterSummary) -> bool
     summary.cap.saturating_sub(most) < summary.cap / 5
 }
 
-/// Since when the store fails: `since`, as counted in the tally; if that is `None`, now, if the numbers can't be read for any reason but a refusal.
+/// Since when the store fails: `since`, from the tally. If that is `None`: now if the numbers can't be read (a refusal doesn't count), else `None`.
 fn store_failing_since(now: Moment, found: &NumbersResult, since: Option<Moment>) -> Option<Moment>
     ensures { result ≡ store_spec now found.now since }
 {
@@ -169,7 +163,6 @@ fn store_failing_since(now: Moment, found: &NumbersResult, since: Option<Moment>
     }
 }
 
-/// Appends a moment in quotation marks, or `null`.
 fn put_since(text: &mut Vec<u8>, since: Option<Moment>) -> Result<(), AllocError>
     ensures { OnOk result (text.new.items ≡ text.old.items ++ since_text since) }
 {
@@ -218,7 +211,7 @@ fn put_member(text: &mut Vec<u8>, name: &[u8], since: Option<Moment>) -> Result<
     put_since(text, since)
 }
 
-/// Appends the member `status`, and the name of the one after it, `store`; the caller appends that one's moment.
+/// Appends the member `status`, and the name of the next member, `store`. The caller appends the value of `store`.
 #[tactic(auto, unfolding(crate::specs::Healths::status_member))]
 fn put_status(text: &mut Vec<u8>, is_well: bool) -> Result<(), AllocError>
     ensures { OnOk result (text.new.items ≡ text.old.items ++ status_member is_well) }

@@ -10,7 +10,7 @@ use crate::series_names::{
     ACCEPTED, ACCEPTED_LINES, ANSWER, ANSWER_CODE, ANSWERED, BEHIND, BROKEN, BUILD, CAP,
     CERTIFICATE_ROWS, CLOCK, COUNTED, CRL_AGE, CRL_DUE, CRL_FAILED, CRL_FAILING, CRL_LAST,
     CRL_LAST_FAILED, CRL_NUMBER, CRL_ROWS, CRL_SIGNED, EVICTED, EXPIRED, FAULTS, GOOD, LABEL_END,
-    LAST_COMMAND, LATE, NEXT_UPDATE, NO_MEMORY, OCSP_BY_SIGNER, OCSP_BY_STORE, OCSP_FAILED,
+    LAST_COMMAND, LATE, NEXT_UPDATE, NO_MEMORY, OCSP_BY_STORE, OCSP_ERRORS_BY_SIGNER, OCSP_FAILED,
     OCSP_FAILING, OCSP_LAST, OCSP_LAST_FAILED, OCSP_SIGNED, OPEN, OPEN_CONTROL, OPEN_HTTP,
     ORDER_ROWS, OVERDUE, READABLE, REFUSED_LINES, REQUEST_ROWS, RESPONDER_ENDS, REVOKED,
     ROUTE_COUNT, ROUTE_SECONDS, ROUTE_SUM, SECONDS, SECONDS_COUNT, SECONDS_SUM, SECONDS_TO,
@@ -19,14 +19,13 @@ use crate::series_names::{
 use crate::signature_outcomes::Signing;
 use crate::tally::{ANSWERS, BUCKETS, CODES, ROUTES, Tally};
 use reg_core::{Counts, CrlRow, Fault, Moment, Refusal};
-use reg_office_api::Rows;
+use reg_office_api::TableSizes;
 use std::alloc::{AllocError, Global};
 
-/// How many bytes are reserved for the text at first. A longer text gets more.
-const ROOM: usize = 12_288;
+/// More than the usual length of the text, some 9,000 bytes: so it is rarely moved to a larger buffer.
+const INITIAL_CAPACITY: usize = 12_288;
 
 /// The metrics of an open register at `now`: the program's version, the register's numbers (`found`), the desk's counters (`tally`), its connections.
-/// [`AllocError`] if out of memory.
 pub fn metrics(
     alloc: Global,
     version: &str,
@@ -38,7 +37,7 @@ pub fn metrics(
     ensures { IfOk result (λ text.
         text.items ≡ metrics_text version.now now found.now tally.now connection_totals) }
 {
-    let mut text = Vec::with_capacity(alloc, ROOM)?;
+    let mut text = Vec::with_capacity(alloc, INITIAL_CAPACITY)?;
     put_build(&mut text, version)?;
     put_clock(&mut text, now, found)?;
     put_register(&mut text, now, found)?;
@@ -66,7 +65,7 @@ fn put_build(text: &mut Vec<u8>, version: &str) -> Result<(), AllocError>
     put_sample(text, LABEL_END, 1)
 }
 
-/// How many seconds the clock is behind the last accepted command. Then the register refuses its numbers by `ClockBack`. 0 if it is not behind.
+/// How many seconds the clock is behind the last accepted command; 0 if it isn't behind. If it is, the query for `found` was refused (`ClockBack`).
 fn behind(now: Moment, found: &NumbersResult) -> u64
     ensures { result ≡ behind_spec now found.now }
 {
@@ -117,7 +116,7 @@ fn put_certificates(text: &mut Vec<u8>, counts: Counts) -> Result<(), AllocError
 }
 
 #[tactic(auto, unfolding(crate::specs::Metrics::rows_text))]
-fn put_rows(text: &mut Vec<u8>, rows: Rows, cap: u64) -> Result<(), AllocError>
+fn put_rows(text: &mut Vec<u8>, rows: TableSizes, cap: u64) -> Result<(), AllocError>
     ensures { OnOk result (text.new.items ≡ text.old.items ++ rows_text rows cap) }
 {
     put_sample(text, SUBSCRIBER_ROWS, rows.subscribers)?;
@@ -142,7 +141,6 @@ fn put_crl(
     }
 }
 
-/// Appends the samples of the latest CRL; `life` is the seconds from its thisUpdate to its nextUpdate.
 #[tactic(auto, unfolding(crate::specs::Metrics::issued_text))]
 fn put_issued(text: &mut Vec<u8>, now: Moment, crl: CrlRow, life: u64) -> Result<(), AllocError>
     ensures { OnOk result (text.new.items ≡ text.old.items ++ issued_text now crl life) }
@@ -190,7 +188,7 @@ fn route_name(index: usize) -> &'static str
     }
 }
 
-/// A status, by its index in the tally; `none` if no answer was sent, or one with another status.
+/// An HTTP status, by its index in the tally; `none` if no answer was sent, or one with another status.
 #[tactic(auto, unfolding(crate::specs::Metrics::code_name))]
 fn code_name(index: usize) -> &'static str
     ensures { result.now ≡ code_named index }
@@ -221,7 +219,7 @@ fn put_answers(text: &mut Vec<u8>, answers: &[u64; ANSWERS]) -> Result<(), Alloc
     Ok(())
 }
 
-/// Appends the count of a pair of a route and a status, which `index` stands for. Appends nothing for 0: few of the pairs ever occur.
+/// Appends the count of a pair of a route and a status; `index` is that of `Tally::answers`. If the count is 0, as for most pairs, appends nothing.
 fn put_answer(text: &mut Vec<u8>, index: usize, count: u64) -> Result<(), AllocError>
     ensures { OnOk result (text.new.items ≡ text.old.items ++ answer_text index count) }
 {
@@ -295,7 +293,7 @@ fn put_lost(text: &mut Vec<u8>, connection_totals: ConnectionTotals) -> Result<(
     put_sample(text, NO_MEMORY, connection_totals.memory)
 }
 
-/// The upper bound of a bucket of the histogram, in seconds, by the bucket's index.
+/// The upper bound, in seconds, of the bucket of times with this index in the tally.
 #[tactic(auto, unfolding(crate::specs::Metrics::bucket_name))]
 fn bucket_name(index: usize) -> &'static str
     ensures { result.now ≡ bucket_named index }
@@ -326,7 +324,7 @@ fn put_times(text: &mut Vec<u8>, tally: &Tally) -> Result<(), AllocError>
     put_sample(text, SECONDS_COUNT, count)
 }
 
-/// Appends each bucket with the sum of the counts up to it, as Prometheus wants. Returns the sum of all.
+/// Appends each bucket. Its value is the sum of the counts up to it, because buckets of Prometheus are cumulative. Returns the sum of all counts.
 fn put_buckets(text: &mut Vec<u8>, buckets: &[u64; BUCKETS]) -> Result<u64, AllocError>
     ensures { IfOk result (λ count. (count ≡ sum_of buckets.now 12)
         × (text.new.items ≡ text.old.items ++ buckets_text buckets.now 12)) }
@@ -374,16 +372,14 @@ fn put_route(text: &mut Vec<u8>, name: &str, micros: u64, count: u64) -> Result<
     put_sample(text, LABEL_END, count)
 }
 
-/// OCSP responses that were internalError (RFC 6960 2.3), by what failed: the signer or the store.
 #[tactic(auto, unfolding(crate::specs::Metrics::failures_text))]
 fn put_failures(text: &mut Vec<u8>, tally: &Tally) -> Result<(), AllocError>
     ensures { OnOk result (text.new.items ≡ text.old.items ++ failures_text tally.now) }
 {
-    put_sample(text, OCSP_BY_SIGNER, tally.ocsp_signer_failures)?;
+    put_sample(text, OCSP_ERRORS_BY_SIGNER, tally.ocsp_signer_failures)?;
     put_sample(text, OCSP_BY_STORE, tally.ocsp_store_failures)
 }
 
-/// Appends notAfter of the responder's certificate, if there is one that can be read.
 fn put_responder(text: &mut Vec<u8>, ends: Option<Moment>) -> Result<(), AllocError>
     ensures { OnOk result (text.new.items ≡ text.old.items ++ responder_text ends) }
 {

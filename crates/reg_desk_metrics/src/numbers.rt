@@ -3,12 +3,10 @@
 use reg_core::{Counts, Fault, Moment};
 use reg_office_api::RegisterSummary;
 
-/// A register's numbers at a moment.
+/// A register's numbers at a moment: how many certificates have each status (`counts`), and when the next CRL is `due`; `None` if it is due at once.
 #[derive(Clone, Copy, PartialEq, Eq)]
 pub struct Numbers {
-    /// How many certificates have each status.
     pub counts: Counts,
-    /// When the next CRL is due; `None` if it is due at once.
     pub due: Option<Moment>,
     /// How many rows each table has, and the most that it may have (the cap); the latest CRL; how long a CRL is valid; the last command's moment.
     pub summary: RegisterSummary,
@@ -17,45 +15,35 @@ pub struct Numbers {
 /// The register's numbers, or why they can't be read.
 pub type NumbersResult = Result<Numbers, Fault>;
 
-/// Counts of the register's requests for revocation. Counting reads all of them, so the desk uses the counts for a minute (`Tally::wants_requests`).
+/// Counts of the register's requests for revocation at the moment `at`. Counting reads all requests, so the desk uses each count for a minute.
 #[derive(Clone, Copy, PartialEq, Eq)]
 pub struct Requests {
-    /// When they were counted.
     pub at: Moment,
-    /// How many are open: not declined, and the certificate is good.
+    /// How many are open (not declined, and the certificate is good), and how many of these are past their deadline (`overdue`).
     pub waiting: u64,
-    /// How many of the open ones are past their deadline.
     pub overdue: u64,
 }
 
-/// The signer of the CRLs of an open desk.
+/// How an open desk signs CRLs: by the signer with the issuer's key; with a placeholder digest; or not at all, if its only signer is a responder's.
 #[derive(Clone, Copy, PartialEq, Eq)]
 pub enum CrlSigning {
-    /// The signer with the issuer's key.
     Key,
-    /// No key: each CRL has a placeholder digest instead of a signature.
     Digest,
-    /// No signer for CRLs: the desk has only the signer with a responder's key.
     NoSigner,
 }
 
-/// A CRL that the desk read, to find out whether it is signed: if not, and a key signs now, the next CRL is due at once.
+/// A CRL that the desk read. If it has a placeholder digest instead of a signature (`is_unsigned`), and a key signs now, the next CRL is due at once.
 #[derive(Clone, Copy, PartialEq, Eq)]
 pub struct ReadCrl {
-    /// The CRL number (RFC 5280 5.2.3).
     pub number: u64,
-    /// Whether the CRL has a placeholder digest instead of a signature.
     pub is_unsigned: bool,
 }
 
-/// How many connections are open, and how many were accepted or lost since the desk was opened.
+/// How many connections are open, at the port and at the control socket; and how many were accepted (at the port) or lost since the desk was opened.
 #[derive(Clone, Copy, PartialEq, Eq)]
 pub struct ConnectionTotals {
-    /// Open connections at the port.
     pub open_http: u64,
-    /// Open connections at the control socket.
     pub open_control: u64,
-    /// All connections that were accepted at the port.
     pub accepted: u64,
     /// Lost connections, by `ConnectionFault` of `reg_desk_server`: broken; timed out (`late`); evicted; out of memory.
     pub broken: u64,
@@ -65,7 +53,6 @@ pub struct ConnectionTotals {
 }
 
 impl ConnectionTotals {
-    /// All counts are 0.
     pub fn nothing() -> ConnectionTotals {
         ConnectionTotals {
             open_http: 0,

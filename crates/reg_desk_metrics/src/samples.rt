@@ -6,7 +6,7 @@ ghost use Rattle.reg_desk_metrics.specs.Samples.{digit_at as digit_spec, moment_
 use reg_core::{Decimal, Moment};
 use std::alloc::AllocError;
 
-/// Appends a sample: its series (or the last part, such as `LABEL_END`), which ends with a space, its value, and an LF.
+/// Appends a sample: `series`, the value and an LF. `series` is the name of a series, or the last part of one (as `LABEL_END`); it ends with a space.
 pub(crate) fn put_sample(text: &mut Vec<u8>, series: &str, value: u64) -> Result<(), AllocError>
     ensures { OnOk result (text.new.items ≡ text.old.items ++ sample series.now value) }
 {
@@ -43,7 +43,6 @@ pub(crate) fn put_seconds(text: &mut Vec<u8>, series: &str, micros: u64) -> Resu
     Ok(())
 }
 
-/// The decimal point and the six digits after it, for microseconds as seconds.
 fn fraction(micros: u64) -> [u8; 7]
     ensures { result ≡ fraction_spec micros }
 {
@@ -58,10 +57,9 @@ fn fraction(micros: u64) -> [u8; 7]
     ]
 }
 
-/// The decimal digit of a number at the place of `unit`, a power of ten.
-fn digit_at(number: u64, unit: u64) -> u8
-    requires { 0 < unit }
-    ensures { result ≡ digit_spec number unit }
+fn digit_at(number: u64, power_of_ten: u64) -> u8
+    requires { 0 < power_of_ten }
+    ensures { result ≡ digit_spec number power_of_ten }
 {
-    b'0' + (number / unit % 10) as u8
+    b'0' + (number / power_of_ten % 10) as u8
 }

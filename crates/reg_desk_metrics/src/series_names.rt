@@ -1,6 +1,6 @@
-//! The names of series, and parts of names with labels. A whole name has a space after it. The HELP and TYPE lines of a family are at the front of
-//! its first name, or alone in a constant (`ANSWERED`, `SECONDS`, `ROUTE_SECONDS`). The labels `counter` (control socket) and `crowded` (evicted)
-//! are older words, kept because alerts and dashboards use them.
+//! Text of `/metrics` (Prometheus): names of series, and parts of names that have labels. A whole name ends with a space; its value follows. A
+//! family's HELP and TYPE lines begin the text of its first series, or have their own constant (`ANSWERED`, `SECONDS`, `ROUTE_SECONDS`). The labels
+//! `counter` (control socket) and `crowded` (evicted) are older words, kept because alerts and dashboards use them.
 
 pub(crate) const BUILD: &str =
     "# HELP desk_build_info 1, with the version of the program.\n# TYPE desk_build_info gauge\ndesk_build_info{version=\"";
@@ -142,7 +142,8 @@ pub(crate) const ROUTE_COUNT: &str = "desk_http_response_seconds_count{route=\""
 pub(crate) const RESPONDER_ENDS: &str =
     "# HELP desk_responder_certificate_not_after_timestamp_seconds notAfter of the responder's certificate.\n# TYPE desk_responder_certificate_not_after_timestamp_seconds gauge\ndesk_responder_certificate_not_after_timestamp_seconds ";
 
-pub(crate) const OCSP_BY_SIGNER: &str =
+// `BY`: because the signer or the store failed.
+pub(crate) const OCSP_ERRORS_BY_SIGNER: &str =
     "# HELP desk_ocsp_internal_errors_total OCSP responses over HTTP that were internalError, by what failed.\n# TYPE desk_ocsp_internal_errors_total counter\ndesk_ocsp_internal_errors_total{cause=\"signer\"} ";
 
 pub(crate) const OCSP_BY_STORE: &str = "desk_ocsp_internal_errors_total{cause=\"store\"} ";

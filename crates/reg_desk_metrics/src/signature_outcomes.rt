@@ -6,8 +6,7 @@ ghost use Rattle.reg_desk_metrics.specs.Tallies.{nothing_requested, signing_afte
 use reg_core::Moment;
 use reg_office_api::{SignatureOutcome, StoreEffect};
 
-/// Signatures of one kind (CRLs, or OCSP responses): how many were received and when last (`last`), how many failed and when last. A placeholder
-/// digest counts as a received signature.
+/// Signatures of one kind (CRLs or OCSP responses): how many were received or failed, and when last. A placeholder digest counts as `received`.
 #[derive(Clone, Copy, PartialEq, Eq)]
 pub(crate) struct Signing {
     pub(crate) received: u64,
@@ -52,8 +51,7 @@ impl Signing {
     }
 }
 
-/// Since when the store fails, after an exchange or a line with this effect; `since` is from before it. Only a write (a command or schedule) ends a
-/// failure: reads don't show that writes work.
+/// Since when the store fails. `since` is the value before an exchange or line with this effect. A read ends no failure: writes may still fail.
 pub(crate) fn store_after(since: Option<Moment>, effect: StoreEffect, now: Moment) -> Option<Moment>
     ensures { result ≡ kept_after effect now since }
 {

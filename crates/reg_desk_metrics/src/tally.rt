@@ -1,4 +1,4 @@
-//! The counters of an open desk, which count each HTTP exchange and each line of a control connection once. Counts and sums stop at `u64::MAX`.
+//! What an open desk counts: each HTTP exchange (request and answer), and each line at the control socket. Counts and sums stop at `u64::MAX`.
 
 ghost use Rattle.std.specs.Prelude.{◌≡◌, ◌<◌};
 ghost use Rattle.reg_desk_metrics.specs.Tallies.{IsNewTally, bumped, bucket_of as bucket_spec, route_number as number_of_route, code_number as number_of_code, with_time as timed, with_exchange, with_line, outcomes_counted, with_reply_to_line, with_counted, wants_requests as wants_counted, has_crl_key as has_key, read_of, with_read, with_amount, is_ocsp_route, has_response, with_route, with_failure, counted_crl_outcome};
@@ -9,47 +9,43 @@ use reg_core::Moment;
 use reg_http::{Exchange, Route};
 use reg_office_api::{LineEffects, LineReply, SignatureOutcome, StoreEffect};
 
-/// How many statuses have a count each; the last is for any other status, and for no answer.
+/// How many items the tally's arrays have. `CODES`: HTTP statuses (`code_number`). `ANSWERS`: `ROUTES` times `CODES`. `BUCKETS`: times (`bucket_of`).
 pub(crate) const CODES: usize = 12;
 
-/// How many pairs of a route and a status there are: `ROUTES` times `CODES`.
 pub(crate) const ANSWERS: usize = 144;
 
-/// How many buckets the histogram of times has.
 pub(crate) const BUCKETS: usize = 12;
 
-/// How many routes there are; the last is for any other path.
 pub(crate) const ROUTES: usize = 12;
 
-/// The counters of an open desk, and its signers' settings.
+/// The counters of an open desk, and what its metrics need to know of its signers.
 #[derive(Clone, Copy)]
 pub struct Tally {
-    /// Answers by route and status: the index is that of the route times `CODES`, plus that of the status.
+    /// HTTP exchanges by route and status code: the index is that of the route times `CODES`, plus that of the code.
     pub(crate) answers: [u64; ANSWERS],
-    /// Lines at the control socket, by `LineReply`: answered or accepted; refused; with a fault, or no memory for the reply.
+    /// Lines at the control socket, by reply: accepted commands and answered queries; refused lines; lines with a fault, or no memory for the reply.
     pub(crate) accepted: u64,
     pub(crate) refused: u64,
     pub(crate) faults: u64,
-    /// HTTP exchanges and lines by how long they took; the upper bounds are in `bucket_of`.
+    /// HTTP exchanges and control lines, by how long each took. The wait for a signature counts; receiving and sending don't. `micros`: the sum.
     pub(crate) buckets: [u64; BUCKETS],
-    /// How long all exchanges and lines took, in microseconds: with the wait for a signature, without receiving and sending.
     pub(crate) micros: u64,
-    /// Answers by route, and how long each route's took, in microseconds.
+    /// HTTP exchanges by route (`route_number`), and for each route the sum of their times in microseconds.
     pub(crate) route_counts: [u64; ROUTES],
     pub(crate) route_micros: [u64; ROUTES],
     /// OCSP responses over HTTP that were internalError (RFC 6960 2.3) because the signer failed, and because the store failed.
     pub(crate) ocsp_signer_failures: u64,
     pub(crate) ocsp_store_failures: u64,
+    /// The signatures of CRLs, and those of OCSP responses.
     pub(crate) crls: Signing,
     pub(crate) ocsp: Signing,
-    /// Since when the store fails; `None` if it doesn't (`store_after`).
     pub(crate) store_failing_since: Option<Moment>,
-    /// The requests for revocation, when they were counted last.
+    /// How many requests for revocation were open and overdue when they were counted last; `None` if they were not counted yet.
     pub(crate) requests: Option<Requests>,
     pub(crate) crl_signing: CrlSigning,
-    /// notAfter of the responder's certificate (RFC 5280 4.1.2.5); `None` if the issuer responds, or if the certificate can't be read.
+    /// notAfter of a delegated responder's certificate (RFC 5280 4.1.2.5); `None` if the issuer responds, or if the certificate can't be read.
     pub(crate) responder_ends: Option<Moment>,
-    /// The CRL that was read last, kept so that the same CRL is not read again.
+    /// The number of the CRL that was read last, and whether it is signed, so that the same CRL is not read again.
     pub(crate) read: Option<ReadCrl>,
 }
 
@@ -77,7 +73,6 @@ fn is_ocsp(route: Route) -> bool
     }
 }
 
-/// Whether an exchange gave an OCSP response, which has status 200 (RFC 6960 A.2).
 fn has_ocsp_response(exchange: &Exchange) -> bool
     ensures { result ≡ has_response exchange.now }
 {
@@ -107,7 +102,7 @@ fn route_number(route: Route) -> usize
     }
 }
 
-/// The index of a status; the last one is for no answer, and for any other status.
+/// The index of a status code; the last one is for no answer (`None`), and for any other code.
 #[tactic(auto, unfolding(crate::specs::Tallies::code_number))]
 fn code_number(status: Option<u16>) -> usize
     ensures number { result ≡ number_of_code status }
@@ -132,7 +127,6 @@ fn code_number(status: Option<u16>) -> usize
     }
 }
 
-/// The bucket of a time in microseconds: the first whose upper bound is not below it; the last one has no bound.
 #[tactic(auto, unfolding(crate::specs::Tallies::bucket_of))]
 fn bucket_of(micros: u64) -> usize
     ensures bucket { result ≡ bucket_spec micros }
@@ -154,7 +148,7 @@ fn bucket_of(micros: u64) -> usize
     }
 }
 
-/// The outcome to count for a CRL's signature. If the desk has no signer for CRLs, a `crl` line that fails must not show up as a failing signer.
+/// The outcome to count for a CRL's signature. If the desk has no signer of CRLs, a line `crl` fails, but must not count as a failing signer.
 fn crl_outcome_at(signing: CrlSigning, signature_outcome: SignatureOutcome) -> SignatureOutcome
     ensures { result ≡ counted_crl_outcome signing signature_outcome }
 {
@@ -165,7 +159,7 @@ fn crl_outcome_at(signing: CrlSigning, signature_outcome: SignatureOutcome) -> S
 }
 
 impl Tally {
-    /// A tally with nothing counted. `crl_signing` is the signer of the desk's CRLs; `responder_ends` is notAfter of the responder's certificate.
+    /// A tally with nothing counted. `crl_signing` is the kind of the desk's signer of CRLs; `responder_ends` is described at the field.
     pub fn new(crl_signing: CrlSigning, responder_ends: Option<Moment>) -> Tally
         ensures { IsNewTally crl_signing responder_ends result }
     {
@@ -190,7 +184,7 @@ impl Tally {
         }
     }
 
-    /// Counts an HTTP exchange at the moment `now`, whose answer took `micros` microseconds.
+    /// Counts an HTTP exchange that was answered at the moment `now`, and took `micros` microseconds.
     pub fn count_exchange(&mut self, now: Moment, exchange: &Exchange, micros: u64)
         ensures { self.new ≡ with_exchange now exchange.now micros self.old }
     {
@@ -211,7 +205,7 @@ impl Tally {
         );
     }
 
-    /// Counts a line of a control connection that was answered at the moment `now`, which took `micros` microseconds.
+    /// Counts a line of a control connection that was answered at the moment `now`, and took `micros` microseconds.
     pub fn count_line(&mut self, now: Moment, line: LineEffects, micros: u64)
         ensures { self.new ≡ with_line now line micros self.old }
     {
@@ -220,7 +214,7 @@ impl Tally {
         self.count_outcomes(now, line.crl, line.ocsp, line.store);
     }
 
-    /// Whether the requests for revocation are to be counted at a moment: not if they were counted then, or less than a minute before.
+    /// Whether to count the requests for revocation at `now`: they were not counted yet, or not for a minute, or the clock was set back since.
     pub fn wants_requests(&self, now: Moment) -> bool
         ensures { result ≡ wants_counted now self.now.requests }
     {
@@ -230,7 +224,7 @@ impl Tally {
         }
     }
 
-    /// Keeps how many requests for revocation there are.
+    /// Keeps the counts of requests for revocation.
     pub fn set_requests(&mut self, requests: Requests)
         ensures { self.new ≡ with_counted requests self.old }
     {
@@ -247,7 +241,7 @@ impl Tally {
         }
     }
 
-    /// The CRL that was read last, if it has this number.
+    /// What [`keep_crl`](Tally::keep_crl) kept last, if that CRL has this number.
     pub fn read_crl(&self, number: u64) -> Option<ReadCrl>
         ensures { result ≡ read_of number self.now }
     {
@@ -257,7 +251,7 @@ impl Tally {
         }
     }
 
-    /// Keeps the CRL that was read last.
+    /// Keeps the number of the CRL that was read last, and whether it is signed.
     pub fn keep_crl(&mut self, read: ReadCrl)
         ensures { self.new ≡ with_read read self.old }
     {
@@ -274,7 +268,6 @@ impl Tally {
         }
     }
 
-    /// Counts a time in the histogram and adds it to the sum, both in microseconds; `/metrics` has them in seconds.
     fn add_time(&mut self, micros: u64)
         ensures { self.new ≡ timed micros self.old }
     {
@@ -290,7 +283,7 @@ impl Tally {
         add(&mut self.route_micros, number, micros);
     }
 
-    /// Counts an OCSP response that was internalError, by the cause: the signer, or else the store.
+    /// If the exchange's OCSP response was internalError, counts it by the cause: the signer, or else the store.
     fn add_failure(&mut self, exchange: &Exchange)
         ensures { self.new ≡ with_failure exchange.now self.old }
     {

@@ -1,9 +1,9 @@
 pub mod Audits
 pub mod Clean
 pub mod Holding
-pub mod Misfitting
+pub mod AlgorithmMismatches
 pub mod Missing
 pub mod Opened
 pub mod OpeningFaults
-pub mod Priming
+pub mod PresetSignatures
 pub mod Signers

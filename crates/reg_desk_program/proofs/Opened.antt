@@ -5,7 +5,7 @@ use Rattle.sqlite_trees.specs.declared.store.Store.{Ghosts}
 use Rattle.reg_office_api.specs.Signers.{Responder}
 use Rattle.reg_crl.specs.Signing.{Identity}
 use Rattle.reg_desk_service.specs.Signers.{EmbeddedKeyFits}
-use Rattle.reg_desk_service.specs.declared.crl_signer.CrlSigner.{CrlSigner}
+use Rattle.reg_desk_service.specs.declared.crl_signer.CrlSignerChoice.{CrlSignerChoice}
 use Rattle.reg_office.specs.Answering.{answers_by}
 use Rattle.reg_office.specs.declared.responder.Responder.{Responder as Held_by}
 use Rattle.reg_desk_program.specs.StoreSigners.{FitsRegister}
@@ -23,6 +23,6 @@ module _ {C : Type 0} {g : Ghosts C} {store tables new : Held C} (same : tables 
   pub lent_looked : Looked g tables new → Looked g store new
   lent_looked looked = subst (λ those. Looked g those new) same looked
 
-  pub lent_signs : {answers : Identity → Responder} {identity : Identity} {crls : CrlSigner}
+  pub lent_signs : {answers : Identity → Responder} {identity : Identity} {crls : CrlSignerChoice}
       → FitsRegister g tables new answers identity crls → FitsRegister g store new answers identity crls
   lent_signs {answers} {identity} {crls} signs = subst (λ those. FitsRegister g those new answers identity crls) same signs

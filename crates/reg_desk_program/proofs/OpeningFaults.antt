@@ -18,8 +18,8 @@ opened fault why is other =
     go other not = tt
 
 -- a register that can't be created
-pub unmade : (fault : StoreFault) (why : Failure) → why ≡ store_failure fault → (fault ≡ stored.NotEmpty) ⊎ IsDatabaseFault fault → IsCreateFailure why
-unmade fault why is which =
+pub not_created : (fault : StoreFault) (why : Failure) → why ≡ store_failure fault → (fault ≡ stored.NotEmpty) ⊎ IsDatabaseFault fault → IsCreateFailure why
+not_created fault why is which =
     let P : Failure → Type 0 = λ w. IsCreateFailure w in
     let Q : StoreFault → Type 0 = λ f. IsCreateFailure (store_failure f) in
     subst P (sym is) (elim which [

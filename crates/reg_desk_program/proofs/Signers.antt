@@ -11,7 +11,7 @@ use Rattle.reg_core.specs.Sound.{SoundRows}
 use Rattle.reg_crl.specs.Signing.{Identity, sha1_algorithm}
 use Rattle.reg_der.specs.Der.{tlv, length_octets}
 use Rattle.reg_desk_service.specs.Signers.{IsSigning, identity_of_signer}
-use Rattle.reg_desk_service.specs.declared.crl_signer.CrlSigner.{CrlSigner}
+use Rattle.reg_desk_service.specs.declared.crl_signer.CrlSignerChoice.{CrlSignerChoice}
 use Rattle.reg_desk_program.specs.StoreSigners.{FitsLatest, FitsRegister}
 use Rattle.reg_crl_signer.specs.Algorithms.{identifier_of}
 use Rattle.reg_crl_signer.specs.declared.algorithm.Algorithm.{Algorithm}
@@ -24,7 +24,7 @@ use Rattle.reg_desk_cli.specs.declared.job.SignerAddress.{SignerAddress}
 -- A store before its latest CRL was looked up, after that, and after its issuer was looked up.
 module _ {C : Type 0} (g : Ghosts C) (old between new : Held C) (answers : Identity → Responder) (identity : Identity) where
   -- a signer that fits the issuer and the latest CRL fits the register
-  pub signs_for : (crls : CrlSigner) (told : Option SignerAddress) (last : Option (List ℕ))
+  pub signs_for : (crls : CrlSignerChoice) (told : Option SignerAddress) (last : Option (List ℕ))
       → ((key : List ℕ) (signers : Identity) → signers ≡ identity_of_signer told key → IsSigning crls key signers)
       → Looked g old between → Looked g between new
       → ((records : Records) → Shows g old records → SoundRows records → HasCleanDisk (state g between)

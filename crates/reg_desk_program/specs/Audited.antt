@@ -19,7 +19,7 @@ use Rattle.reg_audit.specs.Presumed.{IsPresumed}
 use Rattle.reg_audit.specs.AuditResults.{CountedBy, IsSound}
 use Rattle.reg_audit_rows.specs.declared.audit_result.AuditResult.{AuditResult}
 use Rattle.reg_desk_program.specs.Files.{IsAudited, IsOpenedFrom}
-use Rattle.reg_desk_service.specs.declared.crl_signer.CrlSigner.{CrlSigner}
+use Rattle.reg_desk_service.specs.declared.crl_signer.CrlSignerChoice.{CrlSignerChoice}
 
 -- an audit of a file with the result `Sound`, over a disk that returned what was written; and the assumptions about the connection and the file that
 -- no audit can check (`IsPresumed`)
@@ -37,7 +37,7 @@ tables_of found = (file_state found.audited.connection).now
 -- a register that was opened over the same tables as were audited: the audit's file is read-only, the register's is written
 pub record OpensSame {A D : Type 0} {a : disk.Ghosts A} {g : disk.Ghosts D} (found : FoundSound a)
     (register : Held (FileStore D g)) (signers : OfficeSigners) : Type 0 where
-  pub signing : CrlSigner
+  pub signing : CrlSignerChoice
   pub opened : IsOpenedFrom signing register signers
   pub same : (file_state opened.connection).now ≡ tables_of found
 

@@ -39,7 +39,7 @@ use Rattle.reg_office.specs.Stands.{Stands}
 use Rattle.reg_office.specs.declared.office.Office.{Office}
 use Rattle.reg_office.specs.declared.responder.Responder.{Responder}
 use Rattle.reg_desk_service.specs.Signers.{EmbeddedKeyFits, Follows, IsSigning}
-use Rattle.reg_desk_service.specs.declared.crl_signer.CrlSigner.{CrlSigner}
+use Rattle.reg_desk_service.specs.declared.crl_signer.CrlSignerChoice.{CrlSignerChoice}
 
 -- the tables showed the records of a register, of this program's version or of an older one
 abbrev pub Showed : {C : Type 0} → Ghosts C → Held C → Records → Type 0
@@ -56,8 +56,8 @@ module _ {C : Type 0} (g : Ghosts C) (connection : Held C) where
   -- A register that was opened over it has the records that the tables showed, also those of an older version. The signer of CRLs is the given one,
   -- or one with the algorithm of the latest CRL if nothing is to be signed. It has the issuer's key, and the algorithm of the latest CRL unless
   -- that has a placeholder digest. A certificate that is embedded in OCSP responses signed with the issuer's key has that key. A stop leaves
-  -- the records that the tables showed.
-  pub record OpensOver (signing : CrlSigner) (register : Held C) (signers : OfficeSigners) : Type 0 where
+  -- the records that the tables showed, if they are of this version, and the database was complete (`IsWhole`).
+  pub record OpensOver (signing : CrlSignerChoice) (register : Held C) (signers : OfficeSigners) : Type 0 where
     pub kept : (records : Records) → ShowsKept g connection records → ShowsKept g register records
     pub migrated : (version : OlderVersion) (records : Records) → ShowsOlder version g connection records
         → SoundRows records → ShowsKept g register records
@@ -87,7 +87,7 @@ module _ {D : Type 0} {g : disk.Ghosts D} where
     pub whole : HasCleanDisk (file_state connection) → IsOpened connection
 
   -- a register was opened over a connection to a file
-  pub record IsOpenedFrom (signing : CrlSigner) (register : Held (FileStore D g))
+  pub record IsOpenedFrom (signing : CrlSignerChoice) (register : Held (FileStore D g))
       (signers : OfficeSigners) : Type 0 where
     pub connection : Held (FileStore D g)
     pub connects : IsConnection connection
@@ -99,7 +99,7 @@ module _ {D : Type 0} {g : disk.Ghosts D} where
     pub clean : doubt (file_state connection).is_clean ≤ doubt (file_state register).is_clean
 
   -- an office was opened over a connection to a file, with this signer of CRLs and this responder
-  pub record OpensFor {S : Type 0} (signer : Signer S) (connection : Held (FileStore D g)) (crls : CrlSigner)
+  pub record OpensFor {S : Type 0} (signer : Signer S) (connection : Held (FileStore D g)) (crls : CrlSignerChoice)
       (responder : Responder S)
       (office : Office (FileStore D g) S) : Type 0 where
     pub opens : OpensOver over_files connection crls office.store (seen signer office).1

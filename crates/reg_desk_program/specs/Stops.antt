@@ -11,7 +11,7 @@ use Rattle.sqlite_wal.specs.Files.{outcomes}
 use Rattle.reg_core.specs.Records.{Records}
 use Rattle.reg_office_api.specs.Signers.{OfficeSigners}
 use Rattle.reg_office_api.specs.CallSteps.{Signs}
-use Rattle.reg_desk_service.specs.declared.crl_signer.CrlSigner.{CrlSigner}
+use Rattle.reg_desk_service.specs.declared.crl_signer.CrlSignerChoice.{CrlSignerChoice}
 use Rattle.reg_office.specs.AfterStoppedCommand.{ChangingCall}
 use Rattle.reg_office.specs.Calls.{StandsFor, StandsWith}
 use Rattle.reg_office.specs.InterruptedCalls.{InterruptsOneOfThem, InterruptsOnlyItself}
@@ -31,12 +31,12 @@ pub record IsReopened {D : Type 0} {g : disk.Ghosts D} (held again : Held (FileS
   pub found : Finds files again
   pub opened : IsOpened again
 
--- An office is a store and its signers. In an office that is opened, the sound records stand that the file's tables showed, and no call was
--- interrupted (`begins`). The machine may stop in any later call, or after it. A call that is executed over an open connection interrupts only itself
--- (`call`), and of calls one after another only one is interrupted (`calls`). If a register is then opened again, it has the records that stood in
--- the office, or those after the interrupted call (`leaves`). A register whose files were closed in order has the records that stood (`closes`).
+-- An office is a store and its signers. In an office that is opened, the sound records stand that the file's tables showed in this version, and no
+-- call was interrupted (`begins`). The machine may stop in any later call, or after it. A call that is executed over an open connection interrupts
+-- only itself (`call`), and of calls one after another only one is interrupted (`calls`). If a register is then opened again, it has the records that
+-- stood in the office, or those after the interrupted call (`leaves`). A closing in order leaves the records that stood (`closes`).
 pub record LeavesWhatWasReported {D : Type 0} (g : disk.Ghosts D) (signs : Signs) : Type 0 where
-  pub begins : (signing : CrlSigner) (office : Held (FileStore D g) × OfficeSigners)
+  pub begins : (signing : CrlSignerChoice) (office : Held (FileStore D g) × OfficeSigners)
       (opened : IsOpenedFrom signing office.0 office.1) (records : Records)
       → ShowsKept over_files opened.connection records → SoundFor signs office.1.crls records
       → StandsWith over_files signs office office.1 records None

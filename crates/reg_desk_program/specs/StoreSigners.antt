@@ -8,14 +8,14 @@ use Rattle.reg_core.specs.Records.{Records}
 use Rattle.reg_core.specs.Sound.{SoundRows}
 use Rattle.reg_crl.specs.Signing.{Identity}
 use Rattle.reg_desk_service.specs.Signers.{EmbeddedKeyFits, Follows, IsSigning, MayFollow, identity_of_signer}
-use Rattle.reg_desk_service.specs.declared.crl_signer.CrlSigner.{CrlSigner}
-use Rattle.reg_desk_service.specs.declared.crl_signer.CrlSigner.TheVariants.{NoSigner, Digest, KeyAt}
+use Rattle.reg_desk_service.specs.declared.crl_signer.CrlSignerChoice.{CrlSignerChoice}
+use Rattle.reg_desk_service.specs.declared.crl_signer.CrlSignerChoice.TheVariants.{NoSigner, Digest, KeyAt}
 use Rattle.reg_crl_signer.specs.Signed.{IsCrlWithAlgorithm}
 use Rattle.reg_store_tables.specs.Shows.{Shows}
 use Rattle.reg_desk_cli.specs.declared.job.SignerAddress.{SignerAddress}
 
 -- the path of the socket of the signer of CRLs: `None` for the digest; any path or `None` for `NoSigner`
-abbrev pub SignerAtPath : CrlSigner → Option (List ℕ) → Type 0
+abbrev pub SignerAtPath : CrlSignerChoice → Option (List ℕ) → Type 0
 SignerAtPath NoSigner path = Unit {0}
 SignerAtPath Digest path = path ≡ None
 SignerAtPath (KeyAt address) path = path ≡ Some address.socket
@@ -34,7 +34,7 @@ module _ {C : Type 0} (g : Ghosts C) (old new : Held C) (answers : Identity → 
         → (crls : Identity) → EmbeddedKeyFits records.issuer.key (answers crls)
 
   -- the same for the signer with which the register is opened, and the latest CRL of the records
-  pub record FitsRegister (crls : CrlSigner) : Type 0 where
+  pub record FitsRegister (crls : CrlSignerChoice) : Type 0 where
     pub told : (records : Records) → Shows g old records → HasCleanDisk (state g new)
         → IsSigning crls records.issuer.key identity
     pub follows : (records : Records) → Shows g old records → SoundRows records → HasCleanDisk (state g new)

@@ -4,14 +4,14 @@ use crate::host::Host;
 use crate::progress::seconds;
 use reg_audit::ProgressObserver;
 
-/// Shows at most once a second how many rows an audit has read and how many CRLs it has compared with them, if standard error is a terminal.
+/// Shows on standard error, if that is a terminal, at most once a second, how many rows an audit read, and how many CRLs it compared with them.
 #[derive(Drop)]
 pub(crate) struct AuditProgress {
     rt: HostRuntime,
     shows_progress: bool,
     rows: usize,
     crls: usize,
-    /// When progress was last shown, or the audit began: the seconds of the monotonic clock.
+    /// The seconds of the monotonic clock when progress was last shown, or the audit began.
     last_shown: u64,
 }
 
@@ -37,7 +37,6 @@ impl AuditProgress {
         self.last_shown = now;
         let rows = self.rows;
         let crls = self.crls;
-        // A line that can't be written is left out.
         drop(eprintln!(self.rt; "{rows} rows read, {crls} CRLs compared"));
     }
 }

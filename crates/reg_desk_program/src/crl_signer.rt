@@ -1,4 +1,4 @@
-//! Chooses the signer of CRLs for a register in a file (`FileSigner`): a process at a socket (`FileDevice`), the placeholder digest, or none.
+//! Makes the signer of CRLs with which a register is opened (`FileSigner`): a process at a socket (`FileDevice`), the placeholder digest, or none.
 
 ghost use Rattle.std.specs.Prelude.{◌≡◌, ◌↔◌, ◌⊎◌, List, ℕ, Some, Option, option_copied, option_map, IsTrue, IfOk, IfErr, MatchOption};
 ghost use Rattle.sqlite.specs.Held.{state};
@@ -28,23 +28,20 @@ use reg_crl_signer::{
     crl_algorithm,
 };
 use reg_desk_cli::{Argument, Failure, SignerAddress};
-use reg_desk_service::{CrlSigner, Machine};
+use reg_desk_service::{CrlSignerChoice, Machine};
 use reg_office::Responder;
 use reg_store::{DatabaseFault, Tables};
 use sqlite::Alter;
 
-/// The signer of CRLs for the register in these tables. For `NoSigner` it is one that reaches no process, so each new CRL fails with a fault of
-/// the signer. Its algorithm is that of the latest CRL, so that the register opens, or the placeholder digest's if there is no CRL.
-///
-/// # Errors
-///
-/// `BadResponder` if the embedded certificate has another key than the issuer; else `BadSigner`, with its cause kept in the host, if the issuer's key
-/// does not fit the algorithm, or if no CRL with that algorithm may follow the latest one; `Memory`, `Store`.
+/// The signer of CRLs that `crls` chooses, for the register in these tables. The signer for `NoSigner` reaches no process, so each new CRL fails with
+/// a fault of the signer. So that the register opens, this signer has the latest CRL's algorithm, or without a CRL the placeholder digest's.
+/// Errors: `BadResponder` if the certificate that `responder` embeds has another key than the issuer; else `BadSigner`, with its cause kept in the
+/// host, if the issuer's key does not fit the algorithm, or if no CRL with that algorithm may follow the latest one; `Memory`; `Store`.
 #[tactic(auto, using(crate::proofs::Missing::opens_faulty))]
 pub(crate) fn signer_for<C: Alter>(
     host: &Host<'_>,
     tables: &mut Tables<C>,
-    crls: &CrlSigner<'_>,
+    crls: &CrlSignerChoice<'_>,
     responder: &Responder<FileSigner>,
 ) -> Result<FileSigner, Failure>
     ensures signs { IfOk result (λ signer. FitsRegister C.Store tables.old tables.new
@@ -57,13 +54,18 @@ pub(crate) fn signer_for<C: Alter>(
 {
     let latest = latest_crl(tables)?;
     match crls {
-        CrlSigner::KeyAt(address) => signer_after(host, tables, &latest, Some(address), responder),
-        CrlSigner::Digest => signer_after(host, tables, &latest, None, responder),
-        CrlSigner::NoSigner => signer_without_process(host, tables, &latest, responder),
+        CrlSignerChoice::KeyAt(address) => signer_after(
+            host,
+            tables,
+            &latest,
+            Some(address),
+            responder,
+        ),
+        CrlSignerChoice::Digest => signer_after(host, tables, &latest, None, responder),
+        CrlSignerChoice::NoSigner => signer_without_process(host, tables, &latest, responder),
     }
 }
 
-/// A signer that reaches no signer process, with the algorithm of the latest CRL, or that of the placeholder digest if there is no CRL.
 fn signer_without_process<C: Alter>(
     host: &Host<'_>,
     tables: &mut Tables<C>,
@@ -80,14 +82,14 @@ fn signer_without_process<C: Alter>(
 {
     let address = unreachable_address(latest);
     match signer_after(host, tables, latest, address.as_ref(), responder) {
-        // A CRL with a placeholder digest needs no process, so it would be made: here a signer that always fails replaces the digest.
+        // The placeholder digest needs no process, so CRLs with it could still be made: a signer that always fails replaces it.
         Ok(signer) => Ok(signer.without_digest()),
         Err(why) => Err(why),
     }
 }
 
-/// A signer's address with the algorithm of the latest CRL and an empty path, at which no socket can be. `None` if there is no CRL, if the latest
-/// one has a placeholder digest, or if its algorithm is unknown here.
+/// An address with the latest CRL's algorithm, and the empty path, at which no socket can be. `None` if there is no CRL, if the latest one has a
+/// placeholder digest, or if this program doesn't know its algorithm.
 fn unreachable_address(latest: &Option<Vec<u8>>) -> Option<SignerAddress<'static>> {
     let identifier = crl_algorithm(latest.as_ref()?)?;
     let algorithm = Algorithm::from_identifier(identifier)?;
@@ -97,7 +99,7 @@ fn unreachable_address(latest: &Option<Vec<u8>>) -> Option<SignerAddress<'static
     })
 }
 
-/// The signer at an address, or the placeholder digest for `None`, compared with the issuer's key and latest CRL. Errors: those of [`signer_for`].
+/// The signer at an address (`None`: the placeholder digest), if it fits the issuer's key and the CRL `latest`. Errors: those of [`signer_for`].
 #[tactic(auto, using(crate::proofs::Missing::opens_faulty))]
 fn signer_after<C: Alter>(
     host: &Host<'_>,
@@ -130,8 +132,7 @@ fn signer_after<C: Alter>(
     }
 }
 
-/// The signer at this address, for the issuer's key; the placeholder digest for `None`. Nothing is sent to the signer yet. Errors: `Memory`;
-/// `BadSigner`, with its cause kept in the host, if the key does not fit the algorithm.
+/// The signer at an address (`None`: the placeholder digest), not asked yet. `BadSigner` (cause kept) if the issuer's `key` doesn't fit; `Memory`.
 fn open_signer(
     host: &Host<'_>,
     address: Option<&SignerAddress<'_>>,
@@ -162,7 +163,7 @@ fn open_signer(
     }
 }
 
-/// A signer at a socket. Each signature's form is checked by its public key, `key`. Errors: `BadSigner` if `key` doesn't fit the algorithm; `Memory`.
+/// The signer behind the Unix socket at the path `socket`, with this public key. Errors: `BadSigner` if the key doesn't fit the algorithm; `Memory`.
 pub(crate) fn key_signer(
     rt: &HostRuntime,
     socket: &str,
@@ -188,7 +189,6 @@ pub(crate) fn key_signer(
     }
 }
 
-/// The bytes of the latest CRL; `None` if there is no CRL.
 fn latest_crl<C: Alter>(tables: &mut Tables<C>) -> Result<Option<Vec<u8>>, DatabaseFault>
     ensures found { (records : Records) → Shows C.Store tables.old records → SoundRows records
         → HasCleanDisk (state C.Store tables.new)
@@ -202,7 +202,7 @@ fn latest_crl<C: Alter>(tables: &mut Tables<C>) -> Result<Option<Vec<u8>>, Datab
     }
 }
 
-/// Why no CRL with this algorithm may follow the latest one. `None` if it may, or if there is no CRL.
+/// Why no CRL with `algorithm` may follow the CRL `latest`; `None` if one may (equal algorithms, or `latest` is `None` or has a placeholder digest).
 fn mismatch(latest: &Option<Vec<u8>>, algorithm: &[u8]) -> Option<Cause>
     ensures { MatchOption result
         ((crl : List ℕ) → option_map (λ bytes. bytes.items) latest.now ≡ Some crl
@@ -216,7 +216,8 @@ fn mismatch(latest: &Option<Vec<u8>>, algorithm: &[u8]) -> Option<Cause>
 }
 
 fn mismatch_of(crl: &[u8], algorithm: &[u8]) -> Option<Cause>
-    ensures { MatchOption result ((other : List ℕ) → IsCrlWithAlgorithm crl.now other → MayFollow algorithm.now other)
+    ensures { MatchOption result ((other : List ℕ) → IsCrlWithAlgorithm crl.now other
+        → MayFollow algorithm.now other)
         (IsMismatch crl.now algorithm.now) }
 {
     match crl_algorithm(crl) {
@@ -237,7 +238,6 @@ fn difference(found: &[u8], algorithm: &[u8]) -> Option<Cause>
     }
 }
 
-/// Whether a CRL with `algorithm` may follow one with `earlier`: they are equal, or the earlier one has the placeholder digest.
 fn may_follow(algorithm: &[u8], earlier: &[u8]) -> bool
     ensures { IsTrue result ↔ MayFollow algorithm.now earlier.now }
 {

@@ -1,4 +1,4 @@
-//! Runs an invocation of the program.
+//! Runs an invocation of the program: opens its input, output and log, and has its job done.
 
 use crate::dispatch::perform_without_contract;
 use crate::host::{Host, open_log};
@@ -13,11 +13,8 @@ use std::io::{ErrorKind, IsTerminal};
 use std::os::unix::fs::MetadataExt;
 use std::{fs, io};
 
-/// Does the job of an invocation, and returns the exit status of [`perform`]. The job reads standard input, or the file that an option or argument
-/// names in its place, and writes to standard output. If the log file or the input file can't be opened, the job does not start: `run_desk` reports
-/// the fault on standard error, and returns 1.
-///
-/// [`perform`]: crate::perform
+/// Does the job of an invocation, and returns its exit status. The job reads standard input, or the file that an option or argument names in its
+/// place. If that file or the log file can't be opened, `run_desk` does no job, reports the fault on standard error, and returns 1.
 pub fn run_desk(rt: &HostRuntime, invocation: &Invocation<'_>) -> u8 {
     let log_file = log_path(invocation);
     if let Err(error) = check_log(rt, invocation) {
@@ -54,7 +51,6 @@ pub fn run_desk(rt: &HostRuntime, invocation: &Invocation<'_>) -> u8 {
     )
 }
 
-/// The path of the log file that an invocation names.
 fn log_path<'n>(invocation: &'n Invocation<'_>) -> Option<&'n str> {
     match &invocation.log_file {
         Some(path) => Some(path.as_str()),
@@ -62,15 +58,15 @@ fn log_path<'n>(invocation: &'n Invocation<'_>) -> Option<&'n str> {
     }
 }
 
-/// Checks that the log file can be opened for appending, and creates it if there is none. Errors: `AlreadyExists` if it is the register's file, or
-/// that file's `-wal` or `-journal`, which log lines would damage; else those of the system.
+/// Checks that the log file, if one is named, can be opened for appending, and creates it if there is none. Errors: `AlreadyExists` if it is the
+/// register's file, or that file's `-wal` or `-journal`, which log lines would damage; else those of the system.
 fn check_log(rt: &HostRuntime, invocation: &Invocation<'_>) -> io::Result<()> {
     let (Some(path), Some(register)) = (log_path(invocation), register_path_of(&invocation.job))
     else {
         return Ok(());
     };
     let log = open_log(rt, path)?.metadata()?;
-    // SQLite names `-wal` and `-journal` after the file that a symbolic link leads to. If there is no register yet, a log line can't damage it.
+    // SQLite names `-wal` and `-journal` after the file to which a symbolic link leads. If there is no register yet, a log line can't damage it.
     let Ok(register) = fs::canonicalize(rt, register) else {
         return Ok(());
     };
@@ -87,7 +83,6 @@ fn check_log(rt: &HostRuntime, invocation: &Invocation<'_>) -> io::Result<()> {
     Ok(())
 }
 
-/// Reports a fault before the job starts, and returns the exit status.
 fn report_fault(
     rt: &HostRuntime,
     invocation: &Invocation<'_>,

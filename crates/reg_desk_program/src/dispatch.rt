@@ -1,4 +1,4 @@
-//! Runs a job and reports its end.
+//! Chooses the function that does a job, calls it, and reports how it ended.
 
 ghost use Rattle.reg_desk_jobs.specs.Ends.{Ends, Performs};
 
@@ -14,9 +14,9 @@ use reg_io::{Sink, Source};
 use std::cell::Cell;
 use std::io::Write;
 
-/// Does a job on a machine, reads its input from `reader`, and writes its output to `writer`. Returns the exit status of [`status_of`]. Reports a
-/// failure to `errors`. With `is_explained`, one more line explains the failure, if that is known: for status 1 it has the cause; for status 3, why
-/// the registration that ended a strict script or import was refused.
+/// Does a job on a machine, reads its input from `reader`, and writes its output to `writer`. Reports a failure to `errors`, and returns the exit
+/// status of [`status_of`]. With `is_explained` (`--why`), one more line has the explanation, if it is known: for status 1, the cause; for
+/// status 3, why the registration that ended a strict script or import was refused.
 pub fn perform<M: Machine, R: Source, W: Sink, E: Write>(
     rt: &HostRuntime,
     machine: &mut M,
@@ -45,8 +45,7 @@ pub fn perform<M: Machine, R: Source, W: Sink, E: Write>(
     status_of(&ending)
 }
 
-/// Calls [`perform`], and reports as it does, but has no contract. If `run_desk` called `perform` itself, the prover would write out the contract
-/// over the program's files and sockets, which takes minutes.
+/// As [`perform`], without a contract. In `run_desk`, the prover would take minutes to write that contract out over the program's files and sockets.
 pub(crate) fn perform_without_contract<M: Machine, R: Source, W: Sink, E: Write>(
     rt: &HostRuntime,
     machine: &mut M,
@@ -59,7 +58,7 @@ pub(crate) fn perform_without_contract<M: Machine, R: Source, W: Sink, E: Write>
     perform(rt, machine, job, is_explained, reader, writer, errors)
 }
 
-/// Does a job. If a refused registration ended it, puts the reason of the refusal into `reason`.
+/// Does a job. `reader` is standard input, or the file that an argument names instead. `reason`: why the registration that ended the job was refused.
 fn run<M: Machine, R: Source, W: Sink>(
     rt: &HostRuntime,
     machine: &mut M,
@@ -144,14 +143,13 @@ fn run<M: Machine, R: Source, W: Sink>(
     }
 }
 
-/// Keeps the cause of `BadPolicy`, which the jobs don't keep, in the machine. It needs no location, as its line names the option or the steps.
+/// After `BadPolicy`, keeps the cause in the machine, because no job does. The cause has no location (`None`): its line names the option or steps.
 fn keep_policy_cause<M: Machine>(machine: &M, job: &Job<'_>, ending: &Result<(), Failure>) {
     if let Err(Failure::BadPolicy) = ending {
         machine.keep_cause(None, bad_policy_cause(job));
     }
 }
 
-/// The cause of `BadPolicy`: the option of `init` that is out of its range, or the invalid steps of `schedule`.
 fn bad_policy_cause(job: &Job<'_>) -> Option<Cause> {
     match job {
         Job::Init(new) => policy_cause_of(new.days, new.crl_life, new.ocsp_life, new.cap),

@@ -12,7 +12,7 @@ use reg_desk_cli::Failure;
 use sqlite::{Connection, FileStore};
 use sqlite_disk::Disk;
 
-/// Audits the register of a database, shows the progress, and then drops the connection.
+/// Audits the register of a database, and then drops the connection. Shows the progress if `host.shows_progress` is `true`.
 pub(crate) fn audit_over<D: Disk + Drop>(
     host: &Host<'_>,
     connection: Connection<FileStore<D>>,

@@ -11,17 +11,17 @@ use sqlite::{FileFrom, FileStore};
 use sqlite_disk::Unknown;
 use std::alloc::Global;
 
-/// A signer process behind a Unix socket. After a timeout it is not asked for ten seconds (back-off).
+/// A signer process behind a Unix socket. In the ten seconds after a timeout, no signature is requested from it (back-off).
 pub type FileDevice = BackoffDevice<SocketDevice<UnixConnection>, HostRuntime>;
 
-/// The signer of a register in a file: a process behind a socket, or the placeholder digest.
+/// The signer of a register in a file: a process behind a socket, the placeholder digest, or none.
 pub type FileSigner = RegisterSigner<FileDevice>;
 
-/// An office over a database file. A page that is read again must have its earlier digest, as in a [`FileConnection`](crate::FileConnection).
+/// An office over a [`FileConnection`](crate::FileConnection). Contracts suppose nothing of the bytes of its file (`Unknown`).
 pub(crate) type OfficeInFile = Office<FileStore<FileFrom<Unknown>>, FileSigner>;
 
-/// The office of a register in a file. Each method, which the trait describes, calls that of [`reg_office::Office`] with its name. This type has no
-/// parameters, so the prover compares it by its name. To compare all type arguments of `OfficeInFile` takes more steps than the prover allows.
+/// The office of a register in a file. Each method, which the trait describes, calls that of [`reg_office::Office`] with its name. The prover can
+/// compare this type by its name, but not `OfficeInFile`, whose type arguments take more steps than it allows.
 #[derive(Drop)]
 pub struct FileOffice {
     pub(crate) office: OfficeInFile,

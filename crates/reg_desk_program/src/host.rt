@@ -23,11 +23,13 @@ use reg_crl_signer::{PresetSignature, RegisterSigner, SignatureRequest};
 use reg_der::Issuer;
 use reg_desk_cli::{Failure, ResponderChoice};
 use reg_desk_files::{
-    ClaimFault, FileFault, Overlay, ReadFailure, ReadFile, Source, Sources, check_database,
+    ClaimFault, FileFault, Overlay, ReadAt, ReadFailure, ReadFile, Sources, check_database,
     claim_file, copy_closed, copy_open, open_file, open_sources, read_at, remove_file,
 };
 use reg_desk_server::as_would_block;
-use reg_desk_service::{CopyFault, CrlSigner, FailureCause, Location, Machine, SignatureKind};
+use reg_desk_service::{
+    CopyFault, CrlSignerChoice, FailureCause, Location, Machine, SignatureKind,
+};
 use reg_io::write_whole;
 use reg_office::Responder;
 use sqlite_disk::{Disk, Unknown};
@@ -44,27 +46,25 @@ use std::{fs, io, thread};
 
 const OWNER_ONLY: u32 = 0o600;
 
-/// The most attempts to lock a folder, and the pause after each: ten seconds in all, while another desk or signer creates its socket.
+/// The most attempts to lock a folder, and the pause after each: ten seconds in all. Another desk or signer may hold the lock to create its socket.
 const MOST_LOCK_TRIES: u32 = 2_000;
 
 const LOCK_PAUSE_MILLIS: u64 = 5;
 
-/// The machine on which the program runs: its files, clock, TCP ports and Unix sockets. It keeps the cause of the last failure, for `--why`.
+/// The machine of the program: its files, clock, TCP ports and Unix sockets. Keeps the last failure's cause (`None`: unknown), for `--why`.
 #[derive(Clone, Copy)]
 pub struct Host<'a> {
     /// Each library call that uses the system takes it.
     pub(crate) rt: HostRuntime,
-    /// The cause that was kept last; `None` if that failure had no known cause.
     pub(crate) last_cause: &'a Cell<Option<FailureCause>>,
     /// Where exchanges are logged: on standard error, in the file at this path, in both, or nowhere.
     pub(crate) logs_to_stderr: bool,
     pub(crate) log_file: Option<&'a str>,
-    /// Whether an audit shows its progress on standard error.
     pub(crate) shows_progress: bool,
 }
 
 impl<'a> Host<'a> {
-    /// The failure for files that can't be read: `NotARegister` if there is no database yet, else the fault. `location` is the argument for them.
+    /// The failure for unreadable files: `NotARegister` if there is no database yet, else the fault. `location`: the argument that has their path.
     pub(crate) fn failure_of(&self, location: Option<Location>, why: ReadFailure) -> Failure
         requires { IsReadFailureOfFiles why }
         ensures told { result ≡ failure_of why }
@@ -77,7 +77,6 @@ impl<'a> Host<'a> {
         }
     }
 
-    /// The fault of files that can't be read. Its cause is kept with the location.
     fn fault_of(&self, location: Option<Location>, why: FileFault) -> Fault
         ensures { result ≡ why.fault }
     {
@@ -95,7 +94,7 @@ impl<'a> Host<'a> {
         }
     }
 
-    /// Whether a path was claimed, by an empty file that was created there. If it was not, the cause is kept.
+    /// `true` if the path was claimed: an empty file was created there. If it was taken, keeps the cause.
     fn is_claimed(&self, claim: Result<(), ClaimFault>) -> Result<bool, Memory>
         ensures { result ≡ is_claimed claim }
     {
@@ -159,7 +158,7 @@ impl<'a> Machine for Host<'a> {
 
     ghost read = { λ host path sources. Unspecified path };
 
-    ghost audited = { λ sources. IsAuditOf ⟦<Overlay<ReadFile> as Disk>⟧ (image sources.log.items (⟦<ReadFile as Source>⟧.bytes sources.db)) };
+    ghost audited = { λ sources. IsAuditOf ⟦<Overlay<ReadFile> as Disk>⟧ (image sources.log.items (⟦<ReadFile as ReadAt>⟧.bytes sources.db)) };
 
     ghost copied = { λ host path to bytes after. Unspecified path };
 
@@ -245,7 +244,7 @@ impl<'a> Machine for Host<'a> {
     fn open_in(
         &self,
         database: FileConnection,
-        crls: &CrlSigner<'_>,
+        crls: &CrlSignerChoice<'_>,
         responder: Responder<FileSigner>,
     ) -> Result<FileOffice, Failure> {
         match open_over(self, database, crls, responder) {
@@ -398,17 +397,17 @@ impl<'a> Machine for Host<'a> {
         }
     }
 
-    fn receive_answer(alloc: Global, link: &mut SignatureRequest) -> Option<Vec<u8>>
+    fn receive_answer(alloc: Global, request: &mut SignatureRequest) -> Option<Vec<u8>>
         ensures given { IfSome result (λ answer.
-            (path message : List ℕ) → IsSignatureRequest path message link.old → Unspecified path) }
+            (path message : List ℕ) → IsSignatureRequest path message request.old → Unspecified path) }
         ensures short { IfSome result (λ answer. length answer.items ≤ 4096) }
     {
-        link.take_signature(alloc)
+        request.take_signature(alloc)
     }
 
     fn set_preset(
         office: &mut FileOffice,
-        wanted: SignatureKind,
+        kind: SignatureKind,
         preset_signature: Option<PresetSignature>,
     )
         ensures { KeepsIn ⟦<FileOffice as reg_office_api::Office>⟧ office.old office.new }
@@ -416,7 +415,7 @@ impl<'a> Machine for Host<'a> {
         preset_next(
             &mut office.office.signer,
             &mut office.office.responder,
-            wanted,
+            kind,
             preset_signature,
         );
     }
@@ -482,7 +481,6 @@ fn micros_of(time: Duration) -> u64 {
         .saturating_add(u64::from(time.subsec_micros()))
 }
 
-/// The folder that contains a path, which may be relative.
 fn folder_of(path: &str) -> Path<'_> {
     match Path::new(path).parent() {
         Some(folder) if folder.as_str() != "" => folder,
@@ -517,8 +515,7 @@ fn append(rt: &HostRuntime, path: &str, line: &[u8]) {
     }
 }
 
-/// Ends a line that a full disk cut off, so that the next line does not continue it. The last byte of the file is replaced with an LF.
-/// `before` is the length of the file, in bytes, without that line.
+/// Ends a line that a full disk cut off: an LF replaces its last byte, so that the next line begins anew. `before`: the file's length without it.
 fn end_cut_line(file: &mut File, before: u64) {
     let Ok(metadata) = file.metadata() else {
         return;
@@ -529,7 +526,6 @@ fn end_cut_line(file: &mut File, before: u64) {
     }
 }
 
-/// Opens a log file for appending, or creates it with mode 0600.
 pub(crate) fn open_log(rt: &HostRuntime, path: &str) -> io::Result<File> {
     let mut options = OpenOptions::new();
     options.append(true).create(true).mode(OWNER_ONLY);

@@ -13,7 +13,6 @@ pub(crate) enum Input {
 }
 
 impl Input {
-    /// Opens the file at the path; without a path, takes standard input. Errors: the file can't be opened.
     pub(crate) fn of(rt: &HostRuntime, path: Option<&str>) -> io::Result<Input> {
         match path {
             Some(path) => Ok(Input::File(File::open(rt, path)?)),

@@ -9,14 +9,12 @@ use reg_crl::Signer;
 use reg_crl_signer::Device;
 use sqlite_disk::Disk;
 
-/// A register that an audit found sound has sound records, and an office that opens its file has them.
-///
 /// If [`Machine::audit_in`](reg_desk_service::Machine::audit_in) of the [`Host`](crate::Host) returned `Sound`, the file's tables show sound records,
-/// and the derived tables (states, counts, CRL entries) agree with them. If an office then opens the file with these tables, the records stand in it
-/// (`Stands`: its tables show them, and they are sound). So the contracts and laws of [`reg_office`] hold for them. The law assumes (`IsPresumed`)
-/// what no audit can check: each row of the table `listed` stores its last column (else it reads as NULL), and no call left the connection's
-/// transaction broken, which the crate `sqlite` does not state. It also assumes that the stored CRLs are signed by the signer, or the first ones have
-/// the placeholder digest, which an audit does not verify; and disks (`A` of the audit, `D` of the office) that returned what was written.
+/// and the derived tables (states, counts, CRL entries) agree with them. If an office opens the file with these tables, the records stand in it
+/// (`Stands`: its tables show them, and they are sound): the contracts and laws of [`reg_office`] hold for them. The law assumes (`IsPresumed`) what
+/// no audit can check: each row of the table `listed` stores its last column (else it reads as NULL), and no call left the connection's transaction
+/// broken. It also assumes that the signer signed the stored CRLs (the first ones may have a placeholder digest instead), because an audit verifies
+/// no signature. The disks (`A` of the audit, `D` of the office) must have returned what was written.
 pub fn a_register_that_was_found_sound_stands<A: Disk, D: Disk, S: Signer>()
     ensures { (found : FoundSound A.Disk) → StandsOnceAudited D.Disk S.signs found }
 {}
@@ -28,19 +26,17 @@ pub fn without_a_key_only_digests_are_made<D: Device>()
 {}
 
 /// If the machine stops at any moment of a job, the register has the records that the job's replies reported, or those after the interrupted call. If
-/// the job closed the register without an error, it has those that the replies reported. Words in parentheses are fields of `LeavesWhatWasReported`.
+/// the job closed the register without an error, it has those that the replies reported. `begins` and so on are fields of `LeavesWhatWasReported`.
 ///
-/// From the opening of a register to its closing, a job ([`perform`](crate::perform)) changes the register's records only as the replies report
-/// (`UsesRegister` of reg_desk_service). A register of this program's version that is opened has the sound records that its file showed (`begins`).
-/// The machine may stop in any later call, or after it. A register that is then opened again from what the disk kept has the records from before the
-/// interrupted call, or those after it (`leaves`). The interrupted call is the last one (`call`), or an earlier one in which the disk's failure
-/// closed the connection, so that each later call failed (`calls`). The interrupted call got no reply of acceptance. So no accepted command is lost,
-/// and at most one other command was carried out.
-///
-/// At its end a job closes the register. If its files are closed without an error, also if the machine stops then, a register that is opened from
-/// them has the records from before the closing (`closes`), if the connection obeys its schema: `IsLive`, the clause `live` of `Connection::schema`.
-///
-/// The model of a stop: from then on a disk refuses each call and a client gets no reply. A reply is written only after its call.
+/// From the opening of a register to its closing, a job ([`perform`](crate::perform)) changes its records only as the replies report (`UsesRegister`
+/// of reg_desk_service). A register of this program's version that is opened has the sound records that its file showed (`begins`). The machine may
+/// stop in any later call, or after it. Then the disk refuses each call, and no client gets a reply: a reply is written only after its call. A
+/// register that is opened again from what the disk kept has the records from before the interrupted call, or those after it (`leaves`). The
+/// interrupted call is the last one (`call`), or an earlier one in which a failure of the disk closed the connection, so that no later call changed
+/// the records (`calls`). No reply accepted its commands. So no accepted command is lost. Of the others, at most those of this call (such as a batch)
+/// were carried out. If a job closes the files without an error at its end, a register that is opened from them has the records from before the
+/// closing, even if the machine stops then (`closes`). This holds if the connection obeys its schema: `IsLive`, the clause `live` of
+/// `Connection::schema`.
 pub fn a_stop_leaves_what_was_reported<D: Disk, S: Signer>()
     ensures { LeavesWhatWasReported D.Disk S.signs }
 {}

@@ -23,7 +23,7 @@ use reg_office::Office;
 use sqlite::{Connection, MemStore};
 use std::alloc::Global;
 
-/// The Name of a sample issuer: the common name CA (RFC 5280 4.1.2.4).
+/// The Name of a sample issuer, in DER: the common name CA (RFC 5280 4.1.2.4).
 const NAME: [u8; 15] = *b"\x30\x0D\x31\x0B\x30\x09\x06\x03\x55\x04\x03\x0C\x02CA";
 
 /// The public key of that issuer: any bytes, since no signature is made or verified with it.
@@ -31,7 +31,7 @@ const KEY: [u8; 3] = *b"abc";
 
 type MemoryOffice = Office<MemStore, DigestSeal>;
 
-/// Runs the script of standard input over a new register in memory, with a sample issuer and the placeholder digest.
+/// Runs the script in `reader` over a new register in memory, with a sample issuer, the default policy and the placeholder digest.
 pub(crate) fn script_in_memory<R: Source, W: Sink>(
     alloc: Global,
     reader: &mut R,
@@ -41,10 +41,10 @@ pub(crate) fn script_in_memory<R: Source, W: Sink>(
         writer.old writer.new result }
 {
     let mut fresh = office_in_memory(alloc)?;
+    // `ended` makes a `Failure` of a fault.
     ended(run_script(alloc, reader, writer, &mut fresh))
 }
 
-/// The office over a new register in memory, with a sample issuer and the default policy.
 fn office_in_memory(alloc: Global) -> Result<MemoryOffice, Failure>
     ensures ok { IfOk result (λ office. Stands over_memory digests office.store digest sample_records) }
     ensures leaves { IfOk result (λ office.

@@ -1,4 +1,4 @@
-//! The responder to OCSP requests for a register in a file.
+//! Makes the responder to OCSP requests with which a register is opened: the issuer, or a delegate with a certificate and a signer of its own.
 
 ghost use Rattle.std.specs.Prelude.{◌≡◌, ◌⊎◌, IsTrue, IfOk, IfErr, OnErr};
 ghost use Rattle.reg_crl.specs.Signing.{Identity};
@@ -20,8 +20,8 @@ use reg_office::Responder;
 use std::fs;
 use std::io::ErrorKind;
 
-/// The issuer as responder, with the signer of CRLs. If a certificate's path is given, each signed response embeds that certificate. Errors: those
-/// of [`certificate_at`].
+/// The issuer as responder: the signer of CRLs signs responses too. `path` (`--embed`): the file of a certificate that each signed response embeds.
+/// Errors: those of [`certificate_at`].
 pub(crate) fn issuer_responder(
     host: &Host<'_>,
     path: &Option<Argument<'_>>,
@@ -41,8 +41,8 @@ pub(crate) fn issuer_responder(
     }
 }
 
-/// A responder with a key and a signer of its own, and the certificate in the file at a path (RFC 6960 4.2.2.2). Errors: those of [`certificate_at`];
-/// `BadResponder` also if the certificate's key is not of the signer's algorithm.
+/// A responder with its own key: its certificate is in the file at `path` (RFC 6960 4.2.2.2), and its signer is at `address`. Errors: those of
+/// [`certificate_at`]; `BadResponder` also if the certificate's key does not fit the signer's algorithm.
 pub(crate) fn delegate_responder(
     host: &Host<'_>,
     path: &Argument<'_>,
@@ -69,7 +69,7 @@ pub(crate) fn delegate_responder(
     }
 }
 
-/// Reads a file's certificate in DER. Errors: `Memory`; `BadResponder` if it can't be read (the host keeps the cause) or has no valid certificate.
+/// Reads a certificate in DER; the option `location` names its file. `BadResponder` if invalid, or unreadable (the host keeps the cause); `Memory`.
 fn certificate_at(host: &Host<'_>, location: Location, path: &str) -> Result<Certificate, Failure>
     ensures { IfErr result (λ why. (why ≡ Failure.Fault Fault.Memory) ⊎ (why ≡ Failure.BadResponder)) }
 {
@@ -90,7 +90,7 @@ fn certificate_at(host: &Host<'_>, location: Location, path: &str) -> Result<Cer
     }
 }
 
-/// Whether the certificate that the issuer's responses embed has this key; true if they embed none, or if a delegate responds.
+/// Whether the certificate that the issuer's responses embed has the issuer's key, `key`. `true` if they embed none, or if a delegate responds.
 pub(crate) fn embedded_key_fits(responder: &Responder<FileSigner>, key: &[u8]) -> bool
     ensures { IsTrue result → (crls : Identity)
         → EmbeddedKeyFits key.now (answers_by ⟦<FileSigner as Signer>⟧.identity crls responder.now) }

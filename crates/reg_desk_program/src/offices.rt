@@ -1,4 +1,4 @@
-//! Opens, creates and closes the register of a database, and presets signatures.
+//! Creates, opens and closes a register in a database, and presets its signatures. An `Office` is an open register with its signer and responder.
 
 ghost use Rattle.std.specs.Prelude.{◌≡◌, None, false, IfOk, IfErr};
 ghost use Rattle.reg_core.specs.Records.{no_records};
@@ -16,17 +16,17 @@ use reg_crl::Signer;
 use reg_crl_signer::PresetSignature;
 use reg_der::Issuer;
 use reg_desk_cli::Failure;
-use reg_desk_service::{CrlSigner, SignatureKind};
+use reg_desk_service::{CrlSignerChoice, SignatureKind};
 use reg_office::{Office, Responder};
 use reg_store::Store;
 use sqlite::{Alter, Connection, FileFrom, FileStore};
 use sqlite_disk::{Disk, Unknown};
 
-/// A connection to a database file; contracts suppose nothing of the file's bytes (`Unknown`). If a page is read from the file again and has another
-/// digest than before, the call fails.
+/// A connection to a database file, of whose bytes contracts suppose nothing (`Unknown`). If a page that is read from the file again has another
+/// digest than before, the call that reads it fails.
 pub type FileConnection = Connection<FileStore<FileFrom<Unknown>>>;
 
-/// Creates a register in a database, and returns its office. Errors: `NotEmpty`, `Memory` or `Store`, with the connection.
+/// Creates a register in a database, and returns its office. Errors, with the connection: `NotEmpty`, `Memory` and `Store`.
 pub(crate) fn create_over<C: Alter, S: Signer + Drop>(
     connection: Connection<C>,
     issuer: Issuer,
@@ -40,7 +40,7 @@ pub(crate) fn create_over<C: Alter, S: Signer + Drop>(
     ensures alone { IfOk result (λ office. office.responder ≡ ByIssuer None) }
     ensures err { IfErr result (λ left. IsCreateFailure left.0) }
 {
-    // Called only for its contract: the policy is in its ranges.
+    // Does nothing: its contract tells the prover that the policy's numbers are in their ranges.
     policy.prove_ranges();
     match Store::create(connection, issuer, policy) {
         Ok(store) => Ok(Office::new(store, signer)),
@@ -48,12 +48,11 @@ pub(crate) fn create_over<C: Alter, S: Signer + Drop>(
     }
 }
 
-/// Opens the register of a database with this signer of CRLs and this responder, and returns its office. Errors, with the connection:
-/// `NotARegister`, `NewVersion`, and those of [`signer_for`].
+/// Opens the register in a database, and returns its office. Errors, with the connection: `NotARegister`, `NewVersion`, and those of [`signer_for`].
 pub(crate) fn open_over<C: Alter>(
     host: &Host<'_>,
     connection: Connection<C>,
-    crl_signer: &CrlSigner<'_>,
+    crl_signer: &CrlSignerChoice<'_>,
     responder: Responder<FileSigner>,
 ) -> Result<Office<C, FileSigner>, (Failure, Connection<C>)>
     requires { connection.in_transaction ≡ false }
@@ -79,14 +78,14 @@ pub(crate) fn connection_of<C: Alter, S: Signer + Drop>(office: Office<C, S>) ->
     store.into_connection()
 }
 
-/// Closes a connection. If its WAL can't be copied into the file, no record is lost, because the next opening reads the WAL.
+/// Closes a connection. If closing can't copy the WAL into the file, no record is lost: the next opening reads the WAL.
 pub(crate) fn close<D: Disk + Drop>(connection: Connection<FileStore<D>>) {
     drop(connection.close());
 }
 
-/// Presets the next signature of the delegate if `kind` is `Answer` and a delegate responds, else of the signer of CRLs. `None` removes the preset.
-/// Any preset is allowed here; [`Machine::set_preset`](reg_desk_service::Machine::set_preset) requires that a signer gave it.
-#[tactic(auto, using(crate::proofs::Priming::given_anyhow))]
+/// Presets the next signature of the delegate if `kind` is `Answer` (an OCSP response) and a delegate responds, else of the signer of CRLs. `None`
+/// removes the preset. [`Machine::set_preset`](reg_desk_service::Machine::set_preset), which calls this, requires that a signer gave the signature.
+#[tactic(auto, using(crate::proofs::PresetSignatures::given_anyhow))]
 pub(crate) fn preset_next(
     signer: &mut FileSigner,
     responder: &mut Responder<FileSigner>,

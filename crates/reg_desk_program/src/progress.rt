@@ -1,4 +1,4 @@
-//! Shows the progress of a long job on standard error, if that is a terminal.
+//! Shows on standard error, if that is a terminal, that a large register is being opened, and how many lines of a long job are done.
 
 use reg_core::io_cause_of;
 use reg_desk_cli::Job;
@@ -8,13 +8,13 @@ use std::io::{IsTerminal, Stdout, Write};
 use std::time::Clock;
 use std::{fs, io};
 
-/// The opening of a file with at least this many bytes (64 MiB) is shown, because it may take seconds.
+/// Opening a register's file of at least so many bytes (64 MiB) may take seconds, so the opening is shown.
 const LARGE: u64 = 67_108_864;
 
 const MEGABYTE: u64 = 1_000_000;
 
-/// Standard output. For a long job, which replies to each line or row that is done, the number of replies is shown on standard error, at most once a
-/// second. The cause of a failed write is kept in `last_cause`.
+/// Standard output. A long job writes a reply for each line or row; their number, `lines`, is shown on standard error, at most once a second. The
+/// cause of a failed write is kept in `last_cause`.
 #[derive(Drop)]
 pub(crate) struct CountedOutput<'a> {
     rt: &'a HostRuntime,
@@ -22,13 +22,13 @@ pub(crate) struct CountedOutput<'a> {
     last_cause: &'a Cell<Option<FailureCause>>,
     shows_progress: bool,
     lines: u64,
-    /// The seconds of the monotonic clock at the start, and when progress was last shown.
+    /// The seconds of the monotonic clock when the job started, and when progress was last shown.
     started_at: u64,
     last_shown: u64,
 }
 
 impl<'a> CountedOutput<'a> {
-    /// The replies of a long job are counted if standard error is a terminal and standard output is not: else the operator sees the replies.
+    /// Progress is shown for a long job, if standard error is a terminal and standard output is not: on a terminal, the replies themselves show it.
     pub(crate) fn of(
         rt: &'a HostRuntime,
         job: &Job<'_>,
@@ -55,7 +55,7 @@ impl<'a> CountedOutput<'a> {
             return;
         }
         self.last_shown = now;
-        // 0 only if the clock can't be read.
+        // `elapsed` is 0 only if the clock can't be read.
         let elapsed = now.saturating_sub(self.started_at);
         let per_second = self.lines.checked_div(elapsed).unwrap_or(self.lines);
         let lines = self.lines;
@@ -76,7 +76,7 @@ impl<'a> Write for CountedOutput<'a> {
                 return Err(error);
             }
         };
-        // Each reply is one write. If the output takes only a part of it, the rest is another write, and counts again.
+        // Each reply is offered in one write. If the output takes only a part of it, the rest is offered in another one, and counts again.
         if self.shows_progress && buf.ends_with(b"\n") {
             self.count();
         }
@@ -88,7 +88,6 @@ impl<'a> Write for CountedOutput<'a> {
     }
 }
 
-/// Shows that the job opens a large register, if standard error is a terminal.
 pub(crate) fn report_opening(rt: &HostRuntime, job: &Job<'_>) {
     let Some(path) = register_path_of(job) else {
         return;
@@ -120,7 +119,7 @@ fn is_long(job: &Job<'_>) -> bool {
     )
 }
 
-/// The path of the register that a job opens. `None` for a register in memory, and for a job that opens none.
+/// The path of the register that a job opens. `None` for a register in memory, and if the job opens none: `init` creates one; a copy reads bytes.
 pub(crate) fn register_path_of<'a>(job: &Job<'a>) -> Option<&'a str> {
     match job {
         Job::Script { file, .. } => Some(file.as_ref()?.as_str()),
@@ -133,7 +132,6 @@ pub(crate) fn register_path_of<'a>(job: &Job<'a>) -> Option<&'a str> {
         Job::KeyId { file, .. } => Some(file.as_str()),
         Job::Listing(list_job) => Some(list_job.file.as_str()),
         Job::Audit { file } => Some(file.as_str()),
-        // A copy reads the file's bytes, and does not open the register.
         Job::Copy { .. } => None,
         Job::Init(_) => None,
         Job::At { .. } | Job::EachRow { .. } | Job::Replay { .. } => None,

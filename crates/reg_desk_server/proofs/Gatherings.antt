@@ -57,8 +57,8 @@ gathers_then a b c x y z ended ended' goes first rest = record {
 
 -- more of a reply was sent, and then the bytes that came were received
 pub advances_taken : {S : Type 0} (contents remaining : S → Option (List ℕ)) (old new : ControlConnection S) (m : S) (u : Unsent) (rests : Sent)
-    → SendsUnsent contents old.link m old.unsent u rests → new.unsent ≡ u
-    → Gathers (remaining m) (remaining new.link) old.arrived.items new.arrived.items new.has_ended
+    → SendsUnsent contents old.stream m old.unsent u rests → new.unsent ≡ u
+    → Gathers (remaining m) (remaining new.stream) old.arrived.items new.arrived.items new.has_ended
     → StaysEnded old new → Advances contents remaining old new
 advances_taken contents remaining old new m u rests sent same gathered over = record {
   between = m;

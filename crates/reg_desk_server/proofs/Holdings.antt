@@ -108,12 +108,12 @@ none_left _ rest left empty = absurd empty
 
 -- the last bytes of an answer were sent, and the connection drains
 pub sends_last : {S H T L : Type 0} (contents : S → Option (List ℕ)) (old between new : HttpConnection S H T L) → Sends contents old between
-    → HasUnsentText between.stage [] → new.link ≡ between.link → new.stage ≡ stage.Draining → Sends contents old new
+    → HasUnsentText between.stage [] → new.stream ≡ between.stream → new.stage ≡ stage.Draining → Sends contents old new
 sends_last {S = S} {T = T} contents old between new sends empty same drains text holds =
     let (went, rest, parted, appended, left) = sends text holds in (
       went,
       rest,
       parted,
-      subst (λ (v : S). Appends (contents old.link) (contents v) went) (sym same) appended,
+      subst (λ (v : S). Appends (contents old.stream) (contents v) went) (sym same) appended,
       subst (λ (v : Stage T). HasUnsentRest v rest) (sym drains) (none_left between.stage rest left empty),
     )

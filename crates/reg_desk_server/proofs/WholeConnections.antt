@@ -10,7 +10,7 @@ use Rattle.reg_crl_signer.specs.OpenConnections.{SinceOpened, more_received, mor
 use Rattle.reg_http_head.specs.Bytes.{collected_bytes}
 use Rattle.reg_http_head.specs.declared.collected.Collected.{Collected}
 use Rattle.reg_desk_server.specs.Connections.{FinishesInSomeState, IsServedOnce, HasAnsweredLines, IsAnsweredAtMostOnce, IsAnsweredBy, KeepsServed, ServesOn, AnswersNoMoreLines, AnswersMoreLines, WasAnswered, WasLeftUnsigned}
-use Rattle.reg_desk_server.specs.ControlLines.{DefersFirstLine, Gathers, IsFresh, SameLines, SameLinkAndEnd, AnswersFirstLines, AnswersDeferred}
+use Rattle.reg_desk_server.specs.ControlLines.{DefersFirstLine, Gathers, IsFresh, SameLines, SameStreamAndEnd, AnswersFirstLines, AnswersDeferred}
 use Rattle.reg_desk_server.specs.LineEnds.{IsWholeLines}
 use Rattle.reg_desk_server.specs.Exchange.{Outcome, said, pending, later}
 use Rattle.reg_desk_server.specs.Stages.{Answering, Finishing, HasReceived, HasUnsentText, HasUnsentRest, IsDraining, IsDropped, KeepsOutcome, AwaitsSignature, KeepsReceived}
@@ -50,7 +50,7 @@ part_on gone went rest text parted = ap (λ (l : List ℕ). gone ++ l) parted �
 
 module _ {S H : Type 0} (contents remaining : S → Option (List ℕ)) (answers_lines : H → List ℕ → List ℕ → H → Type 0) where
   -- on a connection that was just accepted, no line was answered
-  pub told_none : (connection : ControlConnection S) → IsFresh connection → HasAnsweredLines contents remaining answers_lines connection.link connection [] []
+  pub told_none : (connection : ControlConnection S) → IsFresh connection → HasAnsweredLines contents remaining answers_lines connection.stream connection [] []
   told_none connection fresh = record {
     arrived = [];
     gone = [];
@@ -73,8 +73,8 @@ module _ {S H : Type 0} (contents remaining : S → Option (List ℕ)) (answers_
         gone = was.gone ++ step.went;
         lost = lost;
         since =
-            more_received was.arrived (was.gone ++ step.went) (it.kept ++ it.lost) step.between new.link
-            (more_sent was.arrived was.gone step.went old.link step.between was.since step.appended)
+            more_received was.arrived (was.gone ++ step.went) (it.kept ++ it.lost) step.between new.stream
+            (more_sent was.arrived was.gone step.went old.stream step.between was.since step.appended)
             it.consumed;
         told = ap (λ (l : List ℕ). l ++ (it.kept ++ it.lost)) was.told ∙ front;
         answered = was.answered ∙ part_on was.gone step.went (unsent_of new.unsent) (unsent_of old.unsent) step.parted;
@@ -84,7 +84,7 @@ module _ {S H : Type 0} (contents remaining : S → Option (List ℕ)) (answers_
 
   -- the first lines were answered
   told_more : (first : S) (s t : H) (old new : ControlConnection S) (lines replies : List (List ℕ)) (end : ℕ)
-      → HasAnsweredLines contents remaining answers_lines first old lines replies → SameLinkAndEnd old new → IsWholeLines (take end old.arrived.items)
+      → HasAnsweredLines contents remaining answers_lines first old lines replies → SameStreamAndEnd old new → IsWholeLines (take end old.arrived.items)
       → unsent_of old.unsent ≡ [] → answers_lines s (take end old.arrived.items) (unsent_of new.unsent) t → new.arrived.items ≡ drop end old.arrived.items
       → HasAnsweredLines contents remaining answers_lines first new (lines ++ take end old.arrived.items ∷ []) (replies ++ unsent_of new.unsent ∷ [])
   told_more first s t old new lines replies end was same mark none step rest =
@@ -109,7 +109,7 @@ module _ {S H : Type 0} (contents remaining : S → Option (List ℕ)) (answers_
       }
 
   -- neither the kept bytes nor the unsent ones changed
-  told_same : (first : S) (old new : ControlConnection S) (lines replies : List (List ℕ)) → SameLinkAndEnd old new → SameLines old new
+  told_same : (first : S) (old new : ControlConnection S) (lines replies : List (List ℕ)) → SameStreamAndEnd old new → SameLines old new
       → HasAnsweredLines contents remaining answers_lines first old lines replies → HasAnsweredLines contents remaining answers_lines first new lines replies
   told_same first old new lines replies same as_held was = record {
     arrived = was.arrived;
@@ -159,14 +159,14 @@ module _ {H T : Type 0} (answers : H → List ℕ → Outcome T → H → Type 0
   answered_as arrived text other same was = subst (λ (l : List ℕ). WasAnswered answers finishes arrived l) same was
 
   -- more of a request was received
-  asking_on : (collected : Collected) (after : Stage T) (arrived gone bytes kept lost : List ℕ) (ended ended' : Bool)
+  requests_on : (collected : Collected) (after : Stage T) (arrived gone bytes kept lost : List ℕ) (ended ended' : Bool)
       → IsAnsweredAtMostOnce answers finishes arrived gone (stage.Receiving collected) ended → HasReceived after bytes → bytes ≡ collected_bytes collected ++ kept
       → (lost ≡ []) ⊎ (ended' ≡ true) → (ended ≡ true → (bytes ≡ collected_bytes collected) × (ended' ≡ true))
       → IsAnsweredAtMostOnce answers finishes (arrived ++ (kept ++ lost)) gone after ended'
-  asking_on collected (stage.Receiving more) arrived gone bytes kept lost ended ended' was asks grows whole over =
+  requests_on collected (stage.Receiving more) arrived gone bytes kept lost ended ended' was asks grows whole over =
       let (all, joined, still) = lost_on [] (collected_bytes collected) bytes was.1 kept lost ended ended' was.3 grows whole over in
       (was.0, all, ap (λ (l : List ℕ). l ++ (kept ++ lost)) was.2 ∙ joined ∙ ap (λ (l : List ℕ). l ++ all) asks, still)
-  asking_on collected _ arrived gone bytes kept lost ended ended' was asks grows whole over = absurd asks
+  requests_on collected _ arrived gone bytes kept lost ended ended' was asks grows whole over = absurd asks
 
   -- an answer is still left to be signed
   waiting_on : (after : Stage T) (arrived gone : List ℕ) (ticket : T) (ended : Bool) → gone ≡ [] → WasLeftUnsigned answers arrived ticket → AwaitsSignature after ticket
@@ -249,7 +249,7 @@ module _ {H T : Type 0} (answers : H → List ℕ → Outcome T → H → Type 0
 
 module _ {S H T L : Type 0} (contents remaining : S → Option (List ℕ)) (g : Ghosts H T L) where
   -- a connection that was just accepted
-  pub served_none : (connection : HttpConnection S H T L) → HasReceived connection.stage [] → IsServedOnce contents remaining g connection.link connection
+  pub served_none : (connection : HttpConnection S H T L) → HasReceived connection.stage [] → IsServedOnce contents remaining g connection.stream connection
   served_none connection asks = record { arrived = []; gone = []; since = nothing_yet; once = go connection.stage asks }
     where
       go : (at : Stage T) → HasReceived at [] → IsAnsweredAtMostOnce g.answers (FinishesInSomeState g.finishes) [] [] at (is_some connection.fault)
@@ -262,22 +262,22 @@ module _ {S H T L : Type 0} (contents remaining : S → Option (List ℕ)) (g : 
     where
       go : (at : Stage T) → IsAnsweredAtMostOnce g.answers (FinishesInSomeState g.finishes) was.arrived was.gone at (is_some old.fault)
           → ((bytes : List ℕ) → HasReceived at bytes
-          → (bytes' : List ℕ) × HasReceived new.stage bytes' × Gathers (remaining old.link) (remaining new.link) bytes bytes' (is_some new.fault)
+          → (bytes' : List ℕ) × HasReceived new.stage bytes' × Gathers (remaining old.stream) (remaining new.stream) bytes bytes' (is_some new.fault)
           × (is_some old.fault ≡ true → (bytes' ≡ bytes) × (is_some new.fault ≡ true)))
           → ((text : List ℕ) → HasUnsentText at text
-          → (went : List ℕ) × (rest : List ℕ) × (text ≡ went ++ rest) × Appends (contents old.link) (contents new.link) went
+          → (went : List ℕ) × (rest : List ℕ) × (text ≡ went ++ rest) × Appends (contents old.stream) (contents new.stream) went
           × HasUnsentRest new.stage rest)
-          → (((ticket : T) → AwaitsSignature at ticket → AwaitsSignature new.stage ticket × IsDropped (remaining old.link) (remaining new.link))
-          × (IsDraining at → IsDraining new.stage × IsDropped (remaining old.link) (remaining new.link)))
+          → (((ticket : T) → AwaitsSignature at ticket → AwaitsSignature new.stage ticket × IsDropped (remaining old.stream) (remaining new.stream))
+          × (IsDraining at → IsDraining new.stage × IsDropped (remaining old.stream) (remaining new.stream)))
           → IsServedOnce contents remaining g first new
       go (stage.Receiving collected) once receives sends drops =
           let (bytes, asks, it, over) = receives (collected_bytes collected) refl in
           record {
             arrived = was.arrived ++ (it.kept ++ it.lost);
             gone = was.gone;
-            since = more_received was.arrived was.gone (it.kept ++ it.lost) old.link new.link was.since it.consumed;
+            since = more_received was.arrived was.gone (it.kept ++ it.lost) old.stream new.stream was.since it.consumed;
             once =
-                asking_on g.answers (FinishesInSomeState g.finishes) collected new.stage was.arrived was.gone bytes it.kept it.lost (is_some old.fault)
+                requests_on g.answers (FinishesInSomeState g.finishes) collected new.stage was.arrived was.gone bytes it.kept it.lost (is_some old.fault)
                 (is_some new.fault) once asks it.held it.whole over;
           }
       go (stage.Signing ticket exact) once receives sends drops =
@@ -285,7 +285,7 @@ module _ {S H T L : Type 0} (contents remaining : S → Option (List ℕ)) (g : 
           record {
             arrived = was.arrived ++ dropped.0;
             gone = was.gone;
-            since = more_received was.arrived was.gone dropped.0 old.link new.link was.since dropped.1;
+            since = more_received was.arrived was.gone dropped.0 old.stream new.stream was.since dropped.1;
             once =
                 waiting_on g.answers (FinishesInSomeState g.finishes) new.stage (was.arrived ++ dropped.0) was.gone ticket (is_some new.fault) once.0
                 (left_behind g.answers (FinishesInSomeState g.finishes) was.arrived dropped.0 ticket once.1)
@@ -296,7 +296,7 @@ module _ {S H T L : Type 0} (contents remaining : S → Option (List ℕ)) (g : 
           record {
             arrived = was.arrived;
             gone = was.gone ++ went;
-            since = more_sent was.arrived was.gone went old.link new.link was.since appended;
+            since = more_sent was.arrived was.gone went old.stream new.stream was.since appended;
             once =
                 sending_on g.answers (FinishesInSomeState g.finishes) new.stage was.arrived was.gone went rest (unsent_of unsent) (is_some new.fault) once
                 parted left;
@@ -306,7 +306,7 @@ module _ {S H T L : Type 0} (contents remaining : S → Option (List ℕ)) (g : 
           record {
             arrived = was.arrived ++ dropped.0;
             gone = was.gone;
-            since = more_received was.arrived was.gone dropped.0 old.link new.link was.since dropped.1;
+            since = more_received was.arrived was.gone dropped.0 old.stream new.stream was.since dropped.1;
             once =
                 leaving_on g.answers (FinishesInSomeState g.finishes) new.stage (was.arrived ++ dropped.0) was.gone (is_some new.fault)
                 (answered_behind g.answers (FinishesInSomeState g.finishes) was.arrived dropped.0 was.gone once)

@@ -6,7 +6,7 @@ use Rattle.std.specs.List.{AllZip, concat}
 use Rattle.reg_crl_signer.specs.OpenConnections.{SinceOpened}
 use Rattle.reg_http_head.specs.Bytes.{collected_bytes}
 use Rattle.reg_desk_server.specs.Exchange.{Outcome, said, pending}
-use Rattle.reg_desk_server.specs.ControlLines.{Advances, SameLinkAndEnd}
+use Rattle.reg_desk_server.specs.ControlLines.{Advances, SameStreamAndEnd}
 use Rattle.reg_desk_server.specs.LineEnds.{IsWholeLines}
 use Rattle.reg_desk_server.specs.Stages.{Drops, Sends, ReceivesMore}
 use Rattle.reg_desk_server.specs.Buffers.{unsent_of}
@@ -31,7 +31,7 @@ module _ {S H : Type 0} (contents remaining : S → Option (List ℕ))
     pub arrived : List ℕ
     pub gone : List ℕ
     pub lost : List ℕ
-    pub since : SinceOpened contents remaining first arrived gone connection.link
+    pub since : SinceOpened contents remaining first arrived gone connection.stream
     pub told : arrived ≡ concat lines ++ connection.arrived.items ++ lost
     pub answered : concat replies ≡ gone ++ unsent_of connection.unsent
     pub each : AllZip (IsAnsweredBy answers_lines) lines replies
@@ -51,7 +51,7 @@ module _ {S H : Type 0} (contents remaining : S → Option (List ℕ))
       → Type 0
   AnswersMoreLines step rests =
       (first : S) (s t : H) (old new : ControlConnection S) (lines replies : List (List ℕ))
-      → HasAnsweredLines first old lines replies → SameLinkAndEnd old new → step s t old new
+      → HasAnsweredLines first old lines replies → SameStreamAndEnd old new → step s t old new
       → ((more : List ℕ) × answers_lines s more (unsent_of new.unsent) t
       × HasAnsweredLines first new (lines ++ more ∷ []) (replies ++ unsent_of new.unsent ∷ []))
       ⊎ (rests s t old × HasAnsweredLines first new lines replies)
@@ -94,7 +94,7 @@ module _ {S H T L : Type 0} (contents remaining : S → Option (List ℕ)) (g : 
   pub record IsServedOnce (first : S) (connection : HttpConnection S H T L) : Type 0 where
     pub arrived : List ℕ
     pub gone : List ℕ
-    pub since : SinceOpened contents remaining first arrived gone connection.link
+    pub since : SinceOpened contents remaining first arrived gone connection.stream
     pub once : IsAnsweredAtMostOnce g.answers (FinishesInSomeState g.finishes) arrived gone connection.stage
         (is_some connection.fault)
 
@@ -108,6 +108,6 @@ module _ {S H T L : Type 0} (contents remaining : S → Option (List ℕ)) (g : 
   -- a step that changes the stage and not the link, and clears no fault, preserves `IsServedOnce`
   abbrev pub KeepsServed : (Stage T → Stage T → Type 0) → Type 0
   KeepsServed step =
-      (first : S) (old new : HttpConnection S H T L) → IsServedOnce first old → new.link ≡ old.link
+      (first : S) (old new : HttpConnection S H T L) → IsServedOnce first old → new.stream ≡ old.stream
       → step old.stage new.stage
       → (is_some old.fault ≡ true → is_some new.fault ≡ true) → IsServedOnce first new

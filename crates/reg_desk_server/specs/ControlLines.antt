@@ -16,8 +16,8 @@ module _ {S : Type 0} where
       (connection.arrived.items ≡ []) × (unsent_of connection.unsent ≡ []) × (connection.has_ended ≡ false)
 
   -- the link of the connection did not change, nor whether it has ended
-  abbrev pub SameLinkAndEnd : ControlConnection S → ControlConnection S → Type 0
-  SameLinkAndEnd old new = (new.link ≡ old.link) × (new.has_ended ≡ old.has_ended)
+  abbrev pub SameStreamAndEnd : ControlConnection S → ControlConnection S → Type 0
+  SameStreamAndEnd old new = (new.stream ≡ old.stream) × (new.has_ended ≡ old.has_ended)
 
   -- if the connection has ended, no more bytes are kept, and it stays ended
   abbrev pub StaysEnded : ControlConnection S → ControlConnection S → Type 0
@@ -69,7 +69,7 @@ pub record Gathers (input left : Option (List ℕ)) (before after : List ℕ) (e
 abbrev pub GathersOn
     : {S : Type 0} → (S → Option (List ℕ)) → ControlConnection S → ControlConnection S → Type 0
 GathersOn remaining old new =
-    Gathers (remaining old.link) (remaining new.link) old.arrived.items new.arrived.items new.has_ended
+    Gathers (remaining old.stream) (remaining new.stream) old.arrived.items new.arrived.items new.has_ended
 
 -- whether nothing more comes on a connection after a read with this result
 abbrev pub ends_by : Received → Bool
@@ -99,8 +99,8 @@ pub record Advances {S : Type 0} (contents remaining : S → Option (List ℕ))
     (old new : ControlConnection S) : Type 0 where
   pub between : S
   pub went : List ℕ
-  pub appended : Appends (contents old.link) (contents between) went
+  pub appended : Appends (contents old.stream) (contents between) went
   pub parted : unsent_of old.unsent ≡ went ++ unsent_of new.unsent
-  pub gathered : Gathers (remaining between) (remaining new.link) old.arrived.items new.arrived.items
+  pub gathered : Gathers (remaining between) (remaining new.stream) old.arrived.items new.arrived.items
       new.has_ended
   pub over : StaysEnded old new

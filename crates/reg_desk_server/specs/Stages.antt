@@ -77,7 +77,7 @@ module _ {S H T L : Type 0} where
   ReceivesMore remaining old new =
       (bytes : List ℕ) → HasReceived old.stage bytes
       → (bytes' : List ℕ) × HasReceived new.stage bytes'
-      × Gathers (remaining old.link) (remaining new.link) bytes bytes' (is_some new.fault)
+      × Gathers (remaining old.stream) (remaining new.stream) bytes bytes' (is_some new.fault)
       × (is_some old.fault ≡ true → (bytes' ≡ bytes) × (is_some new.fault ≡ true))
 
   -- if an answer was being sent, its next bytes were sent, and the rest is kept
@@ -85,16 +85,16 @@ module _ {S H T L : Type 0} where
   Sends contents old new =
       (text : List ℕ) → HasUnsentText old.stage text
       → (went : List ℕ) × (rest : List ℕ) × (text ≡ went ++ rest)
-      × Appends (contents old.link) (contents new.link) went
+      × Appends (contents old.stream) (contents new.stream) went
       × HasUnsentRest new.stage rest
 
   -- if an answer is left to be signed, or was sent, the bytes that come are dropped, and the stage (with its ticket) stays
   abbrev pub Drops : (S → Option (List ℕ)) → HttpConnection S H T L → HttpConnection S H T L → Type 0
   Drops remaining old new =
       ((ticket : T) → AwaitsSignature old.stage ticket
-      → AwaitsSignature new.stage ticket × IsDropped (remaining old.link) (remaining new.link))
-      × (IsDraining old.stage → IsDraining new.stage × IsDropped (remaining old.link) (remaining new.link))
+      → AwaitsSignature new.stage ticket × IsDropped (remaining old.stream) (remaining new.stream))
+      × (IsDraining old.stage → IsDraining new.stage × IsDropped (remaining old.stream) (remaining new.stream))
 
   -- neither the connection's link nor its fault changed
-  abbrev pub SameLinkAndFault : HttpConnection S H T L → HttpConnection S H T L → Type 0
-  SameLinkAndFault old new = (new.link ≡ old.link) × (new.fault ≡ old.fault)
+  abbrev pub SameStreamAndFault : HttpConnection S H T L → HttpConnection S H T L → Type 0
+  SameStreamAndFault old new = (new.stream ≡ old.stream) × (new.fault ≡ old.fault)

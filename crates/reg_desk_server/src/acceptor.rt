@@ -1,4 +1,4 @@
-//! The acceptor of HTTP connections.
+//! Accepts HTTP connections at the TCP port, and gives each one a slot: its place among the open connections.
 
 ghost use Rattle.std.specs.Prelude.{◌≡◌, ◌≤◌, IfOk, OnErr, false, true};
 ghost use Rattle.reg_desk_server.specs.Failures.{AcceptFails};
@@ -16,16 +16,16 @@ use std::net::SocketAddr;
 
 const MOST_ACCEPTS: usize = 64;
 
-/// A listener, and in `next` the connection that was accepted and has no slot yet, if there is one.
+/// The listener; the accepted connection that has no slot yet (`next`), if there is one; and how many were `accepted`: the number of the last one.
 #[derive(Drop)]
 pub(crate) struct Acceptor {
     listener: TcpListener,
     next: Option<(TcpStream, SocketAddr)>,
     /// Whether another connection may be waiting at the listener.
     may_have_more: bool,
-    /// Whether one is assumed to wait: the listener was ready or can't be polled, and none was accepted since. Only then does an accept error evict.
-    has_more: bool,
-    /// Whether there was no descriptor for a waiting connection, and no HTTP connection whose descriptor could be freed for it.
+    /// Whether one is expected: since the last accept the listener became ready, or registering it failed. Only then may an error evict a connection.
+    expects_more: bool,
+    /// Whether no file descriptor was left for a waiting connection, and no HTTP connection was open that could be closed to free one.
     pub(crate) lacks_descriptors: bool,
     pub(crate) accepted: u64,
 }
@@ -39,27 +39,27 @@ impl Acceptor {
             listener,
             next: None,
             may_have_more: true,
-            has_more: false,
+            expects_more: false,
             lacks_descriptors: false,
             accepted: 0,
         })
     }
 
     pub(crate) fn mark_ready(&mut self)
-        ensures { self.new.has_more ≡ true }
+        ensures { self.new.expects_more ≡ true }
     {
         self.may_have_more = true;
-        self.has_more = true;
+        self.expects_more = true;
     }
 
-    /// Whether an accepted connection has no slot yet, or another may be accepted without exceeding `limit` in all.
+    /// Whether `accept_all` has work: a connection has no slot yet, or another may be waiting and fewer than `limit` were accepted in all.
     pub(crate) fn is_ready(&self, limit: u64) -> bool {
         self.next.is_some() || (self.may_have_more && self.accepted < limit)
     }
 
-    /// Accepts waiting connections: at most `limit` in all, and [`MOST_ACCEPTS`] in a call, so that open ones needn't wait long. Evicts an HTTP
-    /// connection if there is no slot for the next one, or if accept(2) fails though one waits (not if a signal came, or if the client is gone). If
-    /// there is none to evict, the next call tries again if descriptors ran out; any other error is an [`EventLoopFault`].
+    /// Accepts connections until `limit` were accepted in all; at most [`MOST_ACCEPTS`] in one call. `now`: milliseconds of the handler's clock.
+    /// Evicts a connection if no slot is free, or if accept(2) fails while one is expected (not if a signal came, the client is gone or none waits).
+    /// If there is none to evict: after a lack of descriptors the next call tries again; any other error is an [`EventLoopFault`].
     pub(crate) fn accept_all<H: Handler>(
         &mut self,
         limit: u64,
@@ -89,7 +89,7 @@ impl Acceptor {
         }
     }
 
-    /// Accepts the next connection and gives it a slot. Returns whether the connection got one.
+    /// Accepts the next connection, gives it a slot, and reads what has come on it. Returns whether a connection got a slot.
     fn accept<H: Handler>(
         &mut self,
         limit: u64,
@@ -103,15 +103,15 @@ impl Acceptor {
     {
         self.accept_next(limit, connections, shared, handler)?;
         if self.next.is_some() && !connections.slots.has_free() {
-            // A later call gives the freed slot to `next`.
+            // A later call gives `next` a slot, once the evicted connection has freed one.
             connections.evict(shared);
             return Ok(false);
         }
         match self.next.take() {
-            Some((link, client)) => {
+            Some((stream, client)) => {
                 let connection = HttpConnection::new(
                     shared.alloc,
-                    link,
+                    stream,
                     client,
                     self.accepted,
                     now,
@@ -133,17 +133,17 @@ impl Acceptor {
         handler: &H,
     ) -> Result<(), EventLoopFault>
         ensures within { self.old.accepted ≤ limit → self.new.accepted ≤ limit }
-        ensures kept { self.old.has_more ≡ false → connections.new ≡ connections.old }
+        ensures kept { self.old.expects_more ≡ false → connections.new ≡ connections.old }
         ensures fails { OnErr result H.failed }
     {
         if self.next.is_some() || !self.may_have_more || self.accepted >= limit {
             return Ok(());
         }
         match handler.accept(&self.listener) {
-            Ok((link, client)) => {
+            Ok((stream, client)) => {
                 self.accepted += 1;
-                self.has_more = false;
-                self.next = Some((link, client));
+                self.expects_more = false;
+                self.next = Some((stream, client));
                 Ok(())
             }
             Err(error) => self.after_accept_error(&error, connections, shared),
@@ -158,7 +158,7 @@ impl Acceptor {
     ) -> Result<(), EventLoopFault>
         requires { AcceptFails H.failed error.now }
         ensures same { self.new.accepted ≡ self.old.accepted }
-        ensures kept { self.old.has_more ≡ false → connections.new ≡ connections.old }
+        ensures kept { self.old.expects_more ≡ false → connections.new ≡ connections.old }
         ensures fails { OnErr result H.failed }
     {
         match error.kind() {
@@ -167,8 +167,8 @@ impl Acceptor {
                 Ok(())
             }
             ErrorKind::Interrupted | ErrorKind::ConnectionAborted => Ok(()),
-            // Perhaps no connection waits: Linux reports a lack of descriptors even then.
-            _ if !self.has_more => {
+            // Perhaps no connection waits: Linux reports a lack of descriptors even if none does.
+            _ if !self.expects_more => {
                 self.reregister(&shared.poller);
                 Ok(())
             }
@@ -176,7 +176,6 @@ impl Acceptor {
                 connections.evict(shared);
                 Ok(())
             }
-            // No descriptor is left, and no HTTP connection can be evicted to free one.
             _ if is_out_of_descriptors(error) => {
                 self.may_have_more = false;
                 self.lacks_descriptors = true;
@@ -186,7 +185,7 @@ impl Acceptor {
         }
     }
 
-    /// Registers the listener again, so that it is reported as ready if a connection waits. If that fails, assumes that one does.
+    /// Registers the listener again (`true`), so that it is reported as ready if a connection waits. If that fails, assumes that one waits.
     fn reregister(&mut self, poller: &Poller)
         ensures { self.new.accepted ≡ self.old.accepted }
     {
@@ -194,6 +193,6 @@ impl Acceptor {
             .register(&mut self.listener, HTTP_LISTENER, Interest::READABLE, true)
             .is_ok();
         self.may_have_more = !is_registered;
-        self.has_more = !is_registered;
+        self.expects_more = !is_registered;
     }
 }

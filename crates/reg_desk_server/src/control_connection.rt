@@ -1,14 +1,14 @@
-//! One control connection, whose lines are answered in their order.
+//! One connection at the control socket: receives lines, passes them to the handler in their order, and sends the replies.
 
 ghost use Rattle.std.specs.Prelude.{◌≡◌, ◌≤◌, ◌⊎◌, [], length, drop, Some, None, true, false, MatchOption, IfNone, OnOk, OnErr};
 ghost use Rattle.reg_desk_server.specs.Buffers.{AddsTo, Receives, unsent_of};
 ghost use Rattle.reg_desk_server.specs.LineEnds.{EndsLine, FirstLineEnds, HasNoLine};
-ghost use Rattle.reg_desk_server.specs.ControlLines.{Advances, DefersFirstLine, GathersOn, IsFresh, SameLinkAndEnd, StaysEnded, AnswersFirstLines, AnswersDeferred, ends_by, fault_by, loss_of};
+ghost use Rattle.reg_desk_server.specs.ControlLines.{Advances, DefersFirstLine, GathersOn, IsFresh, SameStreamAndEnd, StaysEnded, AnswersFirstLines, AnswersDeferred, ends_by, fault_by, loss_of};
 
 use crate::handler::{ConnectionFault, Deferred, EventLoopFault, Handler, LineReplies};
-use crate::http_connection::Next;
-use crate::link::Link;
+use crate::http_connection::NextStep;
 use crate::request_bytes::Received;
+use crate::stream::ClientStream;
 use crate::unsent::{Sent, Unsent};
 use mio::Interest;
 use reg_crl_signer::SignatureRequest;
@@ -16,33 +16,31 @@ use reg_io::first_delimiter;
 use std::alloc::Global;
 use std::io::{ErrorKind, Read};
 
-/// A connection that keeps at least this many bytes without an LF is closed. No valid line is so long: it has at most 8,192 bytes before its LF.
+/// A connection that keeps at least this many bytes without an LF is closed. No valid line is so long: with its LF it has at most 8,193 bytes.
 const LONGEST_LINE: usize = 8_194;
 
 const MOST_READS: usize = 4;
 
-/// The most lines that one call passes to the handler. Other connections wait while it answers them.
+/// The most lines that one call passes to the handler. All other connections wait while the handler answers them.
 const MOST_LINES: usize = 256;
 
-/// How often, at most, a line's signature is requested in the background. After that, answering the line blocks the loop while the signer signs.
+/// How often at most a line's signature is requested while the loop goes on. After that, answering the line blocks the loop while the signer signs.
 const MOST_DEFERRALS: u32 = 3;
 
 /// A client's connection at the control socket.
 #[derive(Drop)]
-pub struct ControlConnection<S: Link> {
-    pub(crate) link: S,
+pub struct ControlConnection<S: ClientStream> {
+    pub(crate) stream: S,
     /// The bytes that came and were not answered yet.
     pub(crate) arrived: Vec<u8>,
     pub(crate) unsent: Unsent,
-    /// Whether nothing more is received: the client has half-closed, a read failed, or there was no memory for what came.
+    /// Whether nothing more is received: the client has half-closed, a read failed, or there was no memory for what came (`fault` is then `Memory`).
     pub(crate) has_ended: bool,
-    /// `Memory` if there was none for bytes that came.
     pub(crate) fault: Option<ConnectionFault>,
-    /// Whether `link` was registered with the poller.
     pub(crate) is_registered: bool,
     /// How often the first line was passed to `Handler::defer` since the last reply.
     pub(crate) deferrals: u32,
-    /// The text that the line `why` reports ([`Handler::answer_lines`]).
+    /// The text that the line `why` reports: mostly why the last refused line was refused ([`Handler::answer_lines`]).
     pub(crate) last_reason: Vec<u8>,
 }
 
@@ -71,14 +69,14 @@ fn lines_end(bytes: &[u8]) -> Option<usize>
     Some(end)
 }
 
-impl<S: Link> ControlConnection<S> {
+impl<S: ClientStream> ControlConnection<S> {
     /// A connection that was just accepted: nothing came yet, and nothing is to be sent.
-    pub fn new(alloc: Global, link: S) -> ControlConnection<S>
-        ensures link { result.link ≡ link }
+    pub fn new(alloc: Global, stream: S) -> ControlConnection<S>
+        ensures stream { result.stream ≡ stream }
         ensures fresh { IsFresh result }
     {
         ControlConnection {
-            link,
+            stream,
             arrived: Vec::new(alloc),
             unsent: Unsent::new(Vec::new(alloc)),
             has_ended: false,
@@ -89,73 +87,72 @@ impl<S: Link> ControlConnection<S> {
         }
     }
 
-    /// Sends more of the reply without blocking; once all is sent, reads until a line is whole, at most `MOST_READS` times. Returns the next step.
-    pub fn advance(&mut self, read_buffer: &mut [u8]) -> Next
+    /// Sends more of the reply without blocking. Once all is sent, reads until a line is whole, in at most `MOST_READS` reads. Returns the next step.
+    pub fn advance(&mut self, read_buffer: &mut [u8]) -> NextStep
         ensures advances { Advances S.Write.contents S.Read.remaining self.old self.new }
 
         // Once the previous reply is sent, a whole line is due, even if the client has half-closed.
         ensures whole { unsent_of self.new.unsent ≡ []
-            → (result ≡ Next.Due) ⊎ HasNoLine self.new.arrived.items }
+            → (result ≡ NextStep.Due) ⊎ HasNoLine self.new.arrived.items }
     {
-        let sent = self.unsent.send_on(&mut self.link);
+        let sent = self.unsent.send_on(&mut self.stream);
         if self.unsent.len() == 0 {
             return self.receive(read_buffer);
         }
         match sent {
-            Sent::Broken => Next::Close,
-            _ => Next::Poll(Interest::WRITABLE),
+            Sent::Broken => NextStep::Close,
+            _ => NextStep::Poll(Interest::WRITABLE),
         }
     }
 
-    /// Reads until a line is whole, at most `MOST_READS` times. After a half-close nothing more comes.
-    fn receive(&mut self, read_buffer: &mut [u8]) -> Next
+    fn receive(&mut self, read_buffer: &mut [u8]) -> NextStep
         ensures gathers { GathersOn S.Read.remaining self.old self.new }
         ensures ended { StaysEnded self.old self.new }
         ensures unsent { self.new.unsent ≡ self.old.unsent }
-        ensures whole { (result ≡ Next.Due) ⊎ HasNoLine self.new.arrived.items }
+        ensures whole { (result ≡ NextStep.Due) ⊎ HasNoLine self.new.arrived.items }
     {
         for _ in 0..MOST_READS {
             if let Some(next) = self.after_reading() {
                 return next;
             }
             if !self.receive_once(read_buffer) {
-                return Next::Poll(Interest::READABLE);
+                return NextStep::Poll(Interest::READABLE);
             }
         }
-        // The last read may have completed a line. Its client may wait for the reply and send nothing more.
+        // The last read may have completed a line, and its client may send nothing more before the reply.
         match self.after_reading() {
             Some(next) => next,
-            None => Next::Poll(Interest::READABLE),
+            None => NextStep::Poll(Interest::READABLE),
         }
     }
 
-    /// The next step if no more is to be read: `Due` if a line is whole; `Close` if the input ended without one or the line is too long; else `None`.
-    fn after_reading(&self) -> Option<Next>
+    /// The next step if no more is to be read: `Due` if a line is whole, `Close` if the input ended without one or the line is too long. Else `None`.
+    fn after_reading(&self) -> Option<NextStep>
         ensures goes_on { IfNone result (self.now.has_ended ≡ false) }
-        ensures whole { (result ≡ Some Next.Due) ⊎ HasNoLine self.now.arrived.items }
+        ensures whole { (result ≡ Some NextStep.Due) ⊎ HasNoLine self.now.arrived.items }
     {
         match line_end(self.arrived.as_slice()) {
-            Some(_) => Some(Next::Due),
-            None if self.has_ended => Some(Next::Close),
-            None if self.arrived.len() >= LONGEST_LINE => Some(Next::Close),
+            Some(_) => Some(NextStep::Due),
+            None if self.has_ended => Some(NextStep::Close),
+            None if self.arrived.len() >= LONGEST_LINE => Some(NextStep::Close),
             None => None,
         }
     }
 
-    /// Reads once. `false` if the read would block; `true` if another may give more, or the end was found.
+    /// Reads once. `false` if the read would block; `true` if another read may give more, or if nothing more is received (`has_ended`).
     fn receive_once(&mut self, read_buffer: &mut [u8]) -> bool
         ensures gathers { GathersOn S.Read.remaining self.old self.new }
         ensures unsent { self.new.unsent ≡ self.old.unsent }
         ensures waits { result ≡ false → self.new.arrived.items ≡ self.old.arrived.items }
         ensures fault { (self.new.fault ≡ None) ⊎ (self.new.has_ended ≡ true) }
     {
-        let received = gather(&mut self.link, &mut self.arrived, read_buffer);
+        let received = gather(&mut self.stream, &mut self.arrived, read_buffer);
         self.has_ended = is_end(received);
         self.fault = fault_of(received);
         !matches!(received, Received::Blocked)
     }
 
-    /// Why the connection is lost if it is closed now: a reply was not wholly sent, or there was no memory for bytes that came. `None` if it is not.
+    /// Why the connection counts as lost if it is closed now: a reply is not wholly sent, or there was no memory for bytes that came. Else `None`.
     pub(crate) fn loss(&self) -> Option<ConnectionFault>
         ensures { result ≡ loss_of (unsent_of self.now.unsent) self.now.fault }
     {
@@ -166,7 +163,7 @@ impl<S: Link> ControlConnection<S> {
         }
     }
 
-    /// The index after the first line (`due_lines`: after the last of up to `MOST_LINES`). `None` if no line is whole, or a reply is not wholly sent.
+    /// The index after the first line (`due_lines`: after the last, as [`lines_end`]). `None` if no line is whole, or a reply is not wholly sent.
     fn due_line(&self) -> Option<usize>
         ensures { MatchOption result (unsent_of self.now.unsent ≡ [] → HasNoLine self.now.arrived.items)
             (λ end. (unsent_of self.now.unsent ≡ []) × FirstLineEnds self.now.arrived.items end) }
@@ -187,13 +184,12 @@ impl<S: Link> ControlConnection<S> {
         lines_end(self.arrived.as_slice())
     }
 
-    /// Passes the whole lines, at most `MOST_LINES`, to the handler, which answers one or several of them. Does nothing while a reply is not wholly
-    /// sent. The error is that of [`Handler::answer_lines`].
+    /// Passes the whole lines, at most `MOST_LINES`, to the handler, which answers the first one or several. Does nothing while a reply is unsent.
     pub fn answer_lines<H: Handler>(&mut self, handler: &mut H) -> Result<(), EventLoopFault>
         requires { H.has_control handler.old }
         ensures ok { OnOk result
             (AnswersFirstLines H.answers_lines handler.old handler.new self.old self.new) }
-        ensures kept { SameLinkAndEnd self.old self.new }
+        ensures kept { SameStreamAndEnd self.old self.new }
         ensures err { OnErr result ((self.new ≡ self.old) × (handler.new ≡ handler.old)) }
         ensures fails { OnErr result H.failed }
     {
@@ -212,20 +208,20 @@ impl<S: Link> ControlConnection<S> {
         requires { end ≤ length self.old.arrived.items }
         ensures reply { unsent_of self.new.unsent ≡ text.items }
         ensures rest { self.new.arrived.items ≡ drop end self.old.arrived.items }
-        ensures kept { SameLinkAndEnd self.old self.new }
+        ensures kept { SameStreamAndEnd self.old self.new }
     {
         self.unsent = Unsent::new(text);
         drop_prefix(&mut self.arrived, end);
         self.deferrals = 0;
     }
 
-    /// The message that must be signed before the first line is answered. `None` if the previous reply is not wholly sent, if no line is whole, if
-    /// the handler makes no message for the line, and after `MOST_DEFERRALS` calls of the handler since the last reply.
+    /// The message that is to be signed before the first line is answered. `None` if the previous reply is not wholly sent, if no line is whole, if
+    /// the handler makes no message for the line, or after `MOST_DEFERRALS` calls of the handler since the last reply.
     pub fn defer<H: Handler>(&mut self, handler: &mut H) -> Option<Deferred<H::ControlTicket>>
         ensures looked { DefersFirstLine H.defers handler.old handler.new self.old }
         ensures arrived { self.new.arrived ≡ self.old.arrived }
         ensures unsent { self.new.unsent ≡ self.old.unsent }
-        ensures kept { SameLinkAndEnd self.old self.new }
+        ensures kept { SameStreamAndEnd self.old self.new }
     {
         if self.deferrals >= MOST_DEFERRALS {
             return None;
@@ -239,18 +235,17 @@ impl<S: Link> ControlConnection<S> {
         }
     }
 
-    /// Answers the first line, which was deferred, with the signature that came on `link` (the connection to the signer, not `self.link`), or without
-    /// one. The handler may leave the line unanswered, to be deferred again. The error is that of [`Handler::answer_deferred`].
+    /// Answers the first line, which was deferred, with the signature that `request` got, or without one. If there is no reply, the line stays due.
     pub fn answer_deferred<H: Handler>(
         &mut self,
         handler: &mut H,
         deferred: Deferred<H::ControlTicket>,
-        link: Option<SignatureRequest>,
+        request: Option<SignatureRequest>,
     ) -> Result<(), EventLoopFault>
         requires { H.has_control handler.old }
         ensures ok { OnOk result
             (AnswersDeferred H.answers_lines H.defers handler.old handler.new self.old self.new) }
-        ensures kept { SameLinkAndEnd self.old self.new }
+        ensures kept { SameStreamAndEnd self.old self.new }
         ensures err { OnErr result ((self.new ≡ self.old) × (handler.new ≡ handler.old)) }
         ensures fails { OnErr result H.failed }
     {
@@ -261,7 +256,7 @@ impl<S: Link> ControlConnection<S> {
                     &self.arrived[..end],
                     &mut self.last_reason,
                     deferred,
-                    link,
+                    request,
                 )?;
                 match reply_text {
                     Some(text) => {

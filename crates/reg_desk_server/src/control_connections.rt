@@ -5,7 +5,7 @@ ghost use Rattle.reg_desk_server.specs.Handling.{AnsweredLines};
 
 use crate::control_connection::ControlConnection;
 use crate::handler::{ConnectionFault, EventLoopFault, Handler};
-use crate::http_connection::Next;
+use crate::http_connection::NextStep;
 use crate::http_connections::SWEEP_MILLIS;
 use crate::poller::{CONTROL_LISTENER, FIRST_CONTROL, Poller, is_out_of_descriptors};
 use crate::shared::{ConnectionFaultReport, Shared};
@@ -27,19 +27,17 @@ pub(crate) struct ControlConnections<H: Handler> {
     pub(crate) slots: Slots<ControlConnection<UnixStream>>,
     /// The line that waits for a signature, if there is one. No other line is answered before it.
     pub(crate) waiting: Option<WaitingLine<H>>,
-    /// Whether a connection may be waiting at the listener.
+    /// Whether a client's connection may be waiting at the listener. `lacks_descriptors`: whether no file descriptor was free to accept it.
     pub(crate) may_accept: bool,
-    /// Whether there was no descriptor for a connection that may be waiting.
     pub(crate) lacks_descriptors: bool,
-    /// Whether a connection may have a line without a reply.
+    /// Whether a connection may have a whole line without a reply.
     has_lines: bool,
-    /// The slot after that of the last line that waited for a signature. Its connection is the first to be answered, so that a client with many such
-    /// lines holds up another one for one signature at most.
+    /// The slot that is answered first (modulo the number of slots): the one after the last line that waited for a signature. So all get a turn.
     first_slot: usize,
 }
 
 impl<H: Handler> ControlConnections<H> {
-    /// Registers the listener, if there is a control socket, with the poller for the first time (`false`).
+    /// No connections yet. Registers the listener (`None` without a control socket) with the poller for the first time (`false`).
     pub(crate) fn new(
         alloc: Global,
         mut listener: Option<UnixListener>,
@@ -60,7 +58,7 @@ impl<H: Handler> ControlConnections<H> {
         })
     }
 
-    /// Whether the loop must not block, since a line can be answered, or a connection may be waiting at the listener and a slot is free.
+    /// Whether the loop must not block: a line can be answered now, or a slot is free and a connection may be waiting at the listener.
     pub(crate) fn is_ready(&self) -> bool {
         let has_work = match &self.waiting {
             Some(waiting) => waiting.has_ended(),
@@ -69,23 +67,22 @@ impl<H: Handler> ControlConnections<H> {
         has_work || (self.may_accept && self.slots.has_free() && self.listener.is_some())
     }
 
-    /// How long the loop may block for the waiting line: until the next try to connect to the signer, or the next check of its deadline.
+    /// How long the loop may block: while a line waits, until the next try to connect to the signer, or (once connected) the next deadline check.
     pub(crate) fn longest_wait(&self) -> Duration {
         match &self.waiting {
-            Some(waiting) if waiting.link.is_none() => Duration::from_millis(PAUSE_MILLIS),
+            Some(waiting) if waiting.request.is_none() => Duration::from_millis(PAUSE_MILLIS),
             Some(_) => Duration::from_millis(SWEEP_MILLIS),
             None => Duration::MAX,
         }
     }
 
-    /// Answers no more of the lines that came, so that the loop can block. Closes the connection whose line waits for a signature.
+    /// At the end of the loop: forgets that lines came, so that the loop can block, and closes the connection whose line waits for a signature.
     pub(crate) fn stop(&mut self) {
         self.has_lines = false;
         self.waiting = None;
     }
 
-    /// Accepts connections while slots are free; others wait in the kernel's backlog. If accept(2) fails because a signal came or no descriptor is
-    /// left, the next call tries again. After any other error, such as that no connection waits, no call tries until the listener is ready again.
+    /// Fills free slots. After a signal or a lack of descriptors, the next call tries again; after another error, only once the listener is ready.
     pub(crate) fn accept_all(&mut self, shared: &mut Shared) {
         if self.lacks_descriptors {
             self.lacks_descriptors = false;
@@ -109,7 +106,7 @@ impl<H: Handler> ControlConnections<H> {
             return None;
         };
         match listener.accept() {
-            Ok((link, _)) => Some(ControlConnection::new(alloc, link)),
+            Ok((stream, _)) => Some(ControlConnection::new(alloc, stream)),
             Err(error) => {
                 self.may_accept = error.kind() == ErrorKind::Interrupted;
                 self.lacks_descriptors = is_out_of_descriptors(&error);
@@ -124,7 +121,7 @@ impl<H: Handler> ControlConnections<H> {
         }
     }
 
-    /// Advances a connection that was taken out of its slot, and puts it back unless it is to be closed.
+    /// Sends or receives on a connection that was taken out of its slot, and puts it back unless it is to be closed.
     fn drive(
         &mut self,
         slot: usize,
@@ -132,37 +129,37 @@ impl<H: Handler> ControlConnections<H> {
         shared: &mut Shared,
     ) {
         match connection.advance(shared.read_buffer.as_mut_slice()) {
-            Next::Due => {
+            NextStep::Due => {
                 self.has_lines = true;
                 self.slots.put(slot, connection);
             }
-            Next::Poll(interest) => {
+            NextStep::Poll(interest) => {
                 let token = slot.saturating_add(FIRST_CONTROL);
                 let ControlConnection {
-                    link,
+                    stream,
                     is_registered,
                     ..
                 } = &mut connection;
                 if shared
                     .poller
-                    .register_again(link, token, interest, is_registered)
+                    .register_again(stream, token, interest, is_registered)
                 {
                     self.slots.put(slot, connection);
                 } else {
-                    // Reported even if no reply is unsent: the client may be about to send a line.
+                    // The poller failed. Reported even if no reply is unsent: the client may be about to send a line.
                     let why = Some(ConnectionFault::Broken);
                     self.close_lost(slot, connection, shared, why);
                 }
             }
-            Next::Park => self.slots.put(slot, connection),
-            Next::Close => {
+            NextStep::Park => self.slots.put(slot, connection),
+            NextStep::Close => {
                 let why = connection.loss();
                 self.close_lost(slot, connection, shared, why);
             }
         }
     }
 
-    /// Closes a connection. If it is lost (`why` is not `None`), reports that; the client has no address (`client: None`).
+    /// Closes a connection. If it is lost (`why` is not `None`), reports that; a client of a Unix socket has no address (`client: None`).
     fn close_lost(
         &mut self,
         slot: usize,
@@ -185,7 +182,7 @@ impl<H: Handler> ControlConnections<H> {
         self.slots.release(slot);
     }
 
-    /// Answers lines of each connection; while a line waits for a signature, only advances that line. `now`: in milliseconds of the handler's clock.
+    /// Answers lines of each connection; while a line waits for a signature, only that line. `now` is in milliseconds of the handler's clock.
     #[tactic(auto, using(crate::proofs::Exchanges::exchanged_none))]
     pub(crate) fn answer_all_lines(
         &mut self,
@@ -211,7 +208,7 @@ impl<H: Handler> ControlConnections<H> {
         Ok(())
     }
 
-    /// Advances a line that waits for a signature, and answers it once it waits no more. `link` is the connection to the signer, not the client's.
+    /// Answers the waiting line once its signature request has ended or failed, or its time is up. Before that, connects to the signer if need be.
     #[tactic(auto, using(crate::proofs::Exchanges::exchanged_none))]
     fn advance_waiting_line(
         &mut self,
@@ -224,12 +221,12 @@ impl<H: Handler> ControlConnections<H> {
         ensures fails { OnErr result H.failed }
     {
         if waiting.is_due(now) {
-            let (slot, mut connection, deferred, link) = waiting.into_parts();
+            let (slot, mut connection, deferred, request) = waiting.into_parts();
             if !handler.has_control_socket() {
                 self.close(slot, connection);
                 return Ok(());
             }
-            let line_answered = connection.answer_deferred(handler, deferred, link);
+            let line_answered = connection.answer_deferred(handler, deferred, request);
             self.drive(slot, connection, shared);
             return line_answered;
         }
@@ -238,7 +235,7 @@ impl<H: Handler> ControlConnections<H> {
         Ok(())
     }
 
-    /// Answers lines of the connection in a slot; none while a line of another one waits. If its first line needs a signature, that line now waits.
+    /// Answers lines of the connection in a slot, unless another connection's line waits. If the first line needs a signature, it waits from now on.
     #[tactic(auto, using(crate::proofs::Exchanges::exchanged_none))]
     fn answer_lines_at(
         &mut self,

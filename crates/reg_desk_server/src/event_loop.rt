@@ -1,4 +1,4 @@
-//! The event loop: it polls the listeners and connections, and has the handler answer requests and lines.
+//! The event loop: it polls the listeners and connections, and has the handler answer HTTP requests and control lines.
 
 ghost use Rattle.std.specs.Prelude.{◌≡◌, ◌≤◌, ◌<◌, ◌+◌, ℕ, OnErr, OnOk};
 ghost use Rattle.reg_desk_server.specs.Failures.{EndsEarly};
@@ -14,7 +14,7 @@ use crate::poller::{
     MOST_SIGNATURES,
 };
 use crate::shared::{ConnectionFaultReport, Shared};
-use crate::signature_requests::{Requester, SignatureRequests, TIMEOUT_MILLIS, WantedSignature};
+use crate::signature_requests::{PendingSignature, Requester, SignatureRequests, TIMEOUT_MILLIS};
 use mio::net::{TcpListener, TcpStream, UnixListener};
 use reg_crl_signer::SignatureRequest;
 use std::alloc::AllocGlobal;
@@ -23,10 +23,10 @@ use std::io::ErrorKind;
 use std::net::Net;
 use std::time::Duration;
 
-/// For how many seconds the loop blocks at most if no HTTP connection is open, which could time out, and no accept waits for a descriptor.
+/// The most seconds that the loop blocks if no HTTP connection is open (an open one may time out) and no accept waits for a file descriptor.
 const IDLE_SECS: u64 = 3_600;
 
-/// The event loop of one thread: the connections that a handler answers.
+/// The event loop of one thread, with all connections that a handler answers. `signatures`: the requested and queued signatures of HTTP answers.
 #[derive(Drop)]
 pub struct EventLoop<H: Handler> {
     shared: Shared,
@@ -37,8 +37,8 @@ pub struct EventLoop<H: Handler> {
 }
 
 impl<H: Handler> EventLoop<H> {
-    /// An event loop over a listener for HTTP connections and, if there is a control socket, one for control connections, both non-blocking, with
-    /// room for `slots` HTTP connections. Errors: the system's, if there is no poller or the listeners can't be polled; `OutOfMemory`.
+    /// An event loop over two non-blocking listeners: for HTTP connections, of which it has room for `slots`, and, if there is a control socket, for
+    /// control connections. Errors: the system's, if there is no poller or the listeners can't be polled; `OutOfMemory`. `rt`: the system's calls.
     pub fn new(
         rt: &(impl Net + AllocGlobal),
         listener: TcpListener,
@@ -59,13 +59,9 @@ impl<H: Handler> EventLoop<H> {
         })
     }
 
-    /// Answers HTTP requests until `answered` is `limit`, and control lines meanwhile. Each accepted HTTP connection counts as one request, which is
-    /// passed to the handler once: when it is whole, when nothing more of it comes, when the connection's time is over, or when the connection is
-    /// evicted. If an answer needs a signature, the loop requests it, and only that client waits. [`EventLoop::finish`] finishes the answers that
-    /// still wait at the end. [`EventLoopFault`] if the system failed, or after 2^64 - 1 iterations.
-    ///
-    /// An iteration reads from and writes to each ready connection without blocking, finishes each answer whose signature came, passes at most
-    /// 256 lines of each control connection to the handler, and answers each request that is whole or of which no more is awaited.
+    /// Answers HTTP requests until their count `answered` is `limit`, and control lines meanwhile. Each accepted HTTP connection is one request.
+    /// The handler gets it once: when it is whole, nothing more of it comes, its time is up, or its connection is evicted. If its answer needs a
+    /// signature, the loop requests that, and only this client waits. [`EventLoopFault`] if the system failed, or after 2^64 - 1 iterations.
     #[tactic(auto, using(crate::proofs::Exchanges::exchanged_none))]
     pub fn serve_all(
         &mut self,
@@ -95,10 +91,10 @@ impl<H: Handler> EventLoop<H> {
         Err(EventLoopFault)
     }
 
-    /// Closes the HTTP connections that still receive, without an answer. Sends the other answers, of which some still wait for a signature, until no
-    /// HTTP connection is left. Answers no more control lines. Reports lost connections to the handler. [`EventLoopFault`] if the system failed.
+    /// Closes the HTTP connections that still receive a request, without an answer. Sends the other answers, once they are finished, until no HTTP
+    /// connection is left. Answers no more control lines. Reports lost connections to the handler. [`EventLoopFault`] if the system failed.
     pub fn finish(&mut self, handler: &H) -> Result<(), EventLoopFault> {
-        // No more connections are accepted.
+        // With this limit, no more HTTP connections are accepted.
         let limit = self.acceptor.accepted;
         self.http.close_all_receiving(&mut self.shared);
         for _ in 0..u64::MAX {
@@ -110,7 +106,7 @@ impl<H: Handler> EventLoop<H> {
             self.finish_all(handler, now);
             self.request_all(handler, now);
             self.http.close_due(&mut self.shared);
-            // The poll may have read control lines, and while lines are due the next poll doesn't block.
+            // The poll may have read control lines. If they stayed due, the next poll wouldn't block.
             self.control.stop();
         }
         Ok(())
@@ -124,7 +120,7 @@ impl<H: Handler> EventLoop<H> {
         }
     }
 
-    /// Waits for events, then reads, writes and accepts, and ends the connections whose time is over. Returns the handler's clock in milliseconds.
+    /// Waits for events, then reads, writes and accepts, and ends connections whose time is up. Returns the handler's clock (`now`), in milliseconds.
     fn poll(&mut self, handler: &H, limit: u64) -> Result<u64, EventLoopFault>
         ensures ok { OnOk result ((count : ℕ) → H.waited count → H.waited (count + 1)) }
         ensures fails { OnErr result H.failed }
@@ -208,7 +204,7 @@ impl<H: Handler> EventLoop<H> {
         Ok(())
     }
 
-    /// Answers the connection at this index of `due`, if it still receives. Sends the answer, or queues a request for its signature.
+    /// Answers the connection whose slot is at this index of `due`, if it still receives. Sends the answer, or has it signed first.
     #[tactic(auto, using(crate::proofs::Exchanges::exchanged_none))]
     fn answer_due(
         &mut self,
@@ -252,7 +248,7 @@ impl<H: Handler> EventLoop<H> {
         }
     }
 
-    /// Sends the answer of a connection that was taken out of a slot. `before`: how many unsent bytes of this connection the total has so far.
+    /// Sends a connection's answer; the connection was taken out of its slot. `before`: how many of its unsent bytes were counted before this answer.
     fn send_on(
         &mut self,
         slot: usize,
@@ -265,7 +261,6 @@ impl<H: Handler> EventLoop<H> {
         self.http.limit_unsent(slot, &mut self.shared);
     }
 
-    /// Puts a connection back into its slot, and queues a request for the signature of its answer.
     fn wait_for_signature(
         &mut self,
         slot: usize,
@@ -276,7 +271,7 @@ impl<H: Handler> EventLoop<H> {
         let number = connection.number;
         let requester = Requester { slot, number };
         self.http.slots.put(slot, connection);
-        // Out of memory for the queue: the answer is finished without a signature.
+        // Out of memory for the queue: the answer is finished without a signature (`None`).
         if !self.signatures.add(requester, now) {
             self.complete(requester, &mut None, handler, now);
         }
@@ -285,41 +280,40 @@ impl<H: Handler> EventLoop<H> {
     fn request_all(&mut self, handler: &H, now: u64) {
         for _ in 0..MOST_HTTP_CONNECTIONS {
             match self.signatures.next(now) {
-                Some((wanted, index)) => self.request_next(wanted, index, handler, now),
+                Some((pending, index)) => self.request_next(pending, index, handler, now),
                 None => return,
             }
         }
     }
 
-    /// Requests the signature of an answer that was in the queue, as [`EventLoop::request`] does. If the answer waited there, and its client has
-    /// half-closed by now, closes the connection instead: such a client is taken to have gone.
-    fn request_next(&mut self, wanted: WantedSignature, index: usize, handler: &H, now: u64) {
-        // Whether it was queued at an earlier moment.
-        let has_waited = wanted.deadline < now.saturating_add(TIMEOUT_MILLIS);
+    /// Requests a queued signature. If it was queued before `now` and its client has half-closed (so is taken to be gone), closes the connection.
+    fn request_next(&mut self, pending: PendingSignature, index: usize, handler: &H, now: u64) {
+        // A deadline is `TIMEOUT_MILLIS` after the moment at which the signature was queued.
+        let has_waited = pending.deadline < now.saturating_add(TIMEOUT_MILLIS);
         if has_waited
             && self
                 .http
-                .close_if_ended(wanted.requester, &mut self.shared, now)
+                .close_if_ended(pending.requester, &mut self.shared, now)
         {
             return;
         }
-        self.request(wanted, index, handler, now);
+        self.request(pending, index, handler, now);
     }
 
-    /// Requests the signature of an answer; `index` is that of a free `Place` of `signatures`, which may keep an idle connection to the signer.
-    fn request(&mut self, wanted: WantedSignature, index: usize, handler: &H, now: u64) {
-        let requester = wanted.requester;
+    /// Requests the signature of an answer. `index`: of a free place in `signatures`, at which an idle connection to the signer may be kept.
+    fn request(&mut self, pending: PendingSignature, index: usize, handler: &H, now: u64) {
+        let requester = pending.requester;
         let kept = self.signatures.take(index);
         match self.http.request_signature(requester, handler, kept) {
             Ok(request) => {
                 let poller = &self.shared.poller;
-                if !self.signatures.put(index, wanted, request, poller) {
+                if !self.signatures.put(index, pending, request, poller) {
                     self.complete(requester, &mut None, handler, now);
                 }
             }
             // The signer's backlog is full, or no descriptor is left.
             Err(error) if error.kind() == ErrorKind::WouldBlock => {
-                if !self.signatures.requeue(wanted, now) {
+                if !self.signatures.requeue(pending, now) {
                     self.complete(requester, &mut None, handler, now);
                 }
             }
@@ -327,7 +321,7 @@ impl<H: Handler> EventLoop<H> {
         }
     }
 
-    /// Finishes the answers whose signatures came or whose time for a signature is over; drops signature requests whose connections no longer wait.
+    /// Finishes the answers whose signatures came or whose time is up; drops signature requests whose connections no longer wait.
     fn finish_all(&mut self, handler: &H, now: u64) {
         for index in 0..MOST_SIGNATURES {
             self.finish_at(index, handler, now);
@@ -341,40 +335,40 @@ impl<H: Handler> EventLoop<H> {
     }
 
     fn finish_at(&mut self, index: usize, handler: &H, now: u64) {
-        let Some(wanted) = self.signatures.wanted(index) else {
+        let Some(pending) = self.signatures.pending(index) else {
             return;
         };
-        let WantedSignature {
+        let PendingSignature {
             requester,
             deadline,
-        } = wanted;
-        // Whether the signature came, or the signer's connection ended without one.
+        } = pending;
+        // Whether the signature came, or the connection to the signer ended without one.
         let has_arrived = self.signatures.has_arrived(index);
         let is_awaited = deadline > now && self.http.is_waiting(requester);
         if is_awaited && !has_arrived {
             return;
         }
         let request = self.signatures.take(index);
-        let mut answered = if has_arrived { request } else { None };
-        if is_awaited && failed_unanswered(&answered) {
-            // The kept connection had failed, as after the signer's restart. The `Place` has none now, so a new one carries this request.
-            self.request(wanted, index, handler, now);
+        let mut arrived = if has_arrived { request } else { None };
+        if is_awaited && failed_unanswered(&arrived) {
+            // The kept connection to the signer had failed, as after the signer's restart. Its place is empty now, so this call opens a new one.
+            self.request(pending, index, handler, now);
             return;
         }
-        self.complete(requester, &mut answered, handler, now);
-        self.signatures.keep(index, answered, &self.shared.poller);
+        self.complete(requester, &mut arrived, handler, now);
+        self.signatures.keep(index, arrived, &self.shared.poller);
     }
 
-    /// Finishes the answer of a waiting connection, with the signature from its request or without one, and sends it.
+    /// Finishes the answer of a waiting connection with the signature that `request` brought, or without one, and sends it.
     fn complete(
         &mut self,
         requester: Requester,
-        answered: &mut Option<SignatureRequest>,
+        request: &mut Option<SignatureRequest>,
         handler: &H,
         now: u64,
     ) {
         if let Some(mut connection) = self.http.take_waiting(requester) {
-            connection.complete(handler, answered, now);
+            connection.complete(handler, request, now);
             self.send_on(requester.slot, connection, 0, now);
         }
     }

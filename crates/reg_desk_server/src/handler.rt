@@ -1,4 +1,4 @@
-//! The trait of the handler, which answers requests and lines.
+//! The trait `Handler`, by which the event loop has HTTP requests and control lines answered, and the types of its arguments and results.
 
 use mio::net::{TcpListener, TcpStream};
 use mio::{Events, Poll};
@@ -13,14 +13,14 @@ use std::time::Duration;
 #[derive(Clone, Copy, Debug, PartialEq, Eq)]
 pub struct EventLoopFault;
 
-/// A fault of a connection, by which it was lost or no more of its request was received.
+/// Why a connection was lost, or why no more of its request was received.
 #[derive(Clone, Copy, Debug, PartialEq, Eq)]
 pub enum ConnectionFault {
-    /// A read, write or poller registration failed before the whole answer was sent, or the client half-closed before the signature was requested.
+    /// A read, write or poller registration failed before the whole answer was sent; or its client half-closed while it was queued to be signed.
     Broken,
-    /// The time of the connection was up before its request was whole or its whole answer was sent.
+    /// The request was not whole, or its answer was not wholly sent, within 30 seconds.
     TimedOut,
-    /// The loop evicted the connection, to accept another one or because of the limit of unsent bytes, before its whole answer was sent.
+    /// The loop evicted the connection before its whole answer was sent: to accept another one, or because of the limit of all unsent bytes.
     Evicted,
     /// There was no memory for the bytes that came on the connection.
     Memory,
@@ -34,22 +34,22 @@ pub struct ConnectionCounts {
     pub accepted: u64,
 }
 
-/// The message that is to be signed before a line of a control connection is answered, and the ticket: the handler's data about the line until then.
+/// The message that is to be signed before a line of a control connection is answered, and the handler's data about the line until then.
 #[derive(Drop)]
 pub struct Deferred<T> {
     pub message: Vec<u8>,
     pub ticket: T,
 }
 
-/// The lines that one call answered: how many bytes they have, with their LFs, and their replies, one after the other.
+/// The result of [`Handler::answer_lines`]: how many bytes the answered lines have, with their LFs; and their replies, joined.
 #[derive(Drop)]
 pub struct LineReplies {
     pub length: usize,
     pub text: Vec<u8>,
 }
 
-/// Answers requests and lines, one after the other. While a request awaits a signature, others are answered; while a line does, no other line is.
-/// Only `Desk` (reg_desk_service) implements it. As a trait, it lets the loop's contracts hold whatever `answers`, `finishes` and the like mean.
+/// Answers requests and lines in turn. While a request awaits a signature, others are answered. While a line awaits one, no other line is answered.
+/// Only `Desk` (reg_desk_service) implements it. The loop's contracts hold whatever the relations below (`ghost`) mean in an implementation.
 pub trait Handler {
     ghost use Rattle.std.specs.Prelude.{◌≡◌, ◌+◌, ℕ, List, take, IsTrue, IfErr, IfOk, OnErr, OnOk, MatchOption};
     ghost use Rattle.reg_http_head.specs.Bytes.{collected_bytes};
@@ -58,34 +58,31 @@ pub trait Handler {
     ghost use Rattle.reg_desk_server.specs.Outcomes.{outcome_of};
     ghost use Rattle.reg_desk_server.specs.Failures.{AcceptFails};
 
-    /// The handler's data about a request until its response is signed.
+    /// The handler's data about a request (`ControlTicket`: about a line) while a signature is awaited for it.
     type Ticket: Drop;
 
-    /// The handler's data about a line until its message is signed.
     type ControlTicket: Drop;
 
-    // The outcome of this request, with the handler before and after it.
+    // Relates the handler before a request, the bytes of the request, its outcome, and the handler after it.
     ghost answers: { Self → List ℕ → Outcome Self.Ticket → Self → Type 0 };
 
-    // One or several whole lines (the first list) get these replies, joined (the second list). The handler before and after them.
+    // Relates the handler before one or several whole lines, these lines, their joined replies, and the handler after them.
     ghost answers_lines: { Self → List ℕ → List ℕ → Self → Type 0 };
 
-    // The handler does not answer this line; at most it makes the message to be signed for the line. The handler before and after it.
+    // Relates the handler before a call that leaves a line unanswered (it may make the message to be signed), the line, and the handler after it.
     ghost defers: { Self → List ℕ → Self → Type 0 };
 
-    // This is the whole text of the answer with this ticket, which was left to be signed.
+    // Relates the handler, the ticket of an answer that was left to be signed, and the whole text of this answer.
     ghost finishes: { Self → Self.Ticket → List ℕ → Type 0 };
 
-    // This handler has a control socket.
     ghost has_control: { Self → Type 0 };
 
     // The system failed: the clock can't be read, or the sockets can't be used.
     ghost failed: { Type 0 };
 
-    // The handler waited for its sockets this number of times.
+    // The handler waited for its sockets this number of times, at first none.
     ghost waited: { ℕ → Type 0 };
 
-    // At first the handler has not waited.
     ghost not_waited: { waited 0 };
 
     /// Whether this handler has a control socket, and so answers lines. If not, the event loop closes each control connection instead.
@@ -106,11 +103,11 @@ pub trait Handler {
         ensures ok { OnOk result ((count : ℕ) → waited count → waited (count + 1)) }
         ensures err { OnErr result failed };
 
-    /// Accepts a connection. Errors of accept(2): none waits, a signal came, the client is gone, no descriptor is left, or the system failed.
+    /// Accepts a connection. Errors of accept(2): none waits, a signal came, the client is gone, no file descriptor is left, or the system failed.
     fn accept(&self, listener: &TcpListener) -> io::Result<(TcpStream, SocketAddr)>
         ensures { IfErr result (AcceptFails failed) };
 
-    /// Answers a client's bytes (an incomplete request by an empty text), or leaves the answer to be signed. [`EventLoopFault`] if the clock fails.
+    /// Answers a request, or leaves the answer to be signed. An incomplete request gets an empty answer. The error: the clock can't be read.
     fn answer(
         &mut self,
         client: SocketAddr,
@@ -121,21 +118,20 @@ pub trait Handler {
         ensures err { OnErr result (self.new ≡ self.old) }
         ensures fails { OnErr result failed };
 
-    /// Requests the signature of an answer, without blocking. `kept` is the request of an earlier answer, if its connection may be used again. The
-    /// error is `WouldBlock` if the backlog of the signer's socket is full, or if no descriptor is left. After any other error, no signature comes.
+    /// Requests the signature of an answer, without blocking. `kept` is an earlier request whose connection to the signer may be used again. The
+    /// error is `WouldBlock` if the backlog of the signer's socket is full or no file descriptor is left. After any other error, no signature comes.
     fn request_signature(
         &self,
         ticket: &Self::Ticket,
         kept: Option<SignatureRequest>,
     ) -> io::Result<SignatureRequest>;
 
-    /// The whole text of an answer that was left to be signed. `request` is the request of its signature, from which the signature is taken, once
-    /// the signer's answer has arrived; `None` if there is no signature.
+    /// The whole text of an answer that was left to be signed: with the signature that `request` brought, or without one if that is `None`.
     fn finish(&self, ticket: Self::Ticket, request: &mut Option<SignatureRequest>) -> Vec<u8>
         ensures { finishes self.now ticket result.items };
 
-    /// Answers the first of these lines of a control connection, or the first several. The handler keeps in `last_reason`, which is empty at first,
-    /// the text that the line `why` reports: mostly why the last refused line was refused. [`EventLoopFault`] if the clock can't be read.
+    /// Answers the first of these lines of a control connection, or the first several. Keeps in `last_reason`, which is empty at first, what a later
+    /// line `why` reports: mostly why the last refused line was refused. The error: the clock can't be read.
     fn answer_lines(
         &mut self,
         lines: &[u8],
@@ -148,22 +144,22 @@ pub trait Handler {
         ensures err { OnErr result ((self.new ≡ self.old) × (last_reason.new ≡ last_reason.old)) }
         ensures fails { OnErr result failed };
 
-    /// The message to be signed before a line is answered. `None` if nothing is to be signed, if there is no signer, or if the message can't be made.
-    /// It is empty for a line `ocsp` while its signer isn't asked, after a timeout: then `connect_to_signer` fails, and the line gets no signature.
+    /// The message to be signed before a line is answered. `None` if nothing is to be signed, there is no signer, or the message can't be made. For
+    /// some seconds after the signer timed out, an `ocsp` line gets an empty message: `connect_to_signer` then fails, and the line gets no signature.
     fn defer(&mut self, line: &[u8]) -> Option<Deferred<Self::ControlTicket>>
         ensures { defers self.old line.now self.new };
 
-    /// Connects to the signer for a line, without blocking. The errors are those of [`Handler::request_signature`].
+    /// Connects to the signer for a line, without blocking. Errors: as for [`Handler::request_signature`].
     fn connect_to_signer(&self, ticket: &Self::ControlTicket) -> io::Result<SignatureRequest>;
 
-    /// Answers a line whose message was made. `link` is the connection to the signer, if nothing more is awaited on it, else `None`.
-    /// Returns `None` if another message is to be signed by now: then `defer` is to be called again. The error is as for `answer_lines`.
+    /// Answers a line after `defer` made its message. `request` is the signature request, if it has ended, answered or not; `None` if connecting or
+    /// sending failed, or the time was up. Returns `None` if another message must be signed by now: call `defer` again. Errors: as `answer_lines`.
     fn answer_deferred(
         &mut self,
         line: &[u8],
         last_reason: &mut Vec<u8>,
         deferred: Deferred<Self::ControlTicket>,
-        link: Option<SignatureRequest>,
+        request: Option<SignatureRequest>,
     ) -> Result<Option<Vec<u8>>, EventLoopFault>
         requires control { has_control self.old }
         requires line { IsLine line.now }
@@ -172,9 +168,9 @@ pub trait Handler {
         ensures err { OnErr result ((self.new ≡ self.old) × (last_reason.new ≡ last_reason.old)) }
         ensures fails { OnErr result failed };
 
-    /// Reports a fault of a connection, which is lost or is answered for the part of its request that came. `client` is `None` at the control socket.
+    /// Receives the report of a connection's fault. `client` is its address; `None` at the control socket.
     fn report_lost(&self, client: Option<SocketAddr>, why: ConnectionFault);
 
-    /// Receives how many connections there are, in each iteration of `serve_all` before anything is answered.
+    /// Receives how many connections there are, in each iteration of `serve_all`, before anything is answered.
     fn keep_counts(&self, connection_counts: ConnectionCounts);
 }

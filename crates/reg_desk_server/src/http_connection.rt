@@ -2,11 +2,11 @@
 
 ghost use Rattle.std.specs.Prelude.{◌≡◌, ◌≤◌, ◌+◌, ◌⊎◌, [], OnOk, OnErr, is_some, IsSome, IfNone, IsTrue, Some, false, ◌↔◌};
 ghost use Rattle.reg_desk_server.specs.Handling.{Handled};
-ghost use Rattle.reg_desk_server.specs.Stages.{Answering, Drops, Finishing, HasReceived, HasUnsentText, IsDropped, IsIncomplete, KeepsReceived, ReceivesMore, SameLinkAndFault, Sends};
+ghost use Rattle.reg_desk_server.specs.Stages.{Answering, Drops, Finishing, HasReceived, HasUnsentText, IsDropped, IsIncomplete, KeepsReceived, ReceivesMore, SameStreamAndFault, Sends};
 
 use crate::handler::{ConnectionFault, EventLoopFault, Handler};
-use crate::link::Link;
 use crate::request_bytes::{Received, receive};
+use crate::stream::ClientStream;
 use crate::unsent::{Sent, Unsent};
 use mio::Interest;
 use reg_crl_signer::SignatureRequest;
@@ -17,10 +17,10 @@ use std::io::{ErrorKind, Read};
 use std::net::SocketAddr;
 use std::{io, mem};
 
-/// How many milliseconds a connection may stay in each of the stages `Receiving`, `Signing` and `Sending`.
+/// The most milliseconds in `Receiving`, `Signing` or `Sending`. The event loop ends `Signing` after 10,000, unless a call blocks the loop.
 const TIMEOUT_MILLIS: u64 = 30_000;
 
-/// For how many milliseconds after its answer the bytes that a client still sends are dropped.
+/// After the answer was sent, the bytes that a client still sends are dropped for this many milliseconds.
 const LINGER_MILLIS: u64 = 1_000;
 
 const MOST_DROP_READS: usize = 32;
@@ -29,9 +29,9 @@ const MOST_DROP_READS: usize = 32;
 #[derive(Drop)]
 pub(crate) enum Stage<T> {
     Receiving(Collected),
-    /// The answer is to be signed: the handler's data about it ([`Handler::Ticket`]), and whether nothing came after the request.
+    /// The answer is to be signed: the handler's data about it ([`Handler::Ticket`]), and `is_exact`: whether nothing came after the request.
     Signing(T, bool),
-    /// The answer is being sent; whether the connection is closed after its last byte, without `Draining`.
+    /// The answer is being sent. `closes_after`: whether its last byte ends the connection, without `Draining`.
     Sending(Unsent, bool),
     /// The answer was sent, and the bytes that the client still sends are dropped.
     Draining,
@@ -39,14 +39,13 @@ pub(crate) enum Stage<T> {
 
 /// The next step for a connection: answer it, register it with the poller, keep it without registering it again, or close it.
 #[derive(Clone, Copy)]
-pub enum Next {
+pub enum NextStep {
     Due,
     Poll(Interest),
     Park,
     Close,
 }
 
-/// Drops the bytes that came, in at most `MOST_DROP_READS` reads.
 fn drop_all<R: Read>(reader: &mut R, read_buffer: &mut [u8]) -> Received
     ensures { IsDropped (R.remaining reader.old) (R.remaining reader.new) }
 {
@@ -70,38 +69,37 @@ fn drop_once<R: Read>(reader: &mut R, read_buffer: &mut [u8]) -> Received
     }
 }
 
-/// A client's connection, on which a handler answers one request. An answer that is to be signed is kept in the connection, so its signature
-/// reaches no other client.
+/// A client's connection, for one request. It keeps an answer that is to be signed, so the signature reaches no other client.
 #[derive(Drop)]
-pub struct HttpConnection<S: Link, H: Handler> {
-    pub(crate) link: S,
+pub struct HttpConnection<S: ClientStream, H: Handler> {
+    pub(crate) stream: S,
     pub(crate) client: SocketAddr,
     pub(crate) stage: Stage<H::Ticket>,
     /// The fault because of which no more of the request is received, if there is one.
     pub(crate) fault: Option<ConnectionFault>,
-    /// Whether the client has closed its sending side, if that was noticed while its answer waits for a signature.
+    /// Whether the client has half-closed (it sends no more). This is noticed only while its answer waits for a signature.
     pub(crate) has_ended: bool,
-    /// When the time of the connection is up, in milliseconds of the handler's clock.
+    /// When the time for the stage is up, in milliseconds of the handler's clock, as `now` is in each function.
     pub(crate) deadline: u64,
     pub(crate) number: u64,
     pub(crate) is_registered: bool,
 }
 
-impl<S: Link, H: Handler> HttpConnection<S, H> {
+impl<S: ClientStream, H: Handler> HttpConnection<S, H> {
     /// A connection from the address `client`, accepted at `now`, in milliseconds of the handler's clock. Later connections have greater numbers.
     pub fn new(
         alloc: Global,
-        link: S,
+        stream: S,
         client: SocketAddr,
         number: u64,
         now: u64,
     ) -> HttpConnection<S, H>
-        ensures link { result.link ≡ link }
+        ensures stream { result.stream ≡ stream }
         ensures receives { HasReceived result.stage [] }
         ensures open { is_some result.fault ≡ false }
     {
         HttpConnection {
-            link,
+            stream,
             client,
             stage: Stage::Receiving(Collected::new(alloc)),
             fault: None,
@@ -125,21 +123,21 @@ impl<S: Link, H: Handler> HttpConnection<S, H> {
         !self.is_receiving() && !self.is_signing()
     }
 
-    /// Whether the time of the connection is up at `now`, in milliseconds of the handler's clock.
     pub fn is_expired(&self, now: u64) -> bool
         ensures { IsTrue result ↔ (self.now.deadline ≤ now) }
     {
         self.deadline <= now
     }
 
-    /// The recorded fault of a connection whose request is to be answered now. If there is none, records and returns `TimedOut` if the time is up
-    /// before the request is whole. `None` without a fault (the client may have half-closed within its request), or in a later stage.
+    /// The fault of a connection whose request is to be answered now. If none is recorded yet, records `TimedOut` if the time is up before the
+    /// request is whole. A half-close within the request is no fault. `None` in a later stage.
     pub fn record_fault(&mut self, now: u64) -> Option<ConnectionFault>
-        ensures same_link { self.new.link ≡ self.old.link }
+        ensures same_stream { self.new.stream ≡ self.old.stream }
         ensures kept { KeepsReceived self.old.stage self.new.stage }
         ensures fault { IsSome self.old.fault → IsSome self.new.fault }
         ensures late { (self.new.fault ≡ self.old.fault)
-            ⊎ ((self.new.fault ≡ Some ConnectionFault.TimedOut) × (self.old.deadline ≤ now) × IsIncomplete self.old.stage) }
+            ⊎ ((self.new.fault ≡ Some ConnectionFault.TimedOut) × (self.old.deadline ≤ now)
+            × IsIncomplete self.old.stage) }
     {
         let is_expired = self.is_expired(now);
         match &mut self.stage {
@@ -163,8 +161,8 @@ impl<S: Link, H: Handler> HttpConnection<S, H> {
         }
     }
 
-    /// Advances the connection without blocking, and returns its next step. The number of reads or writes is limited, so that others get their turn.
-    pub fn advance(&mut self, read_buffer: &mut [u8], now: u64) -> Next
+    /// Receives, sends or drops bytes without blocking, and returns the next step. Few reads or writes at once: other connections get their turn.
+    pub fn advance(&mut self, read_buffer: &mut [u8], now: u64) -> NextStep
         ensures receives { ReceivesMore S.Read.remaining self.old self.new }
         ensures sends { Sends S.Write.contents self.old self.new }
         ensures drops { Drops S.Read.remaining self.old self.new }
@@ -178,49 +176,47 @@ impl<S: Link, H: Handler> HttpConnection<S, H> {
     }
 
     #[tactic(auto, using(crate::proofs::Gatherings::gathers_none))]
-    fn receive(&mut self, read_buffer: &mut [u8]) -> Next
+    fn receive(&mut self, read_buffer: &mut [u8]) -> NextStep
         ensures { ReceivesMore S.Read.remaining self.old self.new }
     {
         if self.fault.is_some() {
-            return Next::Due;
+            return NextStep::Due;
         }
-        // `advance` calls this in the stage `Receiving` only, and `send_on` in `Sending` only: the other arms are not reached.
+        // `advance` calls `receive` in the stage `Receiving` only, and `send_on` in `Sending` only: their other arms are not reached.
         match &mut self.stage {
-            Stage::Receiving(collected) => match receive(&mut self.link, collected, read_buffer) {
-                Received::Blocked => Next::Poll(Interest::READABLE),
-                Received::More => Next::Poll(Interest::READABLE),
-                Received::Whole => Next::Due,
-                Received::Ended => Next::Due,
+            Stage::Receiving(collected) => match receive(&mut self.stream, collected, read_buffer) {
+                Received::Blocked => NextStep::Poll(Interest::READABLE),
+                Received::More => NextStep::Poll(Interest::READABLE),
+                Received::Whole => NextStep::Due,
+                Received::Ended => NextStep::Due,
                 Received::Broken => {
                     self.fault = Some(ConnectionFault::Broken);
-                    Next::Due
+                    NextStep::Due
                 }
                 Received::OutOfMemory => {
                     self.fault = Some(ConnectionFault::Memory);
-                    Next::Due
+                    NextStep::Due
                 }
             },
-            Stage::Signing(..) => Next::Close,
-            Stage::Sending(..) => Next::Close,
-            Stage::Draining => Next::Close,
+            Stage::Signing(..) => NextStep::Close,
+            Stage::Sending(..) => NextStep::Close,
+            Stage::Draining => NextStep::Close,
         }
     }
 
-    /// Drops the bytes that a client sends while its answer waits for a signature, and notices if the client is gone. If it is not, the connection is
-    /// parked: its next step depends on the signature.
-    fn drop_received(&mut self, read_buffer: &mut [u8]) -> Next
+    /// Drops what a client sends while its answer waits for a signature, and notes a half-close. The next step depends on the signature (`Park`).
+    fn drop_received(&mut self, read_buffer: &mut [u8]) -> NextStep
         ensures { Drops S.Read.remaining self.old self.new }
     {
-        match drop_all(&mut self.link, read_buffer) {
-            Received::Broken => return Next::Close,
+        match drop_all(&mut self.stream, read_buffer) {
+            Received::Broken => return NextStep::Close,
             Received::Ended => self.has_ended = true,
             _ => {}
         }
-        Next::Park
+        NextStep::Park
     }
 
-    /// Sends more of the answer. After the last byte the connection is to be closed, or its sending side is shut down.
-    fn send_on(&mut self, now: u64) -> Next
+    fn send_on(&mut self, now: u64) -> NextStep
         ensures { Sends S.Write.contents self.old self.new }
     {
         match self.send() {
@@ -229,51 +225,51 @@ impl<S: Link, H: Handler> HttpConnection<S, H> {
         }
     }
 
-    fn send(&mut self) -> Option<Next>
+    fn send(&mut self) -> Option<NextStep>
         ensures sends { Sends S.Write.contents self.old self.new }
         ensures all { IfNone result (HasUnsentText self.new.stage []) }
     {
         match &mut self.stage {
-            Stage::Sending(unsent, closes_after) => match unsent.send_on(&mut self.link) {
-                Sent::All if *closes_after => Some(Next::Close),
+            Stage::Sending(unsent, closes_after) => match unsent.send_on(&mut self.stream) {
+                Sent::All if *closes_after => Some(NextStep::Close),
                 Sent::All => None,
                 Sent::Blocked | Sent::More => {
-                    // Until all is sent, the client may send more.
+                    // The client may send more before all is sent, so the connection is drained afterwards.
                     *closes_after = false;
-                    Some(Next::Poll(Interest::WRITABLE))
+                    Some(NextStep::Poll(Interest::WRITABLE))
                 }
-                Sent::Broken => Some(Next::Close),
+                Sent::Broken => Some(NextStep::Close),
             },
-            Stage::Receiving(_) => Some(Next::Close),
-            Stage::Signing(..) => Some(Next::Close),
-            Stage::Draining => Some(Next::Close),
+            Stage::Receiving(_) => Some(NextStep::Close),
+            Stage::Signing(..) => Some(NextStep::Close),
+            Stage::Draining => Some(NextStep::Close),
         }
     }
 
-    /// Shuts down the sending side of the connection. If a connection is closed with unread bytes, the client may lose an answer that it has not
-    /// read yet. So the bytes that it still sends are read and dropped for `LINGER_MILLIS`.
-    fn finish(&mut self, now: u64) -> Next
-        ensures link { self.new.link ≡ self.old.link }
+    /// Shuts down the sending side. If the connection were closed with unread bytes, the client could lose an answer that it has not read yet. So the
+    /// bytes that it still sends are read and dropped for `LINGER_MILLIS`.
+    fn finish(&mut self, now: u64) -> NextStep
+        ensures stream { self.new.stream ≡ self.old.stream }
         ensures drains { self.new.stage ≡ Stage.Draining }
     {
         self.stage = Stage::Draining;
         self.deadline = now.saturating_add(LINGER_MILLIS);
-        match self.link.finish() {
-            Ok(()) => Next::Poll(Interest::READABLE),
-            Err(_) => Next::Close,
+        match self.stream.finish() {
+            Ok(()) => NextStep::Poll(Interest::READABLE),
+            Err(_) => NextStep::Close,
         }
     }
 
-    fn drain(&mut self, read_buffer: &mut [u8]) -> Next
+    fn drain(&mut self, read_buffer: &mut [u8]) -> NextStep
         ensures { Drops S.Read.remaining self.old self.new }
     {
-        match drop_all(&mut self.link, read_buffer) {
-            Received::Blocked | Received::More => Next::Poll(Interest::READABLE),
-            _ => Next::Close,
+        match drop_all(&mut self.stream, read_buffer) {
+            Received::Blocked | Received::More => NextStep::Poll(Interest::READABLE),
+            _ => NextStep::Close,
         }
     }
 
-    /// Answers the bytes that came of the request, even if it is incomplete, and adds 1 to `answered`. Returns whether the answer is to be signed. In
+    /// Answers the bytes of the request that came, even if it is incomplete, and adds 1 to `answered`. Returns whether the answer is to be signed. In
     /// a stage after `Receiving`, does nothing and returns `false`. [`EventLoopFault`] as for [`Handler::answer`], and if `answered` is 2^64 - 1.
     #[tactic(auto, using(crate::proofs::Exchanges::exchanged_none))]
     pub fn answer(
@@ -286,7 +282,7 @@ impl<S: Link, H: Handler> HttpConnection<S, H> {
         ensures one { answered.new ≤ answered.old + 1 }
         ensures answered { OnOk result (
             Answering H.answers handler.old handler.new self.old.stage self.new.stage) }
-        ensures kept { SameLinkAndFault self.old self.new }
+        ensures kept { SameStreamAndFault self.old self.new }
         ensures err { OnErr result ((self.new ≡ self.old) × (handler.new ≡ handler.old)) }
         ensures fails { OnErr result (H.failed ⊎ (answered.old ≡ 18446744073709551615)) }
     {
@@ -316,10 +312,9 @@ impl<S: Link, H: Handler> HttpConnection<S, H> {
         }
     }
 
-    /// Keeps the answer, which is sent from now on. `is_exact`: nothing came after the request.
     fn start_sending(&mut self, text: Vec<u8>, is_exact: bool, now: u64)
         ensures holds { HasUnsentText self.new.stage text.items }
-        ensures kept { SameLinkAndFault self.old self.new }
+        ensures kept { SameStreamAndFault self.old self.new }
     {
         // The connection can close at once if nothing is unread, or if there is no answer to lose.
         let closes_after = is_exact || text.is_empty();
@@ -327,7 +322,8 @@ impl<S: Link, H: Handler> HttpConnection<S, H> {
         self.deadline = now.saturating_add(TIMEOUT_MILLIS);
     }
 
-    /// Requests the answer's signature. The errors are those of [`Handler::request_signature`]; `NotConnected` if no answer is to be signed.
+    /// Requests the answer's signature. `kept`: an earlier request whose connection may be used again, if there is one. Errors: those of
+    /// [`Handler::request_signature`], and `NotConnected` if no answer is to be signed.
     pub(crate) fn request_signature(
         &self,
         handler: &H,
@@ -341,10 +337,10 @@ impl<S: Link, H: Handler> HttpConnection<S, H> {
         }
     }
 
-    /// Finishes the answer that is to be signed: with the signature from its request, or without one. In any other stage nothing changes.
+    /// Finishes the answer that is to be signed: with the signature that `request` brought, or without one. In any other stage nothing changes.
     pub fn complete(&mut self, handler: &H, request: &mut Option<SignatureRequest>, now: u64)
         ensures finished { Finishing (H.finishes handler.now) self.old.stage self.new.stage }
-        ensures kept { SameLinkAndFault self.old self.new }
+        ensures kept { SameStreamAndFault self.old self.new }
     {
         match mem::replace(&mut self.stage, Stage::Draining) {
             Stage::Signing(ticket, is_exact) => {

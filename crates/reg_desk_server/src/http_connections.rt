@@ -1,10 +1,10 @@
-//! The HTTP connections, each in its slot.
+//! All HTTP connections, each in its slot.
 
 ghost use Rattle.std.specs.Prelude.{◌≡◌, ◌+◌, ◌-◌, ◌^◌, min, [], IfOk};
 ghost use Rattle.reg_desk_server.specs.Buffers.{AppendsIfMemory};
 
 use crate::handler::{ConnectionFault, Handler};
-use crate::http_connection::{HttpConnection, Next};
+use crate::http_connection::{HttpConnection, NextStep};
 use crate::poller::{FIRST_HTTP, Poller};
 use crate::shared::{ConnectionFaultReport, Shared};
 use crate::signature_requests::Requester;
@@ -15,8 +15,7 @@ use std::alloc::{AllocError, Global};
 use std::io;
 use std::io::ErrorKind;
 
-/// The most HTTP connections that can be open. With 32 connections to the signer they leave 32 descriptors of the usual limit of 1,024: for the
-/// register, the log, copies, and the control socket.
+/// The most open HTTP connections. Of the usual 1,024 file descriptors, 32 are left for connections to the signer, 32 for files and control lines.
 pub const MOST_HTTP_CONNECTIONS: usize = 960;
 
 /// The most unsent bytes of all HTTP connections together, which clients that don't read keep in memory: 64 MiB.
@@ -25,7 +24,7 @@ const MOST_UNSENT: usize = 67_108_864;
 /// How many milliseconds pass at least between two searches for connections whose time is up.
 pub(crate) const SWEEP_MILLIS: u64 = 250;
 
-/// Which connections may be evicted: those without an answer; those with one; those whose answer is not wholly sent, except the one in a slot.
+/// Which connections may be evicted: those without an answer; those with one; those whose answer is not wholly sent, except the one in this slot.
 #[derive(Clone, Copy)]
 enum Selection {
     Unanswered,
@@ -68,7 +67,7 @@ impl<H: Handler> HttpConnections<H> {
         })
     }
 
-    /// Corrects the total of unsent bytes: of these, a connection had `before`, and has `after` now.
+    /// Corrects the total of unsent bytes (`unsent`): of these, a connection had `before`, and has `after` now.
     pub(crate) fn count_unsent(&mut self, before: usize, after: usize)
         ensures count { self.new.unsent ≡ min (self.old.unsent - before + after) (2 ^ 64 - 1) }
         ensures due { self.new.due ≡ self.old.due }
@@ -94,29 +93,29 @@ impl<H: Handler> HttpConnections<H> {
         let next = connection.advance(shared.read_buffer.as_mut_slice(), now);
         self.count_unsent(before, connection.unsent());
         match next {
-            Next::Due => self.put_due(slot, connection),
-            Next::Poll(interest) => {
+            NextStep::Due => self.put_due(slot, connection),
+            NextStep::Poll(interest) => {
                 let token = slot.saturating_add(FIRST_HTTP);
                 let HttpConnection {
-                    link,
+                    stream,
                     is_registered,
                     ..
                 } = &mut connection;
                 if shared
                     .poller
-                    .register_again(link, token, interest, is_registered)
+                    .register_again(stream, token, interest, is_registered)
                 {
                     self.slots.put(slot, connection);
                 } else if connection.is_receiving() {
-                    // Answered, not closed: `serve_all` answers each connection that it accepts once, and would wait for this one without end.
+                    // Not closed: `serve_all` waits until each accepted connection was answered, so this one is to be answered, too.
                     connection.fault = Some(ConnectionFault::Broken);
                     self.put_due(slot, connection);
                 } else {
                     self.close(slot, connection, shared, ConnectionFault::Broken);
                 }
             }
-            Next::Park => self.slots.put(slot, connection),
-            Next::Close => self.close(slot, connection, shared, ConnectionFault::Broken),
+            NextStep::Park => self.slots.put(slot, connection),
+            NextStep::Close => self.close(slot, connection, shared, ConnectionFault::Broken),
         }
     }
 
@@ -124,12 +123,11 @@ impl<H: Handler> HttpConnections<H> {
         ensures { AppendsIfMemory slot self.old.due.items self.new.due.items }
     {
         self.slots.put(slot, connection);
-        // Without memory for the slot, a sweep after the connection's deadline finds it again.
+        // Out of memory: a sweep after the connection's deadline makes it due again.
         let _ = self.due.push(slot);
     }
 
-    /// Closes a connection that was taken out of its slot. The connection is lost if it awaits a signature or its answer is not wholly sent. The loss
-    /// is reported, with its reason `why`, unless a fault of the connection was reported before.
+    /// Closes a connection taken out of its slot. If its answer is unsigned or not wholly sent, reports `why`, unless a `fault` was reported before.
     fn close(
         &mut self,
         slot: usize,
@@ -151,8 +149,8 @@ impl<H: Handler> HttpConnections<H> {
         self.slots.release(slot);
     }
 
-    /// Evicts the oldest connection that has an answer, or else the oldest of all, unless it is due. One that still receives becomes due: the handler
-    /// gets what came, the answer (empty for an incomplete request) is sent, and the connection closed. Any other connection is closed at once.
+    /// Evicts the oldest connection that has an answer, or else the oldest of all, unless that is due already. One that still receives becomes due:
+    /// the handler gets what came, and the answer (empty for an incomplete request) is sent before it is closed. Any other is closed at once.
     pub(crate) fn evict(&mut self, shared: &mut Shared) {
         let answered = self.oldest(Selection::Answered);
         let Some(slot) = answered.or(self.oldest(Selection::Unanswered)) else {
@@ -165,7 +163,7 @@ impl<H: Handler> HttpConnections<H> {
             if connection.is_receiving() {
                 connection.fault = Some(ConnectionFault::Evicted);
             }
-            self.expire(slot, connection, shared, ConnectionFault::Evicted);
+            self.make_due_or_close(slot, connection, shared, ConnectionFault::Evicted);
         }
     }
 
@@ -182,7 +180,7 @@ impl<H: Handler> HttpConnections<H> {
         found
     }
 
-    /// The number of the connection in a slot if the selection includes it, or else the greatest number, which no connection has.
+    /// The number of a slot's connection (smaller if it is older) if the selection includes it; else the greatest number, which no connection has.
     fn number_at(&self, slot: usize, selection: Selection) -> u64 {
         match self.slots.get(slot) {
             Some(connection) if selection.includes(connection, slot) => connection.number,
@@ -190,7 +188,7 @@ impl<H: Handler> HttpConnections<H> {
         }
     }
 
-    /// Looks for connections whose time is up: one that still receives becomes due (an incomplete request gets no response), any other is closed.
+    /// Closes connections whose time is up; makes those due that still receive. Does nothing if the last sweep was less than `SWEEP_MILLIS` ago.
     pub(crate) fn sweep(&mut self, shared: &mut Shared, now: u64) {
         if now.saturating_sub(self.swept) < SWEEP_MILLIS {
             return;
@@ -199,7 +197,7 @@ impl<H: Handler> HttpConnections<H> {
         for slot in 0..self.slots.entries.len() {
             match self.slots.take(slot) {
                 Some(connection) if connection.is_expired(now) => {
-                    self.expire(slot, connection, shared, ConnectionFault::TimedOut);
+                    self.make_due_or_close(slot, connection, shared, ConnectionFault::TimedOut);
                 }
                 Some(connection) => self.slots.put(slot, connection),
                 None => {}
@@ -207,8 +205,7 @@ impl<H: Handler> HttpConnections<H> {
         }
     }
 
-    /// Ends a connection that was taken out of its slot: it becomes due if it still receives, and is closed otherwise.
-    fn expire(
+    fn make_due_or_close(
         &mut self,
         slot: usize,
         connection: HttpConnection<TcpStream, H>,
@@ -222,8 +219,7 @@ impl<H: Handler> HttpConnections<H> {
         }
     }
 
-    /// While the connections have more than `MOST_UNSENT` unsent bytes, closes the oldest one whose answer is not wholly sent. The connection in the
-    /// slot `answered_slot`, whose answer was just begun or finished, is not closed.
+    /// While more than `MOST_UNSENT` bytes are unsent, closes the oldest connection that has any, but not the one just answered (in `answered_slot`).
     pub(crate) fn limit_unsent(&mut self, answered_slot: usize, shared: &mut Shared) {
         for _ in 0..MOST_HTTP_CONNECTIONS {
             if self.unsent <= MOST_UNSENT {
@@ -233,11 +229,12 @@ impl<H: Handler> HttpConnections<H> {
                 return;
             };
             if let Some(connection) = self.slots.take(slot) {
-                self.expire(slot, connection, shared, ConnectionFault::Evicted);
+                self.make_due_or_close(slot, connection, shared, ConnectionFault::Evicted);
             }
         }
     }
 
+    /// `EventLoop::finish`, which awaits no more requests, calls this and `close_due`. They close connections that still receive, and report none.
     pub(crate) fn close_all_receiving(&mut self, shared: &mut Shared) {
         for slot in 0..self.slots.entries.len() {
             self.close_if_receiving(slot, shared);
@@ -258,7 +255,6 @@ impl<H: Handler> HttpConnections<H> {
     fn close_if_receiving(&mut self, slot: usize, shared: &mut Shared) {
         if let Some(connection) = self.slots.take(slot) {
             if connection.is_receiving() {
-                // The fault is not reported: a connection that still receives is not lost.
                 self.close(slot, connection, shared, ConnectionFault::TimedOut);
             } else {
                 self.slots.put(slot, connection);
@@ -266,7 +262,6 @@ impl<H: Handler> HttpConnections<H> {
         }
     }
 
-    /// Whether the requester of a signature still waits for it.
     pub(crate) fn is_waiting(&self, requester: Requester) -> bool {
         match self.slots.get(requester.slot) {
             Some(connection) => connection.number == requester.number && connection.is_signing(),
@@ -285,6 +280,7 @@ impl<H: Handler> HttpConnections<H> {
         }
     }
 
+    /// As [`HttpConnection::request_signature`]; `NotConnected` also if the requester's connection is closed.
     pub(crate) fn request_signature(
         &self,
         requester: Requester,

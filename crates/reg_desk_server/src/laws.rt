@@ -1,4 +1,4 @@
-//! Laws of whole connections. The functions do nothing: their contracts are the laws.
+//! Laws of a connection over any stream `S`, such as a TCP stream, from its accept on. Each law is the contract of a function that does nothing.
 
 ghost use Rattle.std.specs.Prelude.{◌≡◌, []};
 ghost use Rattle.reg_desk_server.specs.Connections.{IsServedOnce, HasAnsweredLines, KeepsServed, ServesOn, AnswersNoMoreLines, AnswersMoreLines};
@@ -8,17 +8,15 @@ ghost use Rattle.reg_desk_server.specs.declared.control_connection.ControlConnec
 ghost use Rattle.reg_desk_server.specs.declared.http_connection.HttpConnection.{HttpConnection};
 
 use crate::handler::Handler;
-use crate::link::Link;
+use crate::stream::ClientStream;
 
-/// On a control connection the lines are answered in order and no line twice, and the replies are sent in order and no reply twice.
-///
-/// After any calls named below since the connection was accepted, the bytes that came are the answered lines, the kept bytes, and last any bytes for
-/// which there was no memory; if there are such bytes, the connection has ended. The sent bytes, followed by the unsent ones, are the replies to the
-/// answered lines (`HasAnsweredLines`). `ControlConnection::advance` answers no line, `answer_lines` none, one or several, and `answer_deferred` at
-/// most one. The law is about any `Link`, a connection that never blocks; no clause states which bytes a socket carries.
-pub fn each_line_is_answered_once_in_order<S: Link, H: Handler>()
+/// On a control connection each line is answered at most once, in order, and each reply is sent at most once, in order. `ControlConnection::advance`
+/// answers no line, `answer_lines` none, one or several, and `answer_deferred` (clause `later`) at most one. After any such calls the bytes that came
+/// are the answered lines, then the kept bytes, then bytes for which there was no memory (if there are any, the connection has ended). The sent bytes
+/// and then the unsent ones are the replies to the answered lines (`HasAnsweredLines`). No clause states which bytes a socket carries.
+pub fn each_line_is_answered_once_in_order<S: ClientStream, H: Handler>()
     ensures begins { (client : ControlConnection S) → IsFresh client
-        → HasAnsweredLines S.Write.contents S.Read.remaining H.answers_lines client.link client [] [] }
+        → HasAnsweredLines S.Write.contents S.Read.remaining H.answers_lines client.stream client [] [] }
     ensures advances { AnswersNoMoreLines S.Write.contents S.Read.remaining H.answers_lines }
     ensures answers_lines { AnswersMoreLines S.Write.contents S.Read.remaining H.answers_lines
         (AnswersFirstLines H.answers_lines) (λ s t _. t ≡ s) }
@@ -26,15 +24,13 @@ pub fn each_line_is_answered_once_in_order<S: Link, H: Handler>()
         (AnswersDeferred H.answers_lines H.defers) (DefersFirstLine H.defers) }
 {}
 
-/// A request is answered at most once.
-///
-/// While an HTTP connection receives, the bytes that came are kept, except the last if no memory was left for them. Nothing is sent before its answer
-/// is finished. From then on the sent bytes, followed by the unsent ones, are the answer to a prefix of the bytes that came. That prefix is passed to
-/// the handler once; the bytes after it are dropped (`IsServedOnce`). `HttpConnection::advance`, `answer`, `complete` and `record_fault` preserve
-/// this. So it holds after any of these calls since the connection was accepted.
-pub fn each_request_is_answered_at_most_once<S: Link, H: Handler>()
+/// On an HTTP connection the request is answered at most once. While the connection receives, it keeps the bytes that came, except the last if there
+/// was no memory for them. It sends nothing before its answer is finished. From then on the sent bytes and then the unsent ones are the answer to a
+/// prefix of the bytes that came. The handler gets that prefix once; the bytes after it are dropped (`IsServedOnce`). This holds after any calls of
+/// `HttpConnection::advance`, `answer`, `complete` (clause `finishes`) and `record_fault` (clause `faults`).
+pub fn each_request_is_answered_at_most_once<S: ClientStream, H: Handler>()
     ensures begins { (client : HttpConnection S H H.Ticket H.ControlTicket) → HasReceived client.stage []
-        → IsServedOnce S.Write.contents S.Read.remaining H.Handler client.link client }
+        → IsServedOnce S.Write.contents S.Read.remaining H.Handler client.stream client }
     ensures advances { ServesOn S.Write.contents S.Read.remaining H.Handler }
     ensures answers { (s t : H)
         → KeepsServed S.Write.contents S.Read.remaining H.Handler (Answering H.answers s t) }

@@ -1,5 +1,4 @@
-//! An event loop for many connections on one thread. It collects the bytes of each HTTP client until they are a whole request, answers the request
-//! at most once, and sends the answer as fast as the client receives it. On each control connection it answers the lines in their order.
+//! An event loop for many connections on one thread: collects each HTTP client's request and answers it at most once; answers control lines in order.
 #![tactic(auto)]
 
 mod acceptor;
@@ -10,12 +9,12 @@ mod handler;
 mod http_connection;
 mod http_connections;
 pub mod laws;
-mod link;
 mod poller;
 mod request_bytes;
 mod shared;
 mod signature_requests;
 mod slots;
+mod stream;
 mod unsent;
 mod waiting_line;
 
@@ -24,7 +23,7 @@ pub use event_loop::EventLoop;
 pub use handler::{
     ConnectionCounts, ConnectionFault, Deferred, EventLoopFault, Handler, LineReplies,
 };
-pub use http_connection::{HttpConnection, Next};
+pub use http_connection::{HttpConnection, NextStep};
 pub use http_connections::MOST_HTTP_CONNECTIONS;
-pub use link::Link;
 pub use poller::as_would_block;
+pub use stream::ClientStream;

@@ -1,4 +1,4 @@
-//! The poller, which reports the connections that are ready.
+//! The poller, which reports the sockets that are ready; their tokens; and the errors of a system without free file descriptors.
 
 ghost use Rattle.std.specs.Prelude.{◌≡◌, ◌+◌, ℕ, [], IfOk, MatchBool, OnErr, OnOk, true};
 ghost use Rattle.std.specs.IoError.{error_kind};
@@ -15,7 +15,7 @@ use std::time::Duration;
 
 const MOST_EVENTS: usize = 1_024;
 
-/// The error numbers for too many open files, in this process (EMFILE) and in the system (ENFILE).
+/// The error numbers for too many open files: in this process (EMFILE), in the system (ENFILE).
 const EMFILE: i32 = 24;
 
 const ENFILE: i32 = 23;
@@ -23,7 +23,7 @@ const ENFILE: i32 = 23;
 /// How many signatures for HTTP answers can be awaited at the same time.
 pub(crate) const MOST_SIGNATURES: usize = 32;
 
-/// Tokens: the listeners, the 8 control connections, the signature requests, a line's connection to the signer, and last the HTTP connections.
+/// Tokens name sockets. `FIRST_..` is the first of several, such as 8 control connections. `LINE_SIGNER`: a control line's connection to the signer.
 pub(crate) const HTTP_LISTENER: usize = 0;
 
 pub(crate) const CONTROL_LISTENER: usize = 1;
@@ -36,7 +36,7 @@ pub(crate) const LINE_SIGNER: usize = FIRST_SIGNATURE + MOST_SIGNATURES;
 
 pub(crate) const FIRST_HTTP: usize = LINE_SIGNER + 1;
 
-/// Polls connections, and keeps the tokens of those that are ready in this iteration.
+/// Polls the registered sockets. `tokens` are those of the sockets that the last poll found ready, at most `MOST_EVENTS`; a later poll finds others.
 #[derive(Drop)]
 pub(crate) struct Poller {
     poll: Poll,
@@ -76,7 +76,7 @@ impl Poller {
         }
     }
 
-    /// Registers a connection, or registers it again if `is_registered`. Returns whether that succeeded.
+    /// Registers a socket, or registers it again if `is_registered` is set. Sets `is_registered` even if that fails. Returns whether it succeeded.
     pub(crate) fn register_again<S: Source>(
         &self,
         source: &mut S,
@@ -93,7 +93,6 @@ impl Poller {
             .is_ok()
     }
 
-    /// Blocks until a socket is ready, at most for `longest`. Then `tokens` has the tokens of those that are ready.
     pub(crate) fn poll<H: Handler>(
         &mut self,
         handler: &H,
@@ -102,7 +101,7 @@ impl Poller {
         ensures ok { OnOk result ((count : ℕ) → H.waited count → H.waited (count + 1)) }
         ensures err { OnErr result H.failed }
     {
-        // The handler waits, so that contracts can count its waits (`Handler::waited`).
+        // The handler makes the call, so that contracts can count its waits (`Handler::waited`).
         handler.wait(&mut self.poll, &mut self.events, longest)?;
         self.tokens.clear();
         for event in &self.events {

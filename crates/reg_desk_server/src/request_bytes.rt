@@ -1,4 +1,4 @@
-//! Receives the bytes of an HTTP request.
+//! Receives the bytes of an HTTP request, as far as they have come.
 
 ghost use Rattle.std.specs.Prelude.{◌≡◌, ◌⊎◌};
 ghost use Rattle.reg_http_head.specs.Bytes.{collected_bytes};
@@ -10,7 +10,7 @@ use std::io::{ErrorKind, Read};
 
 const MOST_READS: usize = 32;
 
-/// After a read: the request is whole; nothing more came yet; more may have come; the client will send no more; the connection failed; out of memory.
+/// After a read: the request is whole; nothing more has come yet; more may have come; the client sends no more; the read failed; out of memory.
 #[derive(Clone, Copy)]
 pub(crate) enum Received {
     Whole,
@@ -21,7 +21,7 @@ pub(crate) enum Received {
     OutOfMemory,
 }
 
-/// Receives bytes until they are a whole request or no more can be received now, in at most `MOST_READS` reads.
+/// Appends bytes to `collected` until it has a whole request, or no more have come. Reads at most `MOST_READS` times: other connections get a turn.
 pub(crate) fn receive<R: Read>(
     reader: &mut R,
     collected: &mut Collected,

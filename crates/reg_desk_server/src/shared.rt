@@ -11,7 +11,7 @@ use std::net::{Net, SocketAddr};
 
 const BUFFER_SIZE: usize = 65_536;
 
-/// The poller, the faults to report, and the buffer for one read. Each read overwrites the buffer, so all connections use the same one.
+/// The poller; the faults to report (`lost`: `new` reserves room for `connections` reports); and the buffer of a read, which the next one overwrites.
 #[derive(Drop)]
 pub(crate) struct Shared {
     pub(crate) alloc: Global,
@@ -35,14 +35,13 @@ impl Shared {
     }
 }
 
-/// A fault of a connection, which is lost or is answered for the part of its request that came. A control connection has no address (`client`).
+/// Why a connection is lost, or is answered though only a part of its request came. `client` is `None` for a control connection.
 #[derive(Clone, Copy)]
 pub(crate) struct ConnectionFaultReport {
     pub(crate) client: Option<SocketAddr>,
     pub(crate) why: ConnectionFault,
 }
 
-/// The faults of connections that were not reported yet, in their order.
 #[derive(Drop)]
 pub(crate) struct ConnectionFaultReports {
     pub(crate) unreported: Vec<ConnectionFaultReport>,
@@ -59,7 +58,7 @@ impl ConnectionFaultReports {
     pub(crate) fn add_fault_report(&mut self, lost: ConnectionFaultReport)
         ensures { AppendsIfMemory lost self.old.unreported.items self.new.unreported.items }
     {
-        // Without memory for it, it is not reported.
+        // Out of memory: the fault is not reported.
         let _ = self.unreported.push(lost);
     }
 

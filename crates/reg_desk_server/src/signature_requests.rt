@@ -7,14 +7,13 @@ use std::alloc::{AllocError, Global};
 use std::collections::VecDeque;
 use std::time::Duration;
 
-/// How many milliseconds a signature may take, from when its answer was begun.
+/// How many milliseconds a signature may take, from when it was queued.
 pub(crate) const TIMEOUT_MILLIS: u64 = 10_000;
 
-/// How many milliseconds pass after a request that would block before a signature is requested again.
+/// After a request to the signer would have blocked, no signature is requested for this many milliseconds.
 pub(crate) const PAUSE_MILLIS: u64 = 10;
 
-/// How many times the loop polls for a signature before it blocks. The polls take 100 or 200 microseconds in all. Most signatures arrive by then, and
-/// waking up takes as long as signing.
+/// How many polls after a request don't block. They take 100 to 200 microseconds, in which most signatures come. A wake-up takes as long as signing.
 const POLLS: u32 = 100;
 
 /// An HTTP connection that waits for a signature: its slot, and its number, which no other connection has.
@@ -24,31 +23,29 @@ pub(crate) struct Requester {
     pub(crate) number: u64,
 }
 
-/// A signature that an answer needs.
+/// An answer's signature, queued or requested. At `deadline` (in milliseconds of `Handler::millis`, as `now`) the answer is finished without it.
 #[derive(Clone, Copy)]
-pub(crate) struct WantedSignature {
+pub(crate) struct PendingSignature {
     pub(crate) requester: Requester,
-    /// When the answer is finished without the signature, in milliseconds of the handler's clock.
     pub(crate) deadline: u64,
 }
 
-/// A place for one signature request at a time. Between two of them (`wanted` is `None`), `request` is the last one, if its connection is kept.
+/// A place for one signature request. It is free while `pending` is `None`. A free place may have an answered `request`, whose connection to the
+/// signer is used again by the next request. `has_arrived`: the whole answer has come from the signer, or none will.
 #[derive(Drop)]
-struct Place {
-    wanted: Option<WantedSignature>,
+struct SignatureSlot {
+    pending: Option<PendingSignature>,
     request: Option<SignatureRequest>,
-    /// Whether nothing more is awaited from the signer.
     has_arrived: bool,
 }
 
-/// The signatures that were requested, each at a place, and the queue of those that are to be requested. `now`: milliseconds of the handler's clock.
+/// The signatures that were requested, each at a place (`index`), the queue of those to be requested, and how many of the `POLLS` are left (`polls`).
 #[derive(Drop)]
 pub(crate) struct SignatureRequests {
-    queue: VecDeque<WantedSignature>,
-    places: Vec<Place>,
-    /// Until when no signature is requested, because the last request would have blocked; in milliseconds, like `deadline`.
+    queue: VecDeque<PendingSignature>,
+    places: Vec<SignatureSlot>,
+    /// Until when (as for `deadline`) no signature is requested, because the last request would have blocked; `None` after that.
     paused: Option<u64>,
-    /// How many polls for a signature are left before the loop blocks.
     polls: u32,
 }
 
@@ -56,8 +53,8 @@ impl SignatureRequests {
     pub(crate) fn new(alloc: Global) -> Result<SignatureRequests, AllocError> {
         let mut places = Vec::with_capacity(alloc, MOST_SIGNATURES)?;
         for _ in 0..MOST_SIGNATURES {
-            places.push(Place {
-                wanted: None,
+            places.push(SignatureSlot {
+                pending: None,
                 request: None,
                 has_arrived: false,
             })?;
@@ -70,11 +67,11 @@ impl SignatureRequests {
         })
     }
 
-    /// Queues a requester. Returns whether there was memory for it.
+    /// Queues the signature for a requester. Returns whether there was memory for it.
     pub(crate) fn add(&mut self, requester: Requester, now: u64) -> bool {
         let deadline = now.saturating_add(TIMEOUT_MILLIS);
         self.queue
-            .push_back(WantedSignature {
+            .push_back(PendingSignature {
                 requester,
                 deadline,
             })
@@ -93,8 +90,8 @@ impl SignatureRequests {
         }
     }
 
-    /// Takes the next signature out of the queue. Returns it with a free place; `None` in a pause, if no place is free, or if the queue is empty.
-    pub(crate) fn next(&mut self, now: u64) -> Option<(WantedSignature, usize)> {
+    /// Takes the next signature out of the queue, with the index of a free place; `None` in a pause, if no place is free, or if none is queued.
+    pub(crate) fn next(&mut self, now: u64) -> Option<(PendingSignature, usize)> {
         if let Some(paused) = self.paused {
             if now < paused {
                 return None;
@@ -105,14 +102,13 @@ impl SignatureRequests {
         Some((self.queue.pop_front()?, index))
     }
 
-    /// Puts a signature back at the head of the queue, as its request would have blocked, and begins a pause. Returns whether there was memory.
-    pub(crate) fn requeue(&mut self, wanted: WantedSignature, now: u64) -> bool {
+    /// Puts a signature back at the head of the queue, because its request would have blocked, and begins a pause. Returns whether there was memory.
+    pub(crate) fn requeue(&mut self, pending: PendingSignature, now: u64) -> bool {
         self.paused = Some(now.saturating_add(PAUSE_MILLIS));
-        self.queue.push_front(wanted).is_ok()
+        self.queue.push_front(pending).is_ok()
     }
 
-    /// Takes the first signature out of the queue if its deadline has passed.
-    pub(crate) fn take_expired(&mut self, now: u64) -> Option<WantedSignature> {
+    pub(crate) fn take_expired(&mut self, now: u64) -> Option<PendingSignature> {
         match self.queue.front() {
             Some(first) if first.deadline <= now => self.queue.pop_front(),
             _ => None,
@@ -121,15 +117,15 @@ impl SignatureRequests {
 
     fn free_place(&self) -> Option<usize> {
         for index in 0..self.places.len() {
-            if self.wanted(index).is_none() {
+            if self.pending(index).is_none() {
                 return Some(index);
             }
         }
         None
     }
 
-    pub(crate) fn wanted(&self, index: usize) -> Option<WantedSignature> {
-        self.places.get(index)?.wanted
+    pub(crate) fn pending(&self, index: usize) -> Option<PendingSignature> {
+        self.places.get(index)?.pending
     }
 
     pub(crate) fn has_arrived(&self, index: usize) -> bool {
@@ -139,26 +135,25 @@ impl SignatureRequests {
         }
     }
 
-    /// Takes the request out of a place, which is free then.
     pub(crate) fn take(&mut self, index: usize) -> Option<SignatureRequest> {
         let place = self.places.get_mut(index)?;
-        place.wanted = None;
+        place.pending = None;
         place.request.take()
     }
 
-    /// Keeps a request for a wanted signature at a free place, and registers it with the poller. Returns whether that succeeded.
+    /// Keeps the request for a pending signature at a free place, and has it polled. Returns whether that succeeded.
     pub(crate) fn put(
         &mut self,
         index: usize,
-        wanted: WantedSignature,
+        pending: PendingSignature,
         request: SignatureRequest,
         poller: &Poller,
     ) -> bool {
         self.polls = POLLS;
-        self.put_polled(index, Some(wanted), request, poller)
+        self.put_polled(index, Some(pending), request, poller)
     }
 
-    /// Keeps an answered request at its place, if its connection can be used again.
+    /// Keeps an answered request at its place, if its connection can be used again and polled; else closes it.
     pub(crate) fn keep(
         &mut self,
         index: usize,
@@ -167,17 +162,16 @@ impl SignatureRequests {
     ) {
         if let Some(mut request) = answered {
             if request.can_be_kept() {
-                // If it can't be registered with the poller, it is closed.
                 self.put_polled(index, None, request, poller);
             }
         }
     }
 
-    /// Closes one of the connections to the signer that are kept and not in use, if there is one, so that its descriptor is free.
+    /// Closes one of the connections to the signer that are kept and not in use, if there is one, so that its file descriptor is free.
     pub(crate) fn close_idle(&mut self) {
         for index in 0..self.places.len() {
             if let Some(place) = self.places.get_mut(index) {
-                if place.wanted.is_none() && place.request.is_some() {
+                if place.pending.is_none() && place.request.is_some() {
                     place.request = None;
                     return;
                 }
@@ -185,10 +179,11 @@ impl SignatureRequests {
         }
     }
 
+    /// Registers a request with the poller (`false`: for the first time), unless it was registered, and puts it at a place. Returns whether it could.
     fn put_polled(
         &mut self,
         index: usize,
-        wanted: Option<WantedSignature>,
+        pending: Option<PendingSignature>,
         mut request: SignatureRequest,
         poller: &Poller,
     ) -> bool {
@@ -202,8 +197,8 @@ impl SignatureRequests {
         }
         match self.places.get_mut(index) {
             Some(place) => {
-                *place = Place {
-                    wanted,
+                *place = SignatureSlot {
+                    pending,
                     request: Some(request),
                     has_arrived: false,
                 };
@@ -213,7 +208,7 @@ impl SignatureRequests {
         }
     }
 
-    /// Reads what has come from the signer at a place. If no signature is wanted there, a connection that has ended is closed.
+    /// Reads what has come from the signer at a place. If no signature is pending there, a connection that has ended is closed.
     pub(crate) fn advance(&mut self, index: usize) {
         if let Some(place) = self.places.get_mut(index) {
             if let Some(request) = &mut place.request {
@@ -221,7 +216,7 @@ impl SignatureRequests {
                     place.has_arrived = true;
                 }
             }
-            if place.has_arrived && place.wanted.is_none() {
+            if place.has_arrived && place.pending.is_none() {
                 place.request = None;
             }
         }

@@ -2,7 +2,7 @@
 
 use std::alloc::{AllocError, Global};
 
-/// A slot is free (its index is in `free`), or reserved for a connection. Its entry is `None` if it is free, and while its connection is taken out.
+/// A slot is an index of `entries`. It is free (then in `free`) or reserved. Its entry is `None` while the slot is free or its connection taken out.
 #[derive(Drop)]
 pub(crate) struct Slots<T> {
     pub(crate) entries: Vec<Option<T>>,
@@ -28,9 +28,8 @@ impl<T: Drop> Slots<T> {
         !self.free.is_empty()
     }
 
-    /// Frees a slot whose connection was taken out.
+    /// Frees a slot whose connection was taken out. `free` has capacity for each slot, so `push` doesn't fail.
     pub(crate) fn release(&mut self, slot: usize) {
-        // There is capacity for each slot.
         let _ = self.free.push(slot);
     }
 
@@ -41,7 +40,6 @@ impl<T: Drop> Slots<T> {
         }
     }
 
-    /// Takes the connection out of a slot, which stays reserved.
     pub(crate) fn take(&mut self, slot: usize) -> Option<T> {
         match self.entries.get_mut(slot) {
             Some(entry) => entry.take(),

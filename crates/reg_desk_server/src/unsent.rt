@@ -1,15 +1,14 @@
-//! A text of which a prefix was sent on a connection.
+//! A text that is sent on a connection in pieces: its first `sent` bytes were sent.
 
 ghost use Rattle.std.specs.Prelude.{◌≤◌, length};
 
 use std::io::{ErrorKind, Write};
 
-/// The most bytes for one write.
 const LONGEST_PIECE: usize = 65_536;
 
 const MOST_WRITES: usize = 4;
 
-/// The result of a write: all is sent; the connection accepts no more yet; it may accept more; or it is broken.
+/// The result of a write: the whole text is sent; the connection accepts no more yet; it may accept more; or it is broken.
 #[derive(Clone, Copy)]
 pub(crate) enum Sent {
     All,
@@ -41,7 +40,7 @@ impl Unsent {
         self.text.len() - self.sent
     }
 
-    /// Sends more of the text, as far as the writer accepts it, in at most `MOST_WRITES` writes.
+    /// Sends more of the text, as far as the writer accepts it, in at most `MOST_WRITES` writes, so that other connections get their turn.
     pub(crate) fn send_on<W: Write>(&mut self, writer: &mut W) -> Sent
         ensures { SendsUnsent W.contents writer.old writer.new self.old self.new result }
     {

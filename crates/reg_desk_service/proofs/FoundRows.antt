@@ -126,10 +126,10 @@ owned_line c (Some s) make has_it line is =
 module _ (records : Records) (now : ℕ) where
   history_fits : (id : ℕ) (r : RequestRow) (line : Option ListedRequest) (make : ListedRequest → RequestWithState) → ((it : ListedRequest) → (make it).request ≡ it)
       → ((it : ListedRequest) → line ≡ Some it → it.request ≡ r) → (row : Row)
-      → option_map (λ h. kind.History h) (option_map make line) ≡ Some row → has_key (Request id) row ≡ (r.id == id)
+      → option_map (λ h. kind.AnyRequest h) (option_map make line) ≡ Some row → has_key (Request id) row ≡ (r.id == id)
   history_fits id r None make has_it is row made = absurd (cc)
   history_fits id r (Some line) make has_it is row made =
-      let same : kind.History (make line) ≡ row = cc in
+      let same : kind.AnyRequest (make line) ≡ row = cc in
       sym (ap (has_key (Request id)) same) ∙ ap (λ (it : ListedRequest). it.request.id == id) (has_it line) ∙ ap (λ (it : RequestRow). it.id == id) (is line refl)
 
   certificate_fits : (serial : ℕ) (c : CertRow) (line : Option ListedCertificate) → ((it : ListedCertificate) → line ≡ Some it → it.certificate ≡ c)
@@ -198,7 +198,7 @@ module _ (records : Records) (now : ℕ) (sound : SoundRows records) where
       (line_with r c.0 s.0, held ∙ owned)
 
   of_line : (r : RequestRow) (line : Option ListedRequest) (make : ListedRequest → RequestWithState) → ((it : ListedRequest) → (make it).request ≡ it)
-      → (it : ListedRequest) → line ≡ Some it → it.request ≡ r → request_of_row (option_map (λ h. kind.History h) (option_map make line)) ≡ Some r
+      → (it : ListedRequest) → line ≡ Some it → it.request ≡ r → request_of_row (option_map (λ h. kind.AnyRequest h) (option_map make line)) ≡ Some r
   of_line r None make has_it it is same = absurd (cc)
   of_line r (Some line) make has_it it is same =
       let one : line ≡ it = cc in

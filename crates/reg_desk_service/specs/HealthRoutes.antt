@@ -28,8 +28,8 @@ use Rattle.reg_desk_metrics.specs.declared.numbers.CrlSigning.TheVariants as sig
 use Rattle.reg_desk_metrics.specs.declared.numbers.ReadCrl.{ReadCrl}
 use Rattle.reg_desk_metrics.specs.declared.numbers.Requests.{Requests}
 use Rattle.reg_office_api.specs.LookUps.{HasOpen, IsRegisterSummary}
-use Rattle.reg_desk_service.specs.declared.crl_signer.CrlSigner.{CrlSigner}
-use Rattle.reg_desk_service.specs.declared.crl_signer.CrlSigner.TheVariants as signer
+use Rattle.reg_desk_service.specs.declared.crl_signer.CrlSignerChoice.{CrlSignerChoice}
+use Rattle.reg_desk_service.specs.declared.crl_signer.CrlSignerChoice.TheVariants as signer
 use Rattle.reg_desk_service.specs.declared.reasons.Reason.{Reason}
 use Rattle.reg_desk_service.specs.declared.reasons.Reason.TheVariants.{Unsigned}
 use Rattle.reg_desk_metrics.specs.declared.tally.Tally.{Tally}
@@ -54,7 +54,7 @@ HasOverdue records now (Ok count) =
 HasOverdue records now (Err fault) = Unit {0}
 
 -- how CRLs are signed, as the tally has it
-abbrev pub signing_by : CrlSigner → CrlSigning
+abbrev pub signing_by : CrlSignerChoice → CrlSigning
 signing_by (signer.KeyAt address) = signing.Key
 signing_by signer.Digest = signing.Digest
 signing_by signer.NoSigner = signing.NoSigner

@@ -4,7 +4,7 @@ use Rattle.std.specs.List.{flat_map, position}
 use Rattle.std.specs.Option.{option_map_or}
 use Rattle.reg_core.specs.Calendar.{moment_text}
 use Rattle.reg_core.specs.Serial.{serial_text}
-use Rattle.reg_http.specs.declared.answered.LoggedRequest.{LoggedRequest}
+use Rattle.reg_http.specs.declared.answered.LoggedRevocationRequest.{LoggedRevocationRequest}
 use Rattle.reg_http.specs.RouteNames.{before}
 
 -- whether a byte is logged as it is: ASCII from the space to the tilde (RFC 20 2), except the quotation mark and the backslash
@@ -36,7 +36,7 @@ abbrev pub unsigned_end : Bool → List ℕ
 unsigned_end signature_failed = cond signature_failed (codes " signer") []
 
 -- the part of the line of an exchange that names a request, if there is one: `request`, its number, its serial number and, if it is named, its ground
-abbrev pub named_end : Option LoggedRequest → List ℕ
+abbrev pub named_end : Option LoggedRevocationRequest → List ℕ
 named_end None = []
 named_end (Some named) =
     codes " request" ++ (32 ∷ decimal named.id) ++ (32 ∷ serial_text named.serial)
@@ -44,7 +44,7 @@ named_end (Some named) =
 
 -- the line of an exchange, without its LF: the moment, the client, the request and the answer as `quoted_text`, the length of the answer, the
 -- microseconds, the named request for revocation, and whether a signature failed
-abbrev pub exchange_line : ℕ → List ℕ → List ℕ → List ℕ → ℕ → Option LoggedRequest → Bool → List ℕ
+abbrev pub exchange_line : ℕ → List ℕ → List ℕ → List ℕ → ℕ → Option LoggedRevocationRequest → Bool → List ℕ
 exchange_line now client asked answered micros named signature_failed =
     moment_text now ++ (32 ∷ client) ++ (32 ∷ quoted_text asked) ++ (32 ∷ quoted_text answered)
     ++ (32 ∷ decimal (length answered)) ++ (32 ∷ decimal micros)

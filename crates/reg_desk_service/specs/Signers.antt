@@ -10,21 +10,21 @@ use Rattle.reg_crl_signer.specs.KeyOrDigestSignatures.{digest}
 use Rattle.reg_crl_signer.specs.Forms.{identity_of}
 use Rattle.reg_crl_signer.specs.Signed.{IsCrlWithAlgorithm}
 use Rattle.reg_desk_service.specs.SignerAnswers.{AnsweredAtPath}
-use Rattle.reg_desk_service.specs.declared.crl_signer.CrlSigner.{CrlSigner}
-use Rattle.reg_desk_service.specs.declared.crl_signer.CrlSigner.TheVariants.{NoSigner, Digest, KeyAt}
+use Rattle.reg_desk_service.specs.declared.crl_signer.CrlSignerChoice.{CrlSignerChoice}
+use Rattle.reg_desk_service.specs.declared.crl_signer.CrlSignerChoice.TheVariants.{NoSigner, Digest, KeyAt}
 use Rattle.reg_desk_cli.specs.declared.job.ResponderChoice.{ResponderChoice}
 use Rattle.reg_desk_cli.specs.declared.job.ResponderChoice.TheVariants.{Issuer, Delegate}
 use Rattle.reg_desk_cli.specs.declared.job.SignerAddress.{SignerAddress}
 
 -- the signer of CRLs that the options name. Without one, a placeholder digest; but no signer if the OCSP responder has a key of its own
-abbrev pub crl_signer_of : Option SignerAddress → ResponderChoice → CrlSigner
+abbrev pub crl_signer_of : Option SignerAddress → ResponderChoice → CrlSignerChoice
 crl_signer_of (Some address) responder = KeyAt address
 crl_signer_of None (Issuer certificate) = Digest
 crl_signer_of None (Delegate certificate address) = NoSigner
 
 -- the signers with which a register is opened: that of its CRLs, and that of OCSP responses
 abbrev pub Signing : Type 0
-Signing = CrlSigner × ResponderChoice
+Signing = CrlSignerChoice × ResponderChoice
 
 -- the signers that the options name
 abbrev pub signing_with : Option SignerAddress → ResponderChoice → Signing
@@ -65,7 +65,7 @@ identity_of_signer None key = digest
 identity_of_signer (Some address) key = identity_of address.algorithm key
 
 -- the signer of CRLs with which a register is opened: the given one, or the placeholder digest; with `NoSigner`, any that could be given
-abbrev pub IsSigning : CrlSigner → List ℕ → Identity → Type 0
+abbrev pub IsSigning : CrlSignerChoice → List ℕ → Identity → Type 0
 IsSigning NoSigner key identity = (signer : Option SignerAddress) × (identity ≡ identity_of_signer signer key)
 IsSigning Digest key identity = identity ≡ identity_of_signer None key
 IsSigning (KeyAt address) key identity = identity ≡ identity_of_signer (Some address) key

@@ -4,13 +4,13 @@ use Rattle.reg_core.specs.Calendar.{moment_of}
 use Rattle.reg_core.specs.Number.{number_of}
 use Rattle.reg_core.specs.Serial.{serial_of}
 use Rattle.reg_core.specs.Label.{label_of}
-use Rattle.reg_desk_service.specs.declared.syntax.Field.{Field}
-use Rattle.reg_desk_service.specs.declared.syntax.Field.TheVariants.{Name, Subscriber, Days, Order, Serial, NotBefore, NotAfter, Ground, Request}
+use Rattle.reg_desk_service.specs.declared.syntax.CommandField.{CommandField}
+use Rattle.reg_desk_service.specs.declared.syntax.CommandField.TheVariants.{Name, Subscriber, Days, Order, Serial, NotBefore, NotAfter, Ground, Request}
 use Rattle.reg_desk_service.specs.declared.syntax.WrongField.{WrongField}
 use Rattle.reg_desk_service.specs.declared.syntax.WrongField.TheVariants.{Malformed, Missing, TooMany}
 
 -- the fields of a command or query that takes some, by its word (not of `ocsp`); the optional serial number of `revoke` and `decline` is among them
-abbrev pub fields_wanted : List ℕ → Option (List Field)
+abbrev pub fields_wanted : List ℕ → Option (List CommandField)
 fields_wanted word =
     if bytes_eq word (codes "subscriber") then Some (Name ∷ [])
     else if bytes_eq word (codes "order") then Some (Subscriber ∷ Days ∷ [])
@@ -22,7 +22,7 @@ fields_wanted word =
     else None
 
 -- whether the text of a field is well-formed
-abbrev pub is_well_formed : Field → List ℕ → Bool
+abbrev pub is_well_formed : CommandField → List ℕ → Bool
 is_well_formed Name text = is_some (label_of text)
 is_well_formed Ground text = is_some (label_of text)
 is_well_formed Subscriber text = is_some (number_of text)
@@ -34,7 +34,7 @@ is_well_formed NotBefore text = is_some (moment_of text)
 is_well_formed NotAfter text = is_some (moment_of text)
 
 -- the first field that is missing or malformed, or that there is one too many; none if the fields are as wanted
-abbrev pub first_wrong : List Field → List (List ℕ) → Option WrongField
+abbrev pub first_wrong : List CommandField → List (List ℕ) → Option WrongField
 first_wrong [] [] = None
 first_wrong [] (text ∷ rest) = Some TooMany
 first_wrong (field ∷ wanted) [] = Some (Missing field)
@@ -47,7 +47,7 @@ wrong_in [] = None
 wrong_in (word ∷ fields) = option_and_then (λ wanted. first_wrong wanted fields) (fields_wanted word)
 
 -- the name of a field in `help`
-abbrev pub name_text : Field → List ℕ
+abbrev pub name_text : CommandField → List ℕ
 name_text Name = codes "NAME"
 name_text Subscriber = codes "SUBSCRIBER"
 name_text Days = codes "DAYS"
@@ -58,7 +58,7 @@ name_text NotAfter = codes "NOTAFTER"
 name_text Ground = codes "GROUND"
 name_text Request = codes "REQUEST"
 
-abbrev pub form_text : Field → List ℕ
+abbrev pub form_text : CommandField → List ℕ
 form_text Name = codes " is not 1 to 64 bytes"
 form_text Ground = codes " is not 1 to 64 bytes"
 form_text Subscriber = codes " is not 1 to 18 digits"

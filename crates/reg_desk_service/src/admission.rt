@@ -1,5 +1,4 @@
-//! The limits of `desk open` for requests for revocation over HTTP. Only the refusal because the clock is too far ahead also applies to commands at
-//! the control socket, so the operator can revoke while clients flood the port.
+//! The limits that `desk open` sets to requests for revocation over HTTP. The limit on a clock too far ahead holds at the control socket, too.
 
 ghost use Rattle.std.specs.Prelude.{◌≡◌, IfOk, None, replicate};
 ghost use Rattle.reg_office_api.specs.Calls.{LeadsIn, LooksIn};
@@ -17,15 +16,15 @@ use reg_ocsp::Draft;
 use reg_office_api::{Office, RequestLoad};
 use std::alloc::Global;
 
-/// With this many open requests for its serial number, a request over HTTP is refused, so that those for one certificate can't fill the table.
+/// With this many open requests for one serial number, the desk refuses another over HTTP: else these could fill the requests table.
 const MOST_OPEN: u64 = 3;
 
-/// The most requests for revocation over HTTP within a minute: for each, the desk may read all requests (`Office::request_load`).
+/// The most requests for revocation over HTTP within a minute: for each, the desk may read the whole requests table (`Office::request_load`).
 const MOST_RECENT: usize = 100;
 
 const MINUTE: u64 = 60;
 
-/// The moments of the last hundred requests for revocation over HTTP within the rate limit, as a ring: the oldest is at `next` modulo 100.
+/// The moments of the last hundred requests for revocation over HTTP that passed the rate limit. The oldest is at `next` % 100; `count` replaces it.
 #[derive(Clone, Copy)]
 pub(crate) struct RecentRequests {
     pub(crate) moments: [Option<Moment>; MOST_RECENT],
@@ -33,7 +32,7 @@ pub(crate) struct RecentRequests {
 }
 
 impl RecentRequests {
-    /// Whether these hundred came within the minute up to `now`.
+    /// Whether all these hundred came within the minute up to `now`. `false` if the oldest is later than `now`, because the clock was set back.
     fn is_rate_reached(&self, now: Moment) -> bool
         ensures { result ≡ reached_at now self.now }
     {
@@ -52,11 +51,11 @@ impl RecentRequests {
     }
 }
 
-/// The state by which an open desk admits requests for revocation, besides the records.
+/// The state, besides the records, by which an open desk admits requests for revocation.
 #[derive(Clone, Copy)]
 pub struct Admission {
     pub(crate) recent: RecentRequests,
-    /// The moment that the operator accepted with `accept-clock`.
+    /// The moment in the last line `accept-clock`, if there was one: the operator lets the clock be up to 30 days past it.
     pub accepted: Option<Moment>,
 }
 
@@ -75,9 +74,7 @@ impl Admission {
     }
 }
 
-/// Answers a `POST /requests`, or any other request at that route. A request for revocation beyond the limits is refused with 429 (RFC 6585 4) or 503
-/// (RFC 9110 15.6.4). One with an unknown ground (reason for revocation) is not checked here: the register refuses it. If the store fails during the
-/// check, the answer reports that fault.
+/// Answers a request at `/requests`: 429 or 503 if a limit refuses it. One with an unknown ground (reason) isn't limited: the register refuses it.
 pub(crate) fn begin_admitted<M: Machine>(
     alloc: Global,
     office: &mut M::Office,
@@ -105,8 +102,7 @@ pub(crate) fn begin_admitted<M: Machine>(
     }
 }
 
-/// The refusal of a request for the revocation of a serial number, or the answer with the store's fault; `None` if the request is within the limits.
-/// A request within the rate limit is counted, also if it is refused otherwise.
+/// Counts a request to revoke this serial number, unless the rate limit refuses it. Its answer, if a limit refuses it or after a fault; else `None`.
 fn refusal_of<M: Machine>(
     alloc: Global,
     office: &mut M::Office,
@@ -140,8 +136,8 @@ fn refused(alloc: Global, status: u16) -> Result<Option<Answered>, Memory>
     Ok(Some(refuse(alloc, status)?))
 }
 
-/// The status of the refusal: 503 if the clock is too far ahead, or if less than a tenth (rounded down) of the requests table's most rows (`cap`) is
-/// free, since the operator may need those rows; else 429 if [`MOST_OPEN`] requests for the serial number are open (`waiting`).
+/// The status of the refusal. 503 (RFC 9110 15.6.4): the clock is too far ahead, or less than a tenth of the requests table's `cap` rows is free.
+/// The operator may need that tenth (rounded down). 429 (RFC 6585 4): [`MOST_OPEN`] requests for the serial number are open (`waiting`).
 fn limit_of(request_load: RequestLoad, is_ahead: bool) -> Option<u16>
     ensures { result ≡ limit_by request_load is_ahead }
 {

@@ -5,10 +5,10 @@ ghost use Rattle.reg_desk_service.specs.Clocks.{IsMomentOfSeconds};
 
 use reg_core::Moment;
 
-/// The last moment, 9999-12-31T23:59:59Z.
+/// The last moment, 9999-12-31T23:59:59Z. `of_secs` returns `Some` for it, so `last_moment` never returns `EPOCH`.
 const LAST_SECOND: u64 = 253_402_300_799;
 
-/// The moment that many seconds after the start of 1970, or the last moment if it is later.
+/// The moment `seconds` after the start of 1970 (UTC), or the last moment if that would be in the year 10000 or later.
 pub(crate) fn moment_at(seconds: u64) -> Moment
     ensures { IsMomentOfSeconds seconds result }
 {
@@ -18,7 +18,6 @@ pub(crate) fn moment_at(seconds: u64) -> Moment
     }
 }
 
-/// `LAST_SECOND` is a moment, so `EPOCH` is not returned.
 fn last_moment() -> Moment
     ensures { result ≡ 253402300799 }
 {

@@ -1,4 +1,4 @@
-//! Command lines at the control socket that run together, in one transaction. A command line has a command, other than `crl`, that scripts also have.
+//! Runs consecutive command lines of the control socket in one transaction. A command line, here, has any command of scripts except `crl`.
 
 ghost use Rattle.std.specs.Prelude.{◌≡◌, ◌⊎◌, ◌≤◌, ◌*◌, [], take, length, IfNone, IfSome, IsFalse, IsTrue, vec_capacity};
 ghost use Rattle.reg_desk_metrics.specs.Ahead.{is_ahead as ahead_by};
@@ -23,20 +23,17 @@ use reg_lines::{LONGEST_REPLY, LineKind, ParsedLine, RefusedCommand, ReplyText, 
 use reg_office_api::Office;
 use std::alloc::Global;
 
-/// The most commands in one transaction, in which they share one sync of the disk. Other clients wait until it ends.
+/// The most commands in one transaction. They share one sync of the disk, but other clients wait until the transaction ends.
 const MOST_COMMANDS: usize = 256;
 
-/// The command lines at the beginning of some lines.
+/// The command lines at the beginning of some lines; the command of each, with the moment at which it is to run; how many bytes they have, with LFs.
 #[derive(Drop)]
 struct CommandLines<'a> {
     lines: Vec<&'a [u8]>,
-    /// The command of each line, at the moment at which it is to run.
     commands: Vec<(Moment, Command)>,
-    /// How many bytes the lines have, with their LFs.
     length: usize,
 }
 
-/// A line with its LF, how many bytes it has, and its command.
 #[derive(Clone, Copy)]
 struct CommandLine<'a> {
     line: &'a [u8],
@@ -44,9 +41,9 @@ struct CommandLine<'a> {
     command: Command,
 }
 
-/// Runs the command lines at the beginning of these lines in one transaction, and counts and logs each. `None` if no command has run: there are fewer
-/// than two such lines, the clock is too far ahead, the store failed, or there was no memory. `accepted` is the moment of the last `accept-clock`.
-/// `began` is when the desk began to answer, in microseconds of the monotonic clock; each line's time counts from then. `why` reports `last_reason`.
+/// Runs at `now` the command lines at the beginning of these lines in one transaction; counts (`tally`) and logs each. `None`: no command has run,
+/// as there are fewer than two such lines, the clock is too far ahead, the store failed, or there was no memory. The first line then runs alone.
+/// `accepted`: the moment in the last `accept-clock`. `began`: the monotonic clock (microseconds) before the answer. `why` reports `last_reason`.
 pub(crate) fn answer_batch<M: Machine>(
     alloc: Global,
     office: &mut M::Office,
@@ -97,7 +94,7 @@ pub(crate) fn answer_batch<M: Machine>(
     }
 }
 
-/// The command lines at the beginning of these lines: at most `MOST_COMMANDS`, and as many as there is memory for.
+/// The command lines at the beginning of these lines, to run at `now`: at most `MOST_COMMANDS`, and as many as there is memory for.
 fn command_lines<'a>(alloc: Global, now: Moment, lines: &'a [u8]) -> CommandLines<'a>
     ensures commands { AreCommandLines now (take result.length lines.now) result.commands.items }
     ensures ends { (result.commands.items ≡ []) ⊎ EndsLine lines.now result.length }
@@ -156,7 +153,6 @@ fn command_of(alloc: Global, line: &[u8]) -> Option<Command>
     }
 }
 
-/// Memory for the replies to this many commands, each of at most 84 bytes (`LONGEST_REPLY`).
 fn room_for(alloc: Global, commands: usize) -> Option<Vec<u8>>
     ensures { IfSome result (λ room. (room.items ≡ []) × (84 * commands ≤ vec_capacity room)) }
 {
@@ -164,7 +160,7 @@ fn room_for(alloc: Global, commands: usize) -> Option<Vec<u8>>
     Vec::with_capacity(alloc, size).ok()
 }
 
-/// Whether the clock is not too far ahead. `false` if the last command's moment can't be read: then each line runs alone and checks the clock.
+/// Whether the clock is not too far ahead. `false` if the last command's moment can't be read: the first line then runs alone, with its own check.
 fn may_run<M: Machine>(office: &mut M::Office, accepted: Option<Moment>, now: Moment) -> bool
     ensures { LooksIn M.Office.Office
         (λ records. IsTrue result → IsFalse (ahead_by now records.last accepted))
@@ -176,20 +172,18 @@ fn may_run<M: Machine>(office: &mut M::Office, accepted: Option<Moment>, now: Mo
     }
 }
 
-/// The replies to commands with these outcomes, in the empty buffer `room`.
+/// The replies to commands with these outcomes, in the empty buffer `room`, which has capacity for them: nothing is allocated.
 fn joined_replies(outcomes: &[Outcome], room: Vec<u8>) -> Vec<u8>
     requires { room.items ≡ [] }
     ensures { 84 * length outcomes.now ≤ vec_capacity room → result.items ≡ replies_to outcomes.now }
 {
     let mut text = room;
     for outcome in outcomes {
-        // The room suffices, so nothing is allocated.
         let _ = text.extend_from_slice(ReplyText::of(outcome).as_bytes());
     }
     text
 }
 
-/// Counts and logs each line of a batch that has run.
 fn report_lines<M: Machine>(
     alloc: Global,
     office: &mut M::Office,
@@ -231,7 +225,7 @@ fn refused_command(command: &Command, outcome: &Outcome) -> Option<RefusedComman
     }
 }
 
-/// Counts and logs a line whose command has run in a batch, and keeps for `why` why it was refused. `named` is the line's request, for the log.
+/// Counts and logs a line that has run in a batch; keeps why its command was refused. `named`: the request for revocation that it decided or entered.
 fn report_line<M: Machine>(
     alloc: Global,
     office: &mut M::Office,
@@ -255,7 +249,7 @@ fn report_line<M: Machine>(
     }
     let named = decided_request::<M>(alloc, office, machine, now, line);
     let micros = machine.micros().saturating_sub(began);
-    // A batch signs nothing, so no signature failed (`false`, also for the log).
+    // A batch signs nothing, so no signature failed (`false`, here and in the log).
     tally.count_line(now, line_outcome.effects(false), micros);
     let named = logged_request(&line_outcome, named);
     log_line(

@@ -33,8 +33,7 @@ use reg_lines::{Answered, LONGEST_REPLY, ParsedLine, read_line, run_line};
 use reg_office_api::{LineReply, Office};
 use std::alloc::Global;
 
-/// Answers the first of these lines at a moment, or the first several, if they are commands that can run in one transaction. The other parameters are
-/// as for `answer_counted`.
+/// Answers the first of these lines, or the first several if they are commands that run in one transaction. Parameters: as for `answer_counted`.
 pub(crate) fn answer_first_lines<M: Machine>(
     alloc: Global,
     office: &mut M::Office,
@@ -119,7 +118,7 @@ fn answer_first_line<M: Machine>(
     LineReplies { length, text }
 }
 
-/// The length of the first line with its LF. Whole lines have an LF, so `line_end` gives no `None` here.
+/// How many bytes the first line has, with its LF. Whole lines have an LF, so `line_end` gives no `None` here.
 fn first_length(lines: &[u8]) -> usize
     requires { IsWholeLines lines.now }
     ensures { FirstLineEnds lines.now result }
@@ -130,9 +129,9 @@ fn first_length(lines: &[u8]) -> usize
     }
 }
 
-/// Answers a line at a moment, counts it, and logs it if there is a log. `file` is the register's path. `began` is when the desk began to answer, in
-/// microseconds of the monotonic clock. `accepted` is the moment of the last `accept-clock`, which this line may be. `why` reports `last_reason`.
-/// `named` is the request that the line decided or entered, for the log. `keep_due_reason` keeps, after `next-crl`, why a CRL is due at once.
+/// Answers a line at `now`, counts it (`tally`), and logs it if there is a log. `file`: the register's path. `accepted`: the moment in the last line
+/// `accept-clock`; another such line replaces it. `began`: the monotonic clock (microseconds) before the answer. `last_reason`: what a later line
+/// `why` reports; `keep_due_reason` sets it only after `next-crl`. `named`: the request for revocation that the line decided or entered, for the log.
 pub(crate) fn answer_counted<M: Machine>(
     alloc: Global,
     office: &mut M::Office,
@@ -184,7 +183,7 @@ pub(crate) fn answer_counted<M: Machine>(
     reply.text
 }
 
-/// Answers a line of any kind. `Line(None)` is a line with too many bytes. Without memory to read the line, the reply is that fault.
+/// Answers a line of any kind. `Line`: one that scripts also have, or that can't be read; `None` if it is too long. `Err`: no memory for reading.
 fn answer_control_line<M: Machine>(
     alloc: Global,
     office: &mut M::Office,
@@ -234,7 +233,7 @@ fn accept_clock(alloc: Global, clock: AcceptedClock, accepted: &mut Option<Momen
     ControlReply::line(alloc, b"clock accepted", LineOutcome::Done)
 }
 
-/// The refusal of a command because the clock is too far ahead, or the fault of reading the last moment; `None` if it may run. `b""`: no prefix.
+/// The refusal if the clock is too far ahead, or the fault if the last command's moment can't be read; else `None`. `b""`: the reason has no indent.
 fn refusal_by_clock<M: Machine>(
     alloc: Global,
     office: &mut M::Office,
@@ -265,7 +264,6 @@ fn clock_refused(alloc: Global) -> ControlReply
     ControlReply::line(alloc, b"bad-clock", LineOutcome::Failed(Failure::BadClock))
 }
 
-/// Runs `revoke` or `decline` with a serial number, unless the clock is too far ahead.
 fn decide_by_clock<M: Machine>(
     alloc: Global,
     office: &mut M::Office,
@@ -286,7 +284,7 @@ fn decide_by_clock<M: Machine>(
     }
 }
 
-/// Refuses a command if the clock is too far ahead, because a command at a wrong moment can't be undone. Queries and OCSP requests are answered.
+/// Runs a line, unless it is a command and the clock is too far ahead: a command at a wrong moment can't be undone. Queries and `ocsp` always run.
 fn answer_by_clock<M: Machine>(
     alloc: Global,
     office: &mut M::Office,
@@ -321,7 +319,7 @@ fn has_command(line: &[u8]) -> bool
     }
 }
 
-/// Runs a line that scripts also have, given without its line end, at a moment. Memory for its reply (`room`) is reserved before it runs.
+/// Runs a line that scripts also have; `line` has no line end. Memory for the reply (`room`) comes first, so that a command that ran gets its reply.
 fn answer_command_line<M: Machine>(
     alloc: Global,
     office: &mut M::Office,
@@ -344,7 +342,7 @@ fn answer_command_line<M: Machine>(
     reply
 }
 
-/// The reply to a command, query or OCSP request, which has run ([`ControlReply::of`]). If it was refused, keeps the reason for `why`.
+/// The reply ([`ControlReply::of`]) to a command, query or OCSP request that has run. If the line was refused, keeps the reason for `why`.
 pub(crate) fn answer_command<M: Machine>(
     alloc: Global,
     office: &mut M::Office,
@@ -366,7 +364,7 @@ pub(crate) fn answer_command<M: Machine>(
     reply
 }
 
-/// Sets the schedule of the longest validities, if its steps (a notBefore, and days from it on) are valid.
+/// Sets the schedule of the longest validities, if its steps are valid. A step: from this notBefore on, a validity has at most this many days.
 fn answer_schedule<M: Machine>(
     alloc: Global,
     office: &mut M::Office,
@@ -377,14 +375,15 @@ fn answer_schedule<M: Machine>(
         (λ identity before after. SetAt steps.now before result.text.items after) office.old office.new }
     ensures line_outcome { ReportsLineOutcome result.line_outcome result.text.items }
 {
-    let set = set_steps::<M>(alloc, office, steps);
-    let reply = set_reply(alloc, set);
+    let outcome = set_steps::<M>(alloc, office, steps);
+    let reply = set_reply(alloc, outcome);
     if reply.line_outcome.kind() == LineReply::Refused {
         keep_reply_reason(&reply.text, last_reason);
     }
     reply
 }
 
+/// Sets the schedule of these steps, if they are valid. `ended` makes the office's fault, if any, a [`Failure`].
 fn set_steps<M: Machine>(
     alloc: Global,
     office: &mut M::Office,
@@ -400,18 +399,18 @@ fn set_steps<M: Machine>(
     ended(office.set_schedule(alloc, schedule))
 }
 
-fn set_reply(alloc: Global, set: Result<(), Failure>) -> ControlReply
-    ensures text { RepliesSetting set result.text.items }
+fn set_reply(alloc: Global, outcome: Result<(), Failure>) -> ControlReply
+    ensures text { RepliesSetting outcome result.text.items }
     ensures line_outcome { ReportsLineOutcome result.line_outcome result.text.items }
-    ensures written { OnOk set (IsLineReply (codes "schedule set") LineOutcome.ScheduleSet result) }
+    ensures written { OnOk outcome (IsLineReply (codes "schedule set") LineOutcome.ScheduleSet result) }
 {
-    match set {
+    match outcome {
         Ok(()) => ControlReply::line(alloc, b"schedule set", LineOutcome::ScheduleSet),
         Err(why) => ControlReply::line(alloc, why.line().as_bytes(), LineOutcome::Failed(why)),
     }
 }
 
-/// Whether a signature has failed since `failures` were the office's two counts of failed signatures: of CRLs, and of OCSP responses.
+/// Whether a signature has failed since the office's counts of failed signatures (of CRLs, and of OCSP responses) were read as `failures`.
 fn has_failed<M: Machine>(office: &M::Office, failures: (u64, u64)) -> bool
     ensures { IsTrue result
         ↔ ((failures.0 < M.Office.failures office.now) ⊎ (failures.1 < M.Office.answer_failures office.now)) }

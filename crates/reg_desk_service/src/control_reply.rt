@@ -1,4 +1,4 @@
-//! A reply at the control socket, and the effects of its line on the counts.
+//! A reply at the control socket, and how its line is counted.
 
 ghost use Rattle.std.specs.Prelude.{◌≡◌, ◌≤◌, ◌++◌, ◌∷◌, [], ℕ, List, IfOk, vec_capacity};
 ghost use Rattle.reg_core.specs.Lines.{fault_line};
@@ -11,18 +11,16 @@ use reg_lines::{Answered, LineKind};
 use reg_office_api::{LineEffects, LineReply, SignatureOutcome, StoreEffect};
 use std::alloc::{AllocError, Global};
 
-/// The result of a line at the control socket.
 #[derive(Clone, Copy)]
 pub(crate) enum LineOutcome {
-    /// A command, a query, an `ocsp` line without a response, or a line that can't be read: its kind, and its outcome.
+    /// A command (`revoke N SERIAL` too), a query, an `ocsp` line without a response, or a line that can't be read: its kind, and its outcome.
     Completed(LineKind, Outcome),
-    /// An OCSP request that got a response; `true` if the response has only a status (RFC 6960 4.2.1).
+    /// An OCSP request that got a response; `true` if the response has only a responseStatus (RFC 6960 4.2.1), and so no signature.
     Response(bool),
-    /// A word that only the control socket has, which succeeded and wrote nothing to the store.
+    /// Any other line that only the control socket has, if it succeeded: one that wrote nothing to the store (`Done`), or `schedule` (`ScheduleSet`).
     Done,
-    /// A schedule was set, and so written to the store.
     ScheduleSet,
-    /// Any other failure: of a word that only the control socket has, or before a command ran, such as `bad-clock`.
+    /// Any other failure: of such a line, or before a command ran, such as `bad-clock`.
     Failed(Failure),
     /// No copy was created, because of this fault. It is not counted as a failure of the store: it may come from the path of the copy.
     CopyFault(Fault),
@@ -35,12 +33,12 @@ impl LineOutcome {
         ensures { result ≡ line_outcome_of answered.now }
     {
         match answered {
-            Answered::Completed(asked, outcome) => LineOutcome::Completed(*asked, *outcome),
+            Answered::Completed(kind, outcome) => LineOutcome::Completed(*kind, *outcome),
             Answered::Response(reply) => LineOutcome::Response(reply.has_only_status),
         }
     }
 
-    /// What is counted of the line: its reply, signature and effect on the store. `signature_failed`: whether a signature failed during the line.
+    /// What the desk counts of the line. `signature_failed`: whether a signature failed while the line ran.
     pub(crate) fn effects(&self, signature_failed: bool) -> LineEffects
         ensures { result ≡ effects_of signature_failed self.now }
     {
@@ -52,7 +50,7 @@ impl LineOutcome {
         }
     }
 
-    /// How the line is counted: as accepted, as refused or as a fault.
+    /// Whether the line was accepted, was refused, or met a fault.
     pub(crate) fn kind(&self) -> LineReply
         ensures { result ≡ kind_of self.now }
     {
@@ -82,7 +80,7 @@ impl LineOutcome {
         }
     }
 
-    /// An `ocsp` line without a response, and a response with only a status, needed no signature, or their signature failed.
+    /// Whether an `ocsp` line's response is signed. Without one, or with only a responseStatus (`true`), a signature failed or was not needed.
     fn ocsp(&self, signature_failed: bool) -> SignatureOutcome
         ensures { result ≡ ocsp_outcome signature_failed self.now }
     {
@@ -90,6 +88,7 @@ impl LineOutcome {
             LineOutcome::Completed(LineKind::Ocsp, _) => failed_if(signature_failed),
             LineOutcome::Response(true) => failed_if(signature_failed),
             LineOutcome::Response(false) if !signature_failed => SignatureOutcome::Made,
+            // Does not occur: if a signature fails, the response is internalError (`true`).
             LineOutcome::Response(false) => SignatureOutcome::Failed,
             _ => SignatureOutcome::NotRequested,
         }
@@ -127,16 +126,15 @@ fn failed_if(signature_failed: bool) -> SignatureOutcome
     }
 }
 
-/// A reply at the control socket, and the result of its line.
+/// A reply at the control socket with its LF (empty if there was no memory for it), and the result of its line.
 #[derive(Drop)]
 pub(crate) struct ControlReply {
-    /// The reply with its LF; empty if there was no memory for it.
     pub(crate) text: Vec<u8>,
     pub(crate) line_outcome: LineOutcome,
 }
 
 impl ControlReply {
-    /// The reply to a line that scripts also have. Unless it is an OCSP response, it is written into `room` (empty, 84 bytes) without an allocation.
+    /// The reply to a line that scripts also have. It is written into `room` (empty, with 84 bytes for the longest reply), except an OCSP response.
     pub(crate) fn of(answered: Answered, room: Vec<u8>) -> ControlReply
         requires empty { room.items ≡ [] }
         requires room { 84 ≤ vec_capacity room }
@@ -150,14 +148,14 @@ impl ControlReply {
         }
     }
 
-    /// A reply of one line, with the result `line_outcome`; empty if there is no memory for it.
+    /// A reply of one line, given without its LF; empty if there is no memory for it.
     pub(crate) fn line(alloc: Global, line: &[u8], line_outcome: LineOutcome) -> ControlReply
         ensures { IsLineReply line.now line_outcome result }
     {
         ControlReply::made(alloc, with_lf(alloc, line), line_outcome)
     }
 
-    /// The reply with the line of a fault or a refusal, for a line that ran no command.
+    /// The reply to a line that ran no command: the text of this fault, which may be a refusal.
     pub(crate) fn fault(alloc: Global, fault: Fault) -> ControlReply
         ensures { IsLineReply (fault_line fault) (LineOutcome.Failed (Failure.Fault fault)) result }
     {
@@ -176,7 +174,7 @@ impl ControlReply {
         ControlReply::line(alloc, line.as_bytes(), LineOutcome::CopyFault(fault))
     }
 
-    /// The reply with this text and the result `line_outcome`; empty if there was no memory for the text.
+    /// The reply with this text; empty, with the outcome `Silent`, if there was no memory for the text.
     pub(crate) fn made(
         alloc: Global,
         text: Result<Vec<u8>, AllocError>,

@@ -1,4 +1,4 @@
-//! Copies the open register: the word `copy` at the control socket.
+//! The line `copy PATH` at the control socket, which copies the open register.
 
 ghost use Rattle.std.specs.Prelude.{◌≡◌, ◌++◌, ◌∷◌, [], IfErr, IfOk};
 ghost use Rattle.reg_core.specs.Lines.{fault_line};
@@ -12,11 +12,10 @@ use crate::reasons::{keep_reason_text, prefix_and_end};
 use reg_core::{Cause, Decimal, Fault};
 use std::alloc::{AllocError, Global};
 
-/// Why no copy was created; `fault` is `Memory` or `Store`.
+/// Why no copy was created: the fault (`Memory` or `Store`), and the cause of the failed call, if it is known.
 #[derive(Clone, Copy, PartialEq, Eq)]
 pub struct CopyFault {
     pub fault: Fault,
-    /// The cause of the failed call; `None` if it is not known.
     pub cause: Option<Cause>,
 }
 
@@ -26,8 +25,8 @@ pub(crate) fn is_copy_line(line: &[u8]) -> bool
     line.starts_with(b"copy ")
 }
 
-/// Copies the open register, whose file is `file`, to another path, and replies. Other clients wait meanwhile. If no copy is created, as when the
-/// path is not UTF-8 (`None`), keeps the cause for `why`, or the reply if the cause is not known. No record changes.
+/// Copies the open register, whose path is `file`, to `path` (`None`: it is not UTF-8), and replies. Other clients wait meanwhile. If no copy is
+/// created, `last_reason` becomes the cause, or the reply if the cause is not known. A later line `why` reports it.
 pub(crate) fn answer_copy<M: Machine>(
     alloc: Global,
     machine: &M,
@@ -67,7 +66,7 @@ pub(crate) fn path_in(line: &[u8]) -> Option<&str> {
     str::from_utf8(path).ok()
 }
 
-/// The whole milliseconds since a reading of [`Machine::micros`], in microseconds.
+/// The whole milliseconds since `since`, an earlier value of the monotonic clock [`Machine::micros`].
 pub fn millis_since<M: Machine>(machine: &M, since: u64) -> u64 {
     machine.micros().saturating_sub(since) / 1_000
 }
@@ -78,7 +77,7 @@ fn copied_reply(alloc: Global, bytes: u64, millis: u64) -> ControlReply
     ControlReply::made(alloc, copied_line(alloc, bytes, millis), LineOutcome::Done)
 }
 
-/// The line that reports a copy: how many bytes it has, and how many milliseconds it took. Fails without memory.
+/// The line that reports a copy: how many bytes it has, and how many milliseconds it took. [`AllocError`] if out of memory.
 #[tactic(auto, unfolding(crate::specs::Copies::copied_text))]
 pub fn copied_line(alloc: Global, bytes: u64, millis: u64) -> Result<Vec<u8>, AllocError>
     ensures { IfOk result (λ text. text.items ≡ copied_text bytes millis) }
@@ -99,7 +98,7 @@ fn copy_failed_reply(alloc: Global, why: CopyFault, last_reason: &mut Vec<u8>) -
     reply
 }
 
-/// The cause as `why` reports it: its line on standard error, without the two spaces at its beginning (`b""`: no other prefix), and with an LF.
+/// The cause as the line `why` reports it: with an LF, and without the two spaces with which `Cause::line` begins (`b""`: nothing replaces them).
 fn cause_text(alloc: Global, cause: Option<Cause>) -> Option<Vec<u8>> {
     let line = cause?.line();
     prefix_and_end(alloc, b"", line.as_bytes().strip_prefix(b"  ")?).ok()

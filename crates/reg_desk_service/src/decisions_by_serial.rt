@@ -1,4 +1,4 @@
-//! Revokes and declines requests by number and serial number, and finds both for the lines of the log.
+//! Carries out or declines a request that a line names by its number and serial number (`revoke 1 05`). Finds these two numbers for the log, too.
 
 ghost use Rattle.std.specs.Prelude.{◌≡◌, IfSome};
 ghost use Rattle.reg_core.specs.Records.{request_in};
@@ -16,14 +16,14 @@ use crate::show::{find, report_fault};
 use crate::words::{RowKey, SerialDecision, serial_decision_in};
 use reg_core::{Command, Fault, Moment, Refusal, Reply, RequestRow};
 use reg_core_lists::Row;
-use reg_http::LoggedRequest;
+use reg_http::LoggedRevocationRequest;
 use reg_lines::{
     Answered, LONGEST_REPLY, LineKind, ParsedLine, read_line, untimed_line, without_end,
 };
 use reg_office_api::Office;
 use std::alloc::Global;
 
-/// Revokes or declines a request; the office refuses if there is none. `NoRequest` if it is for another serial number: `why` then reports that.
+/// Decides the line's request. If it is for another serial number: `NoRequest`, and `why` reports that number. The office refuses if none exists.
 pub(crate) fn answer_serial_decision<M: Machine>(
     alloc: Global,
     office: &mut M::Office,
@@ -68,7 +68,7 @@ fn answer_run<M: Machine>(
     answer_command::<M>(alloc, office, answered, room, last_reason)
 }
 
-/// Refuses a line whose request is for another serial number, and keeps that serial number for `why`, without a prefix (`b""`).
+/// Refuses a line whose request is for another serial number, and keeps that number for the line `why`. `b""`: this reason has no indent.
 fn answer_other(alloc: Global, request: RequestRow, last_reason: &mut Vec<u8>) -> ControlReply
     ensures told { ReportsFault (Fault.Refused Refusal.NoRequest) result.text.items }
     ensures line_outcome { ReportsLineOutcome result.line_outcome result.text.items }
@@ -83,7 +83,6 @@ fn answer_other(alloc: Global, request: RequestRow, last_reason: &mut Vec<u8>) -
     reply
 }
 
-/// The request with a number. Errors: those of [`Office::page`].
 fn find_request<O: Office>(
     alloc: Global,
     office: &mut O,
@@ -98,23 +97,24 @@ fn find_request<O: Office>(
     Ok(request_of_row(found))
 }
 
+/// The request in a row of the list of all requests (`AnyRequest`).
 fn request_of_row(found: Option<Row>) -> Option<RequestRow>
     ensures { result ≡ request_of_row found }
 {
     match found {
-        Some(Row::History(history)) => Some(history.request.request),
+        Some(Row::AnyRequest(history)) => Some(history.request.request),
         _ => None,
     }
 }
 
-/// The number and the serial number, for the log, of the request that a line decides. `None` without a log, decision or such request, or at a fault.
+/// The request that a line decides, for the log: its number and serial number. `None` if there is no log or no such request, or if the look-up fails.
 pub(crate) fn decided_request<M: Machine>(
     alloc: Global,
     office: &mut M::Office,
     machine: &M,
     now: Moment,
     line: &[u8],
-) -> Option<LoggedRequest>
+) -> Option<LoggedRevocationRequest>
     ensures { LooksIn M.Office.Office
         (λ records. IfSome result (NamesDecided records line.now))
         office.old office.new }
@@ -124,7 +124,7 @@ pub(crate) fn decided_request<M: Machine>(
     }
     let id = decided_by(line)?;
     match find_request(alloc, office, now, id) {
-        Ok(Some(request)) => Some(LoggedRequest {
+        Ok(Some(request)) => Some(LoggedRevocationRequest {
             id,
             serial: request.serial,
             ground: None,
@@ -133,7 +133,6 @@ pub(crate) fn decided_request<M: Machine>(
     }
 }
 
-/// The number of the request that a line revokes or declines, with a serial number or without.
 fn decided_by(line: &[u8]) -> Option<u64>
     ensures { IfSome result (Decides line.now) }
 {
@@ -147,11 +146,11 @@ fn decided_by(line: &[u8]) -> Option<u64>
     }
 }
 
-/// The request that a line entered (then with its ground) or decided, for the log. `looked_up`: what `decided_request` found before or after it ran.
+/// The request that a line entered (with its ground) or decided. `looked_up`: what `decided_request` found (the same before and after the line).
 pub(crate) fn logged_request(
     line_outcome: &LineOutcome,
-    looked_up: Option<LoggedRequest>,
-) -> Option<LoggedRequest>
+    looked_up: Option<LoggedRevocationRequest>,
+) -> Option<LoggedRevocationRequest>
     ensures { NamesRequest line_outcome.now looked_up result }
 {
     match line_outcome {
@@ -165,16 +164,18 @@ pub(crate) fn logged_request(
 fn named_of(
     command: &Command,
     reply: &Reply,
-    looked_up: Option<LoggedRequest>,
-) -> Option<LoggedRequest>
+    looked_up: Option<LoggedRevocationRequest>,
+) -> Option<LoggedRevocationRequest>
     ensures { NamesAccepted command.now reply.now looked_up result }
 {
     match (command, reply) {
-        (Command::Request { serial, ground }, Reply::Request { id, .. }) => Some(LoggedRequest {
-            id: *id,
-            serial: *serial,
-            ground: Some(*ground),
-        }),
+        (Command::Request { serial, ground }, Reply::Request { id, .. }) => Some(
+            LoggedRevocationRequest {
+                id: *id,
+                serial: *serial,
+                ground: Some(*ground),
+            },
+        ),
         (Command::Revoke { .. }, _) => looked_up,
         (Command::Decline { .. }, _) => looked_up,
         _ => None,

@@ -1,4 +1,4 @@
-//! Lines at the control socket that need a signature: the desk makes the message, has it signed, and then runs the line, once.
+//! Lines at the control socket that need a signature: the desk makes the message (the DER to sign), has it signed, and then runs the line, once.
 
 ghost use Rattle.std.specs.Prelude.{◌≡◌, IfOk, IfSome, OnErr, option_copied};
 ghost use Rattle.reg_office_api.specs.Calls.{KeepsIn, LeadsIn};
@@ -30,15 +30,13 @@ pub enum SignatureKind {
     Answer,
 }
 
-/// The desk's record of a line whose signature is being made.
+/// The desk's record of a line while a signature for it is awaited. `began`: when the desk began the line, in microseconds of the monotonic clock.
 #[derive(Clone, Copy)]
 pub struct LineTicket {
-    pub(crate) wanted: SignatureKind,
-    /// The moment for which the message was made; 1970-01-01T00:00:00Z if none was made, in a back-off.
+    pub(crate) kind: SignatureKind,
+    /// The moment for which the message was made; 1970 without a message, in a back-off (for ten seconds after a timeout, the signer isn't asked).
     pub(crate) moment: Moment,
-    /// When the desk began the line, in microseconds of the monotonic clock.
     pub(crate) began: u64,
-    /// Whether the signer is not asked, because of its back-off.
     pub(crate) is_backed_off: bool,
 }
 
@@ -49,7 +47,7 @@ pub(crate) struct LineSignature {
     pub(crate) preset_signature: PresetSignature,
 }
 
-/// A signer that has given no answer this many milliseconds after `began` has timed out: less than the event loop's ten seconds, which begin earlier.
+/// How many milliseconds after `began` a signer without an answer has timed out. The event loop waits ten seconds, but from a moment before `began`.
 const TIMEOUT: u64 = 9_500;
 
 fn signature_kind_by(command_line: &ParsedLine<'_>) -> Option<SignatureKind> {
@@ -78,11 +76,10 @@ fn deferred_of<M: Machine>(
     }
 }
 
-/// As [`deferred_of`], for an `ocsp` line with these hexadecimal digits. `looked` is its ticket, at whose moment the certificates are looked up.
 fn deferred_ocsp<O: Office>(
     alloc: Global,
     office: &mut O,
-    looked: LineTicket,
+    ticket: LineTicket,
     digits: &[u8],
 ) -> Option<Deferred<LineTicket>>
     ensures { KeepsIn O.Office office.old office.new }
@@ -90,11 +87,10 @@ fn deferred_ocsp<O: Office>(
     let Ok(request) = hex::decode(alloc, digits) else {
         return None;
     };
-    let begun = office.begin_ocsp(alloc, looked.moment, &request);
-    deferred_for(alloc, begun, looked)
+    let begun = office.begin_ocsp(alloc, ticket.moment, &request);
+    deferred_for(alloc, begun, ticket)
 }
 
-/// The message of a response that was begun; `None` if nothing is to be signed, or if there is no memory.
 fn deferred_for(
     alloc: Global,
     begun: Result<ReadyOrUnsigned<OcspResponse, Draft>, Memory>,
@@ -107,15 +103,15 @@ fn deferred_for(
     Some(Deferred { message, ticket })
 }
 
-/// The path of the signer's socket, if there is a signer: for OCSP responses the responder's, or else that of the signer of CRLs.
+/// The socket path of the signer that signs CRLs (`Crl`) or OCSP responses (`Answer`: the responder's own, if it has one). `None`: no signer.
 pub(crate) fn socket_of<'w>(
     signer: &Option<SignerAddress<'w>>,
     responder: &ResponderChoice<'w>,
-    wanted: SignatureKind,
+    kind: SignatureKind,
 ) -> Option<&'w str>
-    ensures { socket_for signer.now responder.now wanted ≡ option_copied result }
+    ensures { socket_for signer.now responder.now kind ≡ option_copied result }
 {
-    match wanted {
+    match kind {
         SignatureKind::Crl => crl_signer_socket(signer),
         SignatureKind::Answer => match responder {
             ResponderChoice::Delegate { address, .. } => Some(address.socket.as_str()),
@@ -130,9 +126,9 @@ fn crl_signer_socket<'w>(signer: &Option<SignerAddress<'w>>) -> Option<&'w str>
     Some(signer.as_ref()?.socket.as_str())
 }
 
-/// The signature for a line, and the moment at which it is to run. Without a connection to the signer (`link`) the signature is empty: signing fails
-/// without asking the signer. The moment is then the clock's; [`EventLoopFault`] if it can't be read. With a connection, the moment is the message's;
-/// but `None` (a new message is needed) if a command was accepted at a later moment, or if the clock is behind the message's moment or can't be read.
+/// The signature for a line, and the moment at which the line is to run: that of the ticket. Without a `request` (not sent to the signer, or not
+/// answered in time), the signature is empty, so that signing fails, and the moment is the clock's. If the clock can't be read then, the event loop
+/// ends. `None`: the line needs a new message: a command was accepted after the ticket's moment, or the clock is behind it or can't be read.
 pub(crate) fn line_signature_of<M: Machine>(
     alloc: Global,
     office: &mut M::Office,
@@ -141,17 +137,17 @@ pub(crate) fn line_signature_of<M: Machine>(
     responder: &ResponderChoice<'_>,
     ticket: LineTicket,
     message: Vec<u8>,
-    link: Option<SignatureRequest>,
+    request: Option<SignatureRequest>,
 ) -> Result<Option<LineSignature>, EventLoopFault>
     ensures moves { KeepsIn M.Office.Office office.old office.new }
     ensures known { IfOk result (λ found.
         IfSome found
-        (IsLineSignature (AnsweredBySigner M.signer_answered signer.now responder.now ticket.wanted)
+        (IsLineSignature (AnsweredBySigner M.signer_answered signer.now responder.now ticket.kind)
         M.clock_reached)) }
     ensures err { OnErr result (office.new ≡ office.old) }
     ensures fails { OnErr result M.failed }
 {
-    let Some(link) = link else {
+    let Some(request) = request else {
         let Ok(moment) = machine.moment() else {
             return Err(EventLoopFault);
         };
@@ -165,11 +161,10 @@ pub(crate) fn line_signature_of<M: Machine>(
         }));
     };
     Ok(signature_if_current::<M>(
-        alloc, office, machine, signer, responder, ticket, message, link,
+        alloc, office, machine, signer, responder, ticket, message, request,
     ))
 }
 
-/// The signer's answer, with the moment of the message. `None` if a command was accepted later, or the clock is behind the moment or can't be read.
 fn signature_if_current<M: Machine>(
     alloc: Global,
     office: &mut M::Office,
@@ -178,11 +173,11 @@ fn signature_if_current<M: Machine>(
     responder: &ResponderChoice<'_>,
     ticket: LineTicket,
     message: Vec<u8>,
-    link: SignatureRequest,
+    request: SignatureRequest,
 ) -> Option<LineSignature>
     ensures moves { KeepsIn M.Office.Office office.old office.new }
     ensures known { IfSome result
-        (IsLineSignature (AnsweredBySigner M.signer_answered signer.now responder.now ticket.wanted)
+        (IsLineSignature (AnsweredBySigner M.signer_answered signer.now responder.now ticket.kind)
         M.clock_reached) }
 {
     if is_past(office, ticket.moment) {
@@ -193,9 +188,9 @@ fn signature_if_current<M: Machine>(
         alloc,
         signer,
         responder,
-        ticket.wanted,
+        ticket.kind,
         &message,
-        &mut Some(link),
+        &mut Some(request),
     );
     let preset_signature = PresetSignature { message, answer };
     Some(LineSignature {
@@ -204,7 +199,7 @@ fn signature_if_current<M: Machine>(
     })
 }
 
-/// Whether a command was accepted at a later moment than this; `false` if the register can't be read, since the line then meets that fault itself.
+/// Whether a command was accepted at a later moment than this; `false` if the register can't be read: the line then meets that fault itself.
 fn is_past<O: Office>(office: &mut O, moment: Moment) -> bool
     ensures { KeepsIn O.Office office.old office.new }
 {
@@ -215,8 +210,8 @@ fn is_past<O: Office>(office: &mut O, moment: Moment) -> bool
 }
 
 impl<'a, 'w, M: Machine> Desk<'a, 'w, M> {
-    /// The message to sign before a line can be answered; empty for an OCSP line in a back-off. `None` if nothing is to be signed for the line, if it
-    /// has no signer, if the clock can't be read or is too far ahead for `crl`, and if the message can't be made: then it is answered at once.
+    /// The message to sign before a line is answered; empty for a line `ocsp` in its signer's back-off. `None` if the line is to be answered at once:
+    /// it needs no signature or has no signer, its message can't be made, or the clock can't be read or is too far ahead for `crl`.
     pub(crate) fn deferred_line(
         &mut self,
         command_line: &ParsedLine<'_>,
@@ -226,13 +221,13 @@ impl<'a, 'w, M: Machine> Desk<'a, 'w, M> {
         ensures moves { KeepsIn M.Office.Office
             self.old.office self.new.office }
     {
-        let wanted = signature_kind_by(command_line)?;
-        socket_of(self.signer, self.responder, wanted)?;
+        let kind = signature_kind_by(command_line)?;
+        socket_of(self.signer, self.responder, kind)?;
         let began = self.machine.micros();
-        if wanted == SignatureKind::Answer && self.backoff.is_active(Duration::from_micros(began)) {
-            // Without a message, the line is answered without asking its signer. A `crl` line asks even in a back-off, and may so end it.
+        if kind == SignatureKind::Answer && self.backoff.is_active(Duration::from_micros(began)) {
+            // Without a message, the line is answered, but its signer isn't asked. A line `crl` asks even in a back-off, and the answer may end it.
             let ticket = LineTicket {
-                wanted,
+                kind,
                 moment: Moment::EPOCH,
                 began,
                 is_backed_off: true,
@@ -243,12 +238,11 @@ impl<'a, 'w, M: Machine> Desk<'a, 'w, M> {
             });
         }
         let moment = self.machine.moment().ok()?;
-        if wanted == SignatureKind::Crl && self.is_ahead(moment) {
-            // The command is then answered at once, and refused, so nothing is signed for it.
+        if kind == SignatureKind::Crl && self.is_ahead(moment) {
             return None;
         }
         let ticket = LineTicket {
-            wanted,
+            kind,
             moment,
             began,
             is_backed_off: false,
@@ -256,7 +250,7 @@ impl<'a, 'w, M: Machine> Desk<'a, 'w, M> {
         deferred_of::<M>(self.alloc, &mut self.office, ticket, command_line)
     }
 
-    /// Whether commands are refused at a moment, because the clock is too far ahead; `false` if the register can't be read: the line checks it again.
+    /// Whether a moment is too far past the last command and `accept-clock`. `false` if the register can't be read: the line itself checks again.
     fn is_ahead(&mut self, moment: Moment) -> bool
         ensures open { self.new.is_open ≡ self.old.is_open }
         ensures admission { self.new.admission ≡ self.old.admission }
@@ -269,10 +263,10 @@ impl<'a, 'w, M: Machine> Desk<'a, 'w, M> {
         }
     }
 
-    /// The back-off after this line: kept if the OCSP signer was not asked, set if it timed out, else cleared. `has_arrived`: it answered or closed.
+    /// The OCSP signer's back-off after a line: unchanged if it wasn't asked; begun if it timed out; else none. `has_arrived`: it answered or closed.
     pub(crate) fn backoff_after(&self, ticket: LineTicket, has_arrived: bool) -> Backoff {
         let ocsp_socket = socket_of(self.signer, self.responder, SignatureKind::Answer);
-        let asked_socket = socket_of(self.signer, self.responder, ticket.wanted);
+        let asked_socket = socket_of(self.signer, self.responder, ticket.kind);
         if ticket.is_backed_off || !is_same(asked_socket, ocsp_socket) {
             return self.backoff;
         }
@@ -286,17 +280,17 @@ impl<'a, 'w, M: Machine> Desk<'a, 'w, M> {
         )
     }
 
-    /// Answers a line with this signature, which may be empty. It is preset in the office meanwhile, so no signer is asked. The line is counted.
+    /// Answers a line, and counts it. Its signature, which may be empty, is preset in the office meanwhile, so that the office asks no signer.
     pub(crate) fn answer_with_signature(
         &mut self,
         line: &[u8],
         last_reason: &mut Vec<u8>,
         ticket: LineTicket,
-        known: LineSignature,
+        line_signature: LineSignature,
     ) -> Vec<u8>
         requires signature { IsLineSignature
             (AnsweredBySigner M.signer_answered self.old.signer.now self.old.responder.now
-            ticket.wanted) M.clock_reached known }
+            ticket.kind) M.clock_reached line_signature }
         requires line { IsLine line.now }
         ensures open { self.new.is_open ≡ self.old.is_open }
         ensures admission { IsAdmissionAfter line.now self.old.admission self.new.admission }
@@ -308,8 +302,8 @@ impl<'a, 'w, M: Machine> Desk<'a, 'w, M> {
         let LineSignature {
             moment,
             preset_signature,
-        } = known;
-        M::set_preset(&mut self.office, ticket.wanted, Some(preset_signature));
+        } = line_signature;
+        M::set_preset(&mut self.office, ticket.kind, Some(preset_signature));
         let mut tally = self.tally.get();
         let reply = answer_counted::<M>(
             self.alloc,
@@ -324,7 +318,7 @@ impl<'a, 'w, M: Machine> Desk<'a, 'w, M> {
             last_reason,
         );
         self.tally.set(tally);
-        M::set_preset(&mut self.office, ticket.wanted, None);
+        M::set_preset(&mut self.office, ticket.kind, None);
         reply
     }
 }

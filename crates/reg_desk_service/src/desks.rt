@@ -27,34 +27,29 @@ use std::io::ErrorKind;
 use std::net::SocketAddr;
 use std::time::Duration;
 
-/// A desk that answers HTTP requests, each at a moment of the clock. An open desk also has `/health`, `/metrics`, lists, `/changes`, control lines.
+/// A desk that answers HTTP requests, each at a moment of the clock. `desk open` also has lists, `/changes`, `/health`, `/metrics`, control lines.
 #[derive(Drop)]
 pub struct Desk<'a, 'w, M: Machine> {
-    /// The open register.
+    /// Runs commands and queries on the open register; `machine` has the clock, the sockets and the log.
     pub office: M::Office,
-    /// The allocator of the memory for answers.
     pub alloc: Global,
-    /// Has the clock, the sockets and the log.
     pub machine: &'a M,
-    /// Whether this is `desk open`, and not `desk serve`.
+    /// Whether this is `desk open`, and not `desk serve`. `file` is the path of the register.
     pub is_open: bool,
-    /// The path of the register.
     pub file: &'a str,
-    /// The signer of CRLs, as the options name it.
+    /// The signer of CRLs, and (`responder`) that of OCSP responses, as the options name them.
     pub signer: &'a Option<SignerAddress<'w>>,
-    /// The signer of OCSP responses, as the options name it.
     pub responder: &'a ResponderChoice<'w>,
-    /// The back-off of the OCSP signer, for `ocsp` lines at the control socket: for ten seconds after a timeout they don't ask it.
+    /// The back-off of the OCSP signer, for `ocsp` lines at the control socket: for ten seconds after the signer timed out, these lines don't ask it.
     pub backoff: Backoff,
-    /// The counts since the register was opened. No contract of `Desk` mentions them. A `Cell`, since `finish` takes `&self` and counts a response.
+    /// The counts since the register was opened, each in a `Cell`, because `finish` and `report_lost` take `&self`.
     pub tally: &'a Cell<Tally>,
-    /// The counts of connections since then, in a `Cell` because `report_lost` takes `&self`.
     pub connection_totals: &'a Cell<ConnectionTotals>,
-    /// The state by which requests for revocation over HTTP beyond the limits are refused, and the moment of the last `accept-clock`.
+    /// The state by which the desk refuses requests for revocation over HTTP beyond the limits, with the moment in the last line `accept-clock`.
     pub admission: Admission,
 }
 
-// The trait `Handler` describes each function, with its arguments `kept` and `link`.
+// The trait `Handler` describes each function and relation. `kept`: an earlier signature request, whose connection to the signer may be used again.
 impl<'a, 'w, M: Machine> Handler for Desk<'a, 'w, M> {
     ghost use Rattle.std.specs.Prelude.{[], IsTrue};
     ghost use Rattle.reg_office_api.specs.Calls.{KeepsIn, LeadsIn};
@@ -77,7 +72,6 @@ impl<'a, 'w, M: Machine> Handler for Desk<'a, 'w, M> {
         identity before request text after) outcome)
         s.office t.office };
 
-    // only an open desk has a control socket
     ghost answers_lines = { λ s bytes text t. IsTrue s.is_open × IsTrue t.is_open
         × IsAdmissionAfter bytes s.admission t.admission × LeadsIn M.Office.Office
         (λ identity before after. AnswersLinesByClock s.admission.accepted M.Office.signs M.clock_reached
@@ -210,7 +204,7 @@ impl<'a, 'w, M: Machine> Handler for Desk<'a, 'w, M> {
     }
 
     fn defer(&mut self, line: &[u8]) -> Option<Deferred<LineTicket>> {
-        // `untimed_line` gives `None` for a line that is too long, which is then answered at once.
+        // `untimed_line`: the line without its line end; `None` if the line is too long. Such a line is answered at once.
         match read_line(untimed_line(line)?) {
             Some(command_line) => self.deferred_line(&command_line),
             None => None,
@@ -219,10 +213,10 @@ impl<'a, 'w, M: Machine> Handler for Desk<'a, 'w, M> {
 
     fn connect_to_signer(&self, ticket: &LineTicket) -> io::Result<SignatureRequest>
         ensures { IfOk result (λ sent_request.
-            AtGivenPath (socket_for self.now.signer.now self.now.responder.now ticket.now.wanted)
+            AtGivenPath (socket_for self.now.signer.now self.now.responder.now ticket.now.kind)
             (λ path. M.reached path × IsSignatureRequest path [] sent_request)) }
     {
-        match socket_of(self.signer, self.responder, ticket.wanted) {
+        match socket_of(self.signer, self.responder, ticket.kind) {
             Some(socket) if !ticket.is_backed_off => self.machine.connect_to_signer(socket),
             _ => Err(io::Error::from(ErrorKind::NotFound)),
         }
@@ -233,7 +227,7 @@ impl<'a, 'w, M: Machine> Handler for Desk<'a, 'w, M> {
         line: &[u8],
         last_reason: &mut Vec<u8>,
         deferred: Deferred<LineTicket>,
-        link: Option<SignatureRequest>,
+        request: Option<SignatureRequest>,
     ) -> Result<Option<Vec<u8>>, EventLoopFault>
         requires control { IsTrue self.old.is_open }
         requires line { IsLine line.now }
@@ -249,22 +243,21 @@ impl<'a, 'w, M: Machine> Handler for Desk<'a, 'w, M> {
         ensures fails { OnErr result M.failed }
     {
         let Deferred { message, ticket } = deferred;
-        // Copies for the two calls below.
-        let signed_ticket = ticket;
-        let asked_ticket = ticket;
-        // With `link`, the signer's answer has arrived or its connection has ended; without, it timed out, or no connection was made.
-        let has_arrived = link.is_some();
+        let ticket_for_signature = ticket;
+        let ticket_for_backoff = ticket;
+        // Three calls take the ticket, so it is copied. No `request`: the signer wasn't asked, or was late. `Ok(None)`: the line needs a new message.
+        let has_arrived = request.is_some();
         let signature = line_signature_of::<M>(
             self.alloc,
             &mut self.office,
             self.machine,
             self.signer,
             self.responder,
-            signed_ticket,
+            ticket_for_signature,
             message,
-            link,
+            request,
         )?;
-        self.backoff = self.backoff_after(asked_ticket, has_arrived);
+        self.backoff = self.backoff_after(ticket_for_backoff, has_arrived);
         match signature {
             Some(signature) => Ok(Some(self.answer_with_signature(
                 line,

@@ -1,10 +1,10 @@
-//! Writes exchanges and faults of connections to the log, if there is one.
+//! Writes exchanges and faults of connections to the log, if there is one. A [`LoggedRevocationRequest`] is a request for revocation, not of HTTP.
 
 use crate::log_lines::{exchange_line, lost_line};
 use crate::machine::Machine;
 use reg_core::Moment;
 use reg_desk_server::ConnectionFault;
-use reg_http::{Exchange, LoggedRequest};
+use reg_http::{Exchange, LoggedRevocationRequest};
 use reg_office_api::SignatureOutcome;
 use std::alloc::{AllocError, Global};
 use std::net::SocketAddr;
@@ -12,7 +12,8 @@ use std::net::SocketAddr;
 /// The name in the log of a client at the control socket, which has no address.
 pub const CONTROL_SOCKET: &str = "control";
 
-/// Logs an HTTP exchange begun at `now`: how many microseconds it took, the request for revocation that it entered, whether a signature failed.
+/// Logs an HTTP exchange that began at `now`, if there is memory for its line. `micros`: how long it took. `request`: all bytes of the HTTP request,
+/// or only the first ones; the log quotes the first line. `exchange.named`: the request for revocation that the exchange entered, if any.
 pub(crate) fn log_exchange<M: Machine>(
     alloc: Global,
     machine: &M,
@@ -25,7 +26,6 @@ pub(crate) fn log_exchange<M: Machine>(
     if !machine.has_log() {
         return;
     }
-    // Without memory, there is no line in the log.
     let Ok(client_text) = name_of(alloc, Some(client)) else {
         return;
     };
@@ -45,7 +45,7 @@ pub(crate) fn log_exchange<M: Machine>(
     );
 }
 
-/// Logs a control line and its reply: how many microseconds it took, the request that it entered or decided, and whether a signature failed.
+/// Logs a control line, its reply, how long it took, the request for revocation that it entered or decided (`named`), and whether a signature failed.
 pub(crate) fn log_line<M: Machine>(
     alloc: Global,
     machine: &M,
@@ -53,7 +53,7 @@ pub(crate) fn log_line<M: Machine>(
     now: Moment,
     line: &[u8],
     reply: &[u8],
-    named: Option<LoggedRequest>,
+    named: Option<LoggedRevocationRequest>,
     signature_failed: bool,
 ) {
     if !machine.has_log() {
@@ -74,8 +74,7 @@ pub(crate) fn log_line<M: Machine>(
     );
 }
 
-/// Logs a fault of a connection, if there is memory and the clock can be read. A client whose request the fault cut off may still get an answer.
-/// `client` is `None` for a control connection.
+/// Logs a fault of a connection, if there is memory and the clock can be read. `client` is `None` for a control connection.
 pub(crate) fn log_lost<M: Machine>(
     alloc: Global,
     machine: &M,
@@ -106,7 +105,7 @@ fn put<M: Machine>(machine: &M, line: Result<Vec<u8>, AllocError>) {
     }
 }
 
-/// The log's word for a fault. `late` and `crowded` are older words, kept for programs that read the log.
+/// The log's word for a fault. `late` and `crowded` are older words for `TimedOut` and `Evicted`, kept for programs that read the log.
 fn word_of(why: ConnectionFault) -> &'static [u8] {
     match why {
         ConnectionFault::Broken => b"broken",

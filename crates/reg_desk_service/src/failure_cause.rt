@@ -6,7 +6,7 @@ ghost use Rattle.reg_desk_service.specs.FailureReports.{located_cause_line, loca
 use reg_core::Cause;
 use std::alloc::{AllocError, Global};
 
-/// The argument or option that a failed call was for, named as in `--help`; or standard output. `Log` is the argument LOG; `LogFile` is `--log-file`.
+/// What a failed call was for: an argument or option of `desk`, or standard output. `Log`: the argument LOG of `desk replay`.
 #[derive(Clone, Copy, PartialEq, Eq)]
 pub enum Location {
     File,

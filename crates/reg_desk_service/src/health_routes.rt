@@ -17,7 +17,7 @@ ghost use Rattle.reg_desk_cli.specs.declared.desk.TheConstants.{VERSION};
 ghost use Rattle.reg_desk_metrics.specs.Metrics.{metrics_text};
 
 use crate::control_reply::LineOutcome;
-use crate::crl_signer::CrlSigner;
+use crate::crl_signer::CrlSignerChoice;
 use crate::machine::Machine;
 use crate::reasons::{Reason, reason_line};
 use crate::validity::not_after;
@@ -37,8 +37,7 @@ use std::alloc::Global;
 
 const PROMETHEUS: &str = "text/plain; version=0.0.4; charset=utf-8";
 
-/// Answers `/health` at a moment: 200 if all is well, else 503 (RFC 9110 15.6.4); 405 if not GET. `accepted` is the MOMENT of the last
-/// control line `accept-clock MOMENT`, if any.
+/// Answers `/health` at `now`: 200 if all is well, else 503; 405 if not GET. `accepted`: the moment in the last control line `accept-clock`, if any.
 pub(crate) fn answer_health<M: Machine>(
     alloc: Global,
     office: &mut M::Office,
@@ -76,8 +75,7 @@ fn health_at<M: Machine>(
     health_answer(alloc, &Health::of(now, &found, tally, accepted))
 }
 
-/// Answers `/metrics` at a moment with 200; 405 if not GET. Counts the open requests for revocation anew if the
-/// last count is a minute old, or of a later moment.
+/// Answers `/metrics` at `now` with 200; 405 if not GET. Counts open requests for revocation anew unless the last count is less than a minute old.
 pub(crate) fn answer_metrics<M: Machine>(
     alloc: Global,
     office: &mut M::Office,
@@ -115,7 +113,7 @@ fn metrics_at<M: Machine>(
     metrics_answer(alloc, now, &found, tally, connection_totals)
 }
 
-/// The register's numbers at a moment. Keeps in the tally whether the latest CRL is signed.
+/// Counts of certificates by status, when the next CRL is due, and the register's summary. Keeps in the tally whether the latest CRL is signed.
 fn found_at<M: Machine>(
     alloc: Global,
     office: &mut M::Office,
@@ -145,7 +143,7 @@ fn found_at<M: Machine>(
     }
 }
 
-/// When the next CRL is due; `None` if at once. `latest` is the latest CRL.
+/// When the next CRL is due; `None` if at once, for example if the latest CRL has a placeholder digest, but a signer now has the issuer's key.
 fn due_at<M: Machine>(
     alloc: Global,
     office: &mut M::Office,
@@ -181,7 +179,7 @@ fn due_after_read(read: ReadCrl, due: Option<Moment>) -> Option<Moment>
     if read.is_unsigned { None } else { due }
 }
 
-/// The number of the latest CRL, and whether it has a placeholder digest. `None` if there is no CRL, or if the next one can't be signed with a key.
+/// The latest CRL's number, and whether it has a placeholder digest (from the tally, if read before). `None` without a CRL, or if no key signs CRLs.
 fn latest_read<M: Machine>(
     alloc: Global,
     office: &mut M::Office,
@@ -205,7 +203,7 @@ fn latest_read<M: Machine>(
     }
 }
 
-/// Reads the latest CRL, which has this number (`None` asks for the latest). It exists, so `NoCrl`, the only refusal, can't come.
+/// Reads the latest CRL (`None` in the call), which has this number. It exists, so `NoCrl`, the only refusal of the call, can't come.
 fn read_latest<M: Machine>(
     alloc: Global,
     office: &mut M::Office,
@@ -242,8 +240,7 @@ fn is_digest(algorithm: &[u8]) -> bool
     algorithm == digest.algorithm()
 }
 
-/// After an answered line `next-crl`, prepares the reply to the line `why` (`last_reason`) if the next CRL is due at once because the latest one has
-/// a placeholder digest and a signer has the key.
+/// After an answered line `next-crl`, keeps the reason of [`why_at_once`], if there is one, in `last_reason`: a later line `why` reports it.
 pub(crate) fn keep_due_reason<M: Machine>(
     alloc: Global,
     office: &mut M::Office,
@@ -256,7 +253,7 @@ pub(crate) fn keep_due_reason<M: Machine>(
     match line_outcome {
         LineOutcome::Completed(LineKind::Query(Query::NextCrl), Ok(_)) => {
             let why = why_at_once::<M>(alloc, office, tally);
-            // The line has no prefix. Without a reason, as after a fault, or without memory for it, the earlier one stays.
+            // Without a reason (a fault counts as none) or memory for it, `last_reason` keeps the earlier one. `b""`: the text has no prefix.
             if let Some(text) = reason_line(alloc, b"", why.unwrap_or(None)) {
                 *last_reason = text;
             }
@@ -265,7 +262,7 @@ pub(crate) fn keep_due_reason<M: Machine>(
     }
 }
 
-/// The reason why the next CRL is due at once, if the latest one has a placeholder digest and a signer has the key.
+/// Why the next CRL is due at once: the latest CRL has a placeholder digest, but a signer now has the issuer's key. `None` in any other case.
 fn why_at_once<M: Machine>(
     alloc: Global,
     office: &mut M::Office,
@@ -281,18 +278,18 @@ fn why_at_once<M: Machine>(
     }
 }
 
-/// Whether CRLs get a signature, a placeholder digest or neither, for the tally.
-pub fn signing_of(crl_signer: &CrlSigner<'_>) -> CrlSigning
+/// What new CRLs get: a signature or a placeholder digest. With `NoSigner`, each command `crl` fails. For [`Tally::new`].
+pub fn signing_of(crl_signer: &CrlSignerChoice<'_>) -> CrlSigning
     ensures { result ≡ signing_by crl_signer.now }
 {
     match crl_signer {
-        CrlSigner::KeyAt(_) => CrlSigning::Key,
-        CrlSigner::Digest => CrlSigning::Digest,
-        CrlSigner::NoSigner => CrlSigning::NoSigner,
+        CrlSignerChoice::KeyAt(_) => CrlSigning::Key,
+        CrlSignerChoice::Digest => CrlSigning::Digest,
+        CrlSignerChoice::NoSigner => CrlSigning::NoSigner,
     }
 }
 
-/// The counts in the outcome of the query `counts`. The contract of `ask` excludes another reply, here and below.
+/// The counts in the outcome of the query `counts`. The contract of `ask` excludes another reply (`Ok(_)`), here and in the next two functions.
 fn counts_of(outcome: Outcome) -> Result<Counts, Fault>
     ensures { (records : Records) (now : ℕ) → IsAnswered records now AskCounts outcome
         → Has AskCounts CountsAre records now result }
@@ -335,7 +332,7 @@ fn overdue_count_of(overdue: Option<Overdue>) -> u64
     }
 }
 
-/// Counts the requests for revocation anew, unless they were counted less than a minute before. If that fails, the old count stays.
+/// Counts the open requests for revocation, and the overdue ones, unless the last counts are less than a minute old. These stay if counting fails.
 fn recount<M: Machine>(alloc: Global, office: &mut M::Office, now: Moment, tally: &mut Tally)
     ensures moves { LooksIn M.Office.Office (λ records. Recounts records now tally.old tally.new)
         office.old office.new }
@@ -408,7 +405,7 @@ fn metrics_answer(
     }
 }
 
-/// notAfter of a delegated responder's certificate (RFC 5280 4.1.2.5). `None` if the issuer responds, and if the certificate can't be read.
+/// notAfter of a delegated responder's certificate (RFC 5280 4.1.2.5). `None` if the issuer signs OCSP responses, or the certificate can't be read.
 pub fn responder_not_after<M: Machine>(
     machine: &M,
     responder: &ResponderChoice<'_>,

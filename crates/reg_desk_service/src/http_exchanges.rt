@@ -1,4 +1,5 @@
-//! Answers the bytes that came on an HTTP connection, by the register or, for some routes, by the open desk itself.
+//! Answers the bytes that came on an HTTP connection. `Answered` is a finished answer, and `Exchange` has its text. `Draft` is an OCSP response to be
+//! signed; `UnsignedResponse` has its route, too, and `Unsigned` also the data for the log and the counts.
 
 ghost use Rattle.std.specs.Prelude.{◌≡◌};
 ghost use Rattle.reg_office_api.specs.Calls.{LeadsIn};
@@ -38,7 +39,7 @@ use reg_office_api::{Office, SignatureOutcome};
 use std::alloc::Global;
 use std::net::SocketAddr;
 
-/// Which part of the desk answers a request. `desk serve` has only the register; an open desk has the others too.
+/// The part of the desk that answers a request. In `desk open` (`is_open`), the route decides. In `desk serve`, the register answers all.
 #[derive(Clone, Copy, PartialEq, Eq)]
 pub(crate) enum Dispatch {
     ToRegister,
@@ -50,7 +51,6 @@ pub(crate) enum Dispatch {
     ToChanges,
 }
 
-/// Which part answers a request at a route: always the register alone if the desk runs as `desk serve`, not as `desk open`.
 fn dispatch_of(is_open: bool, route: Route) -> Dispatch
     ensures { result ≡ dispatch is_open route }
 {
@@ -67,8 +67,8 @@ fn dispatch_of(is_open: bool, route: Route) -> Dispatch
     }
 }
 
-/// Answers, as of a moment, the bytes that came on a connection, counts the exchange, and logs it if there is a log; or leaves a response to be
-/// signed, which is counted when it is finished.
+/// Answers at `now` the bytes that came on a connection, counts the exchange in `tally`, and logs it if there is a log. If the response needs a
+/// signature, `finish_http` counts and logs it later instead. `connection_totals`: for `/metrics`. `admission`: for the limits of `/requests`.
 pub(crate) fn answer_http<M: Machine>(
     alloc: Global,
     office: &mut M::Office,
@@ -123,7 +123,7 @@ pub(crate) fn answer_http<M: Machine>(
     }
 }
 
-/// As `answer_http`, but neither counts nor logs. Memory for the text is reserved first, so that an entered request for revocation gets its response.
+/// As `answer_http`, but neither counts nor logs. Reserves memory for the text (`room`) first: the reply to a request for revocation needs no more.
 fn exchange_at<M: Machine>(
     alloc: Global,
     office: &mut M::Office,
@@ -173,7 +173,6 @@ fn exchange_at<M: Machine>(
             let route = Route::named_in(request.as_slice());
             begun_exchange(route, room, ready(refuse(alloc, status)), now)
         }
-        // No whole request came, so there is no response.
         Err(Fault::Read) => ReadyOrUnsigned::Ready(empty(alloc, request)),
         Err(_) => {
             let route = Route::named_in(request.as_slice());
@@ -182,7 +181,7 @@ fn exchange_at<M: Machine>(
     }
 }
 
-/// An exchange without a response, at the route that the first line names.
+/// An exchange without a response (the bytes are no whole request, or there is no memory), counted at the route that the first line names.
 fn empty(alloc: Global, request: &Collected) -> Exchange
     ensures empty { IsEmpty result }
     ensures nothing { HasNoEffects result }
@@ -201,7 +200,7 @@ fn ready(answered: Result<Answered, Memory>) -> Result<ReadyOrUnsigned<Answered,
     }
 }
 
-/// Answers, as of a moment, a request at a route, or leaves a response to be signed.
+/// Answers at `now` a request at a route, or leaves a response to be signed. `admission.accepted`: the moment in the last line `accept-clock`.
 fn begin_at<M: Machine>(
     alloc: Global,
     office: &mut M::Office,

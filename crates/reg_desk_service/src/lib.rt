@@ -27,7 +27,7 @@ mod words;
 
 pub use admission::Admission;
 pub use copies::{CopyFault, copied_line, millis_since};
-pub use crl_signer::CrlSigner;
+pub use crl_signer::CrlSignerChoice;
 pub use deferred_commands::{LineTicket, SignatureKind};
 pub use desks::Desk;
 pub use exchange_log::CONTROL_SOCKET;

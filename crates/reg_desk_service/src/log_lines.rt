@@ -1,45 +1,45 @@
-//! The lines of the log: one for each exchange, and one for each reported fault of a connection.
+//! The lines of the log: one for each exchange (an HTTP request or control line, and its answer), and one for each fault that the event loop reports.
 
 ghost use Rattle.std.specs.Prelude.{◌≡◌, ◌++◌, ◌∷◌, ◌<◌, ◌≤◌, [], IfOk, IfSome, OnOk, decimal, length, take};
 ghost use Rattle.std.specs.List.{flat_map, position};
 ghost use Rattle.reg_desk_service.specs.Log.{digit as hexadecimal, is_plain as plain, ends_line, first_line as first_line_of, quoted_text, quoted_byte, exchange_line as exchanged, lost_line as lost, named_end, unsigned_end};
 
 use reg_core::{Decimal, Moment};
-use reg_http::LoggedRequest;
+use reg_http::LoggedRevocationRequest;
 use std::alloc::{AllocError, Global};
 
-/// The most bytes, before escaping, that the log quotes of a request or an answer. So its line stays below 4,096 bytes, which a pipe takes whole.
+/// The most bytes, before escaping, that the log quotes of a request or a reply. So a line stays below 4,096 bytes, which a pipe takes in one piece.
 pub const MOST_QUOTED: usize = 256;
 
-/// The line of an exchange, without its LF. `client_text`, an address and port or `control`, is copied as it is. The first lines of the request and
-/// of the answer are quoted and escaped: they put no control character and no byte outside ASCII into the log, so no client can forge a line. Then
-/// come the answer's length in bytes, and `micros`. A request for revocation that was entered or decided (`named`) has its number and serial number;
-/// an entered one also its ground. If a signature failed, the last word is `signer`.
+/// The line of an exchange, without its LF: the moment; the client (`client_text`, its address and port, or `control`); the first line of the
+/// request; that of the reply; the reply's length in bytes; how long the exchange took (`micros`). Both first lines are quoted and escaped: no
+/// control character and no byte outside ASCII gets into the log, so no client can forge a line. If a request for revocation was entered or decided
+/// (`named`), its number and serial number follow, and if it was entered its ground (reason). If a signature failed, the last word is `signer`.
 pub(crate) fn exchange_line(
     alloc: Global,
     now: Moment,
     client_text: &[u8],
-    asked: &[u8],
-    answered: &[u8],
+    request: &[u8],
+    reply: &[u8],
     micros: u64,
-    named: Option<LoggedRequest>,
+    named: Option<LoggedRevocationRequest>,
     signature_failed: bool,
 ) -> Result<Vec<u8>, AllocError>
     ensures { IfOk result (λ line.
-        line.items ≡ exchanged now client_text.now asked.now answered.now micros named signature_failed) }
+        line.items ≡ exchanged now client_text.now request.now reply.now micros named signature_failed) }
 {
     let mut line = Vec::from_slice(alloc, &now.text())?;
     put_word(&mut line, client_text)?;
-    put_quoted(&mut line, asked)?;
-    put_quoted(&mut line, answered)?;
-    put_number(&mut line, answered.len() as u64)?;
+    put_quoted(&mut line, request)?;
+    put_quoted(&mut line, reply)?;
+    put_number(&mut line, reply.len() as u64)?;
     put_number(&mut line, micros)?;
     put_named(&mut line, named)?;
     put_signature_failure(&mut line, signature_failed)?;
     Ok(line)
 }
 
-/// The line of a fault of a connection, without its LF.
+/// The line of a fault (`why`) of a connection, without its LF.
 pub(crate) fn lost_line(
     alloc: Global,
     now: Moment,
@@ -71,7 +71,7 @@ pub fn put_number(line: &mut Vec<u8>, number: u64) -> Result<(), AllocError>
     put_word(line, digits.as_bytes())
 }
 
-fn put_named(line: &mut Vec<u8>, named: Option<LoggedRequest>) -> Result<(), AllocError>
+fn put_named(line: &mut Vec<u8>, named: Option<LoggedRevocationRequest>) -> Result<(), AllocError>
     ensures { OnOk result (line.new.items ≡ line.old.items ++ named_end named) }
 {
     let Some(named) = named else {

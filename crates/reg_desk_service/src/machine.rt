@@ -2,7 +2,7 @@
 
 use crate::clock::moment_at;
 use crate::copies::CopyFault;
-use crate::crl_signer::CrlSigner;
+use crate::crl_signer::CrlSignerChoice;
 use crate::deferred_commands::SignatureKind;
 use crate::failure_cause::{FailureCause, Location};
 use mio::net::{TcpListener, TcpStream, UnixListener};
@@ -20,12 +20,11 @@ use std::net::SocketAddr;
 use std::os::unix::net::UnixStream;
 use std::time::Duration;
 
-/// The machine that a job runs on. A job reaches a register's files only by these methods, and by the office that they open. A job's contract
-/// relates the machine before the job to the one after it. The methods that create, open for writing or remove such files take `&mut self`, except
-/// `copy_open`. So, by its contract, a job calls them only at the paths that the contract names. A method's relation, such as `claimed`, states what
-/// the method did; no proof covers what the system does. Most methods are one action of the system. Functions that combine several actions are
-/// written over any machine, such as [`open_signed`](crate::open_signed). Errors that a comment does not name: the system's; in a [`Failure`] or
-/// [`CopyFault`], `Memory` and `Store`. Only the program's `Host` implements it: its relations must be opaque to the proofs.
+/// A job reaches a register's files only by these methods, and by the office that they open. The methods that create such files, open them for
+/// writing or remove them take `&mut self`, except `copy_open`. A job's contract relates the machine before the job to the one after it, so the job
+/// calls these methods only at the paths that its contract names. A method's relation (`ghost`), such as `claimed` of `claim`, states that the method
+/// did what its comment says; no proof covers what the system does. `Machine` is a trait, though only the program's `Host` implements it: so its
+/// relations are opaque to the proofs. A comment may leave out the system's errors, and `Memory` and `Store` in a [`Failure`] or [`CopyFault`].
 pub trait Machine {
     ghost use Rattle.std.specs.Prelude.{◌≡◌, ◌≤◌, ◌+◌, ◌⊎◌, ℕ, List, [], IsTrue, IsFalse, MatchBool, OnOk, OnErr, IfOk, IfErr, IfSome, length};
     ghost use Rattle.reg_office_api.specs.Calls.{KeepsIn};
@@ -39,7 +38,7 @@ pub trait Machine {
     ghost use Rattle.reg_desk_service.specs.SignerAnswers.{AnsweredAtSomePath};
     ghost use Rattle.reg_desk_service.specs.RegisterFailures.{IsCreateFailure, IsOpenFailure, IsReadFailure};
     ghost use Rattle.reg_desk_service.specs.Signers.{HasCertificate};
-    ghost use Rattle.reg_desk_service.specs.declared.crl_signer.CrlSigner.{CrlSigner as SignsCrls};
+    ghost use Rattle.reg_desk_service.specs.declared.crl_signer.CrlSignerChoice.{CrlSignerChoice as SignsCrls};
     ghost use Rattle.reg_crl_signer.specs.SignatureRequest.{IsSignatureRequest};
     ghost use Rattle.reg_crl_signer.specs.Forms.{HasForm};
     ghost use Rattle.reg_desk_cli.specs.declared.job.ResponderChoice.{ResponderChoice as Answering};
@@ -49,71 +48,70 @@ pub trait Machine {
     /// The office over an open register: it runs commands, and answers queries and OCSP requests.
     type Office: Office + Drop;
 
-    /// A file that is open as a database.
+    /// A file that is open as a database. `Sources`: a register's files, opened read-only.
     type Database: Drop;
 
-    /// A register's files, opened read-only.
     type Sources: Drop;
 
     /// The responder to OCSP requests, with the certificate that its answers contain, if any.
     type Responder: Drop;
 
-    // ---- files; a relation over two machines relates the one before the action to the one after it
+    // ---- Files. A `List ℕ` is a path. The first machine is before the action, the second after it. `.._failed`: the action failed for this reason.
 
-    /// There is a file or a link at the path, a WAL beside it, or no file can be created there.
+    /// There is a file or a link at the path, or its WAL (the path with `-wal`) exists, or no file can be created at the path.
     ghost taken: { Self → List ℕ → Type 0 };
-    /// Nothing is found at the path.
+
     ghost absent: { Self → List ℕ → Type 0 };
-    /// There was nothing at the path, and an empty file was created there.
+
     ghost claimed: { Self → List ℕ → Self → Type 0 };
-    /// The program tried to remove the file at the path, and its WAL.
+
     ghost removed: { Self → List ℕ → Self → Type 0 };
-    /// The files at the path have the beginning of a database.
+    /// The files at the path (a file and its WAL) have the beginning of a database.
     ghost begun: { Self → List ℕ → Type 0 };
-    /// For this reason the files at the path could not be read.
+
     ghost read_failed: { Self → List ℕ → Failing → Type 0 };
-    /// The file at the path was opened as this database.
+
     ghost connected: { Self → List ℕ → Self.Database → Self → Type 0 };
-    /// For this reason the file at the path could not be opened as a database.
+
     ghost connect_failed: { Self → List ℕ → Failing → Self → Type 0 };
     /// No statement ran over the database yet.
     ghost fresh: { Self.Database → Type 0 };
     /// This is the responder that the options choose, with the certificate that they name, if any.
     ghost certified: { Answering → Self.Responder → Type 0 };
-    /// The register of the database was opened as this office, with this signer of CRLs and this responder.
+
     ghost opened: { Self.Database → SignsCrls → Self.Responder → Self.Office → Type 0 };
-    /// A register was created in the database, and this is the office over it.
+    /// A register was created in the database (`create_in`), and this is the office over it.
     ghost made: { Self.Database → Self.Office → Type 0 };
-    /// The office whose file is at the path was closed.
+
     ghost closed: { Self → List ℕ → Self.Office → Self → Type 0 };
-    /// The files at the path were opened read-only.
+
     ghost read: { Self → List ℕ → Self.Sources → Type 0 };
-    /// An audit of the register in the files had this result.
+
     ghost audited: { Self.Sources → AuditResults → Type 0 };
-    /// A copy of the register at the path, with this number of bytes, was created at another path, where there was nothing.
+    /// A copy of the register at the first path, with this number of bytes, was created at the second, where there was nothing.
     ghost copied: { Self → List ℕ → List ℕ → ℕ → Self → Type 0 };
-    /// For this reason no copy of the register at the path was created at another path.
+
     ghost copy_failed: { Self → List ℕ → List ℕ → Failing → Self → Type 0 };
     /// A copy of the open register whose file is at the path, with this number of bytes, was created.
     ghost copied_open: { List ℕ → ℕ → Type 0 };
 
-    // ---- clock, ports and sockets
+    // ---- Clock, ports and sockets. The first `List ℕ` is a path (in `bound` an address, in `warned` a line), a second one a message to sign.
 
-    /// The clock was read, and showed this number of whole seconds since the start of 1970, or 0 for an earlier time.
+    /// The clock showed this number of whole seconds since the start of 1970, or 0 for an earlier time. `clock_reached`: it has reached this moment.
     ghost clock_read: { ℕ → Type 0 };
-    /// The clock has reached this moment.
+
     ghost clock_reached: { ℕ → Type 0 };
     /// The system failed: the clock could not be read, or the sockets could not be used.
     ghost failed: { Type 0 };
-    /// The program waited for its sockets this number of times.
+    /// The program waited for its sockets this number of times, at first 0.
     ghost waited: { ℕ → Type 0 };
-    /// At first the program has waited 0 times.
+
     ghost not_waited: { waited 0 };
-    /// This port of this address was bound (four bytes, RFC 791 3.1, or sixteen, RFC 4291 2).
+    /// This port was bound at this address of four bytes (RFC 791 3.1) or sixteen (RFC 4291 2).
     ghost bound: { List ℕ → ℕ → Type 0 };
 
     ghost socket_created: { List ℕ → Type 0 };
-    /// The file at this path was given this mode.
+
     ghost has_mode: { List ℕ → ℕ → Type 0 };
     /// This file, as long as it is open, holds the lock of the folder of this path: no other desk, `desk-signer` or `signer.py` holds it meanwhile.
     ghost locked: { OpenFile → List ℕ → Type 0 };
@@ -121,17 +119,17 @@ pub trait Machine {
     ghost stale: { OpenFile → List ℕ → Type 0 };
 
     ghost socket_connected: { List ℕ → Type 0 };
-    /// The signer at the socket at this path was asked to sign this message.
+
     ghost signature_requested: { List ℕ → List ℕ → Type 0 };
-    /// The program connected to the signer at the socket at this path.
+    /// The program connected to the signer at this path.
     ghost reached: { List ℕ → Type 0 };
-    /// The signer at this path gave this answer to this message.
+    /// The signer at this path gave to this message this answer.
     ghost signer_answered: { List ℕ → List ℕ → List ℕ → Type 0 };
     /// The program tried to write this line to standard error.
     ghost warned: { List ℕ → Type 0 };
 
-    /// Creates an empty file, for its owner alone, at a path where there is neither a file nor its WAL, in one step: of two programs that try it,
-    /// one succeeds. `false` if there is a file or a WAL, even as a dangling link, or if no file can be created there.
+    /// Creates an empty file, for its owner alone, at a path where there is neither a file nor its WAL. Does so in one step: of two programs that try
+    /// it, one succeeds. `false` if there is a file or a WAL, even as a dangling link, or if no file can be created there.
     fn claim(&mut self, path: &str) -> Result<bool, Memory>
         ensures ours { IfOk result (λ is_ours. IsTrue is_ours → claimed self.old path.now self.new) }
         ensures taken { IfOk result (λ is_ours. IsFalse is_ours → taken self.old path.now) }
@@ -164,27 +162,26 @@ pub trait Machine {
     /// The bytes of the file at a path; `None` if it can't be read.
     fn file(&self, path: &str) -> Option<Vec<u8>>;
 
-    /// Reads the certificate of the responder to OCSP requests, if one is given; `BadResponder` if it can't be read or parsed, or a delegated
-    /// responder's key is not of the given algorithm.
+    /// Reads the OCSP responder's certificate, if one is given. `BadResponder`: it can't be read, or a delegate's key is not of the given algorithm.
     fn read_responder(&self, responder: &ResponderChoice<'_>) -> Result<Self::Responder, Failure>
         ensures certified { IfOk result (certified responder.now) }
         ensures told { OnErr result (HasCertificate responder.now) }
         ensures faults { IfErr result IsOpenFailure };
 
-    /// Opens the register of a database, which is closed if that fails: `NotARegister` if it has none; `NewVersion` if a newer program wrote it;
-    /// `BadSigner` if the latest CRL's algorithm is neither this signer's nor the placeholder digest's, or the issuer's key isn't of the signer's
-    /// algorithm; `BadResponder` if the certificate that the issuer's OCSP responses embed (`--embed`) has another key than the issuer.
+    /// Opens the register of a database, with `crls` to sign CRLs. If that fails, the database is closed. `NotARegister` if it has no register;
+    /// `NewVersion` if a newer program wrote it; `BadSigner` if the latest CRL's algorithm is neither this signer's nor the placeholder digest's, or
+    /// if the issuer's key doesn't fit the signer's algorithm; `BadResponder` if the certificate of `--embed` has another key than the issuer's.
     fn open_in(
         &self,
         database: Self::Database,
-        crls: &CrlSigner<'_>,
+        crls: &CrlSignerChoice<'_>,
         responder: Self::Responder,
     ) -> Result<Self::Office, Failure>
         requires { fresh database }
         ensures opened { IfOk result (opened database crls.now responder) }
         ensures faults { IfErr result IsOpenFailure };
 
-    /// Makes a register with no records in a database, which is closed if that fails: `NotEmpty` if it has a table, an index or a view.
+    /// Creates a register without records in a database. If that fails, the database is closed. `NotEmpty` if it has a table, an index or a view.
     fn create_in(
         &self,
         database: Self::Database,
@@ -201,27 +198,27 @@ pub trait Machine {
     fn close(&mut self, path: &str, office: Self::Office)
         ensures { closed self.old path.now office self.new };
 
-    /// Opens the files at a path read-only: each byte of them stays, and nothing is created beside them.
+    /// Opens the files at a path (a file and its WAL) read-only: no byte of them changes, and no file is created.
     fn read(&self, path: &str) -> Result<Self::Sources, Failure>
         ensures read { IfOk result (read self.now path.now) }
         ensures read_failed { IfErr result (read_failed self.now path.now) }
         ensures faults { IfErr result (λ why.
             (why ≡ Failure.Fault Fault.Memory) ⊎ (why ≡ Failure.Fault Fault.Store)) };
 
-    /// Audits the register in files, without migrating an older version; `NotARegister` if there is none; `NewVersion` if a newer program wrote it.
+    /// Audits the register in these files, and migrates nothing; `NotARegister` if there is none; `NewVersion` if a newer program wrote it.
     fn audit_in(&self, sources: Self::Sources) -> Result<AuditResult, Failure>
         ensures audited { IfOk result (audited sources) }
         ensures faults { IfErr result IsOpenFailure };
 
-    /// Copies the register at a path, which is only read, to a path without a file, and returns how many bytes the copy has. The copy is for
-    /// its owner alone, and is synced with its folder. It gets its name once it is whole. `NotARegister` if there is no database yet; `Store` also if
-    /// a program has locked the register for writing, or if a file is at the second path, or at it with `-wal`, `-journal` or `.part`.
+    /// Copies the register at a path, which is only read, to the path `to`, and returns how many bytes the copy has. The copy is for its owner alone,
+    /// and is synced with its folder. It gets its name once it is whole. `NotARegister` if there is no database yet; `Store` also if a program has
+    /// locked the register for writing, or if there is a file at `to`, or at `to` with `-wal`, `-journal` or `.part`.
     fn copy(&mut self, path: &str, to: &str) -> Result<u64, Failure>
         ensures ok { IfOk result (λ bytes. copied self.old path.now to.now bytes self.new) }
         ensures err { IfErr result (λ why. copy_failed self.old path.now to.now why self.new) }
         ensures faults { IfErr result IsReadFailure };
 
-    /// In the same way, copies the register that this program has open, between two transactions. `Store` also if its path has another file now.
+    /// As [`Machine::copy`], but of the register that this program has open, between two transactions. `Store` also if `path` now has another file.
     fn copy_open(&self, path: &str, to: &str) -> Result<u64, CopyFault>
         ensures ok { IfOk result (copied_open path.now) }
         ensures err { IfErr result (λ why. IsOfStore why.fault) };
@@ -248,16 +245,14 @@ pub trait Machine {
     fn accept(&self, listener: &TcpListener) -> io::Result<(TcpStream, SocketAddr)>
         ensures { IfErr result (AcceptFails failed) };
 
-    /// Listens at a port of an address, without blocking.
+    /// Listens without blocking at a port of an IPv4 address; `listen_v6`: of an IPv6 address.
     fn listen(&self, address: [u8; 4], port: u16) -> io::Result<TcpListener>
         ensures { OnOk result (bound address port) };
 
-    /// The same at an IPv6 address.
     fn listen_v6(&self, address: [u8; 16], port: u16) -> io::Result<TcpListener>
         ensures { OnOk result (bound address port) };
 
-    /// Locks the folder of a path. No other desk, `desk-signer` or `signer.py` creates or removes a socket there before the caller drops the file.
-    /// Error: `AddrInUse` if another program holds the lock for ten seconds.
+    /// Locks the folder of a path (`locked`), until the caller drops the file. `AddrInUse` if another program holds the lock for ten seconds.
     fn lock_folder(&self, path: &str) -> io::Result<File>
         ensures { IfOk result (λ lock. locked lock path.now) };
 
@@ -266,11 +261,10 @@ pub trait Machine {
         requires { locked lock.now path.now }
         ensures { OnOk result (socket_created path.now) };
 
-    /// Sets the mode of the file at a path.
     fn set_mode(&self, path: &str, mode: u32) -> io::Result<()>
         ensures { OnOk result (has_mode path.now mode) };
 
-    /// Whether the file at a path is a socket.
+    /// Whether the file at a path is a socket. A link is not followed.
     fn is_socket(&self, path: &str) -> io::Result<bool>;
 
     /// Whether the socket at a path is stale: it refuses connections, because no program listens there.
@@ -282,11 +276,10 @@ pub trait Machine {
     fn unlink(&self, lock: &File, path: &str) -> io::Result<()>
         requires { stale lock.now path.now };
 
-    /// Connects to the socket at a path.
     fn connect_to_socket(&self, path: &str) -> io::Result<UnixStream>
         ensures { OnOk result (socket_connected path.now) };
 
-    /// Asks the signer at the socket at a path to sign a message, without blocking. `kept` is an earlier request, whose connection may be used again.
+    /// Asks the signer at the socket at a path to sign a message, without blocking. `kept`: an earlier request, whose connection may be used again.
     /// `WouldBlock` if the socket has no room for one more connection, or no file descriptor is left.
     fn request_signature(
         &self,
@@ -297,24 +290,23 @@ pub trait Machine {
         ensures asked { OnOk result (signature_requested path.now message.now) }
         ensures kept { IfOk result (IsSignatureRequest path.now message.now) };
 
-    /// Connects to a signer in the same way, with no message on the connection yet.
+    /// Connects to the signer in the same way, but sends nothing: the caller sends the message piece by piece. Errors: as for `request_signature`.
     fn connect_to_signer(&self, path: &str) -> io::Result<SignatureRequest>
         ensures reached { OnOk result (reached path.now) }
         ensures kept { IfOk result (IsSignatureRequest path.now []) };
 
-    /// The signer's answer to a request, `link`, read from the request's connection: at most 4,096 bytes. `None` if no whole answer has arrived, or
-    /// if out of memory.
-    fn receive_answer(alloc: Global, link: &mut SignatureRequest) -> Option<Vec<u8>>
+    /// The signer's answer to the signature request, at most 4,096 bytes. `None` if no whole answer has arrived, or if out of memory.
+    fn receive_answer(alloc: Global, request: &mut SignatureRequest) -> Option<Vec<u8>>
         ensures given { IfSome result (λ answer.
-            (path message : List ℕ) → IsSignatureRequest path message link.old
+            (path message : List ℕ) → IsSignatureRequest path message request.old
             → signer_answered path message answer.items) }
         ensures short { IfSome result (λ answer. length answer.items ≤ 4096) };
 
-    /// Presets an office's next signature of the kind `wanted`: a message, and the signer's answer to it, if it gave one. For that signature the
-    /// office doesn't ask the signer, and a signature of another message fails. `None` removes the preset.
+    /// Presets an office's next signature, of a CRL or an OCSP response (`kind`): a message, and the signer's answer to it, if it gave one. The
+    /// office then takes that answer, and doesn't ask the signer; signing another message fails. `None` removes the preset.
     fn set_preset(
         office: &mut Self::Office,
-        wanted: SignatureKind,
+        kind: SignatureKind,
         preset_signature: Option<PresetSignature>,
     )
         requires { IfSome preset_signature (λ known.
@@ -322,7 +314,7 @@ pub trait Machine {
             AnsweredAtSomePath signer_answered known.message.items answer.items)) }
         ensures { KeepsIn Self.Office.Office office.old office.new };
 
-    /// Whether there is a log, for exchanges and faults of connections.
+    /// Whether exchanges and faults of connections are logged.
     fn has_log(&self) -> bool;
 
     /// Appends a line with its LF to the log. If writing fails, the log has none or only a part of the line.
@@ -332,7 +324,7 @@ pub trait Machine {
     fn warn(&self, line: &[u8])
         ensures { warned line.now };
 
-    /// Keeps the cause of a failed call, and its location if known, to report it when the job ends. `None` as the cause drops the one kept before.
+    /// Keeps the cause of a failed call, and its location if known, to report it when the job ends. The cause `None` drops the one kept before.
     fn keep_cause(&self, location: Option<Location>, cause: Option<Cause>);
 
     /// The cause that was kept last, if it was known.
@@ -354,7 +346,7 @@ pub trait Machine {
         }
     }
 
-    /// Returns this moment, which the clock showed before. `None` if the clock is behind it now, or can't be read.
+    /// Returns `moment`, an earlier reading, to prove that the clock has reached it. `None` if the clock is behind it now, or can't be read.
     final fn moment_if_reached(&self, moment: Moment) -> Option<Moment>
         ensures { IfSome result (λ recalled. clock_reached recalled × (recalled ≡ moment)) }
     {

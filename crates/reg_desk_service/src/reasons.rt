@@ -1,4 +1,4 @@
-//! The reasons that the reply to `why` gives at the control socket, and those that `--why` prints if a strict script or import ends at a refusal.
+//! The reasons in the replies to `why` at the control socket, and those that `--why` prints if a strict script or import ends at a refusal.
 
 ghost use Rattle.std.specs.Prelude.{◌≡◌, ◌++◌, ◌∷◌, [], IfOk, IfSome};
 ghost use Rattle.reg_office_api.specs.Calls.{KeepsIn};
@@ -16,26 +16,25 @@ use std::cell::Cell;
 
 const DAY: u64 = 86_400;
 
-/// Why a line or a row was refused, in more detail than its reply. `Unsigned` alone is no refusal: it says why the next CRL is due at once.
+/// Why a line, or an import's row, was refused, in more detail than its reply. Only `Unsigned` is no refusal: it is why the next CRL is due at once.
 #[derive(Clone, Copy, PartialEq, Eq)]
 pub enum Reason {
-    /// There is no order with this number.
+    /// There is no order with this number; or (`Filled`) that order already has a certificate.
     NoOrder(u64),
-    /// The order with this number already has a certificate.
     Filled(u64),
-    /// The latest notAfter that the order and the schedule allow with the line's notBefore (RFC 5280 4.1.2.5).
+    /// The latest notAfter that the order and the schedule of longest validities allow with the line's notBefore (RFC 5280 4.1.2.5).
     Latest(Moment),
     /// The request with this number is for this serial number, and not for the one in the line.
     OtherSerial(u64, Serial),
-    /// The clock is more than 30 days past this moment, the last command's, and more than 30 days past the one given by `accept-clock`, if any.
+    /// The clock is more than 30 days past this moment of the last command, and more than 30 days past the one in the last `accept-clock`, if any.
     ClockAhead(Moment),
     /// The line can't be read, because of this field.
     Wrong(WrongField),
-    /// The CRL with this number has a placeholder digest, and the next one will be signed.
+    /// The latest CRL, with this number, has a placeholder digest instead of a signature, and the next one will be signed.
     Unsigned(u64),
 }
 
-/// The reply to the line `why`, with the last reason that was kept for its connection.
+/// The reply to the line `why`, with the last reason that was kept for its connection (empty: none).
 pub(crate) fn reason_reply(alloc: Global, last_reason: &[u8]) -> ControlReply
     ensures { ReportsLineOutcome result.line_outcome result.text.items }
 {
@@ -55,7 +54,7 @@ fn why_reply(alloc: Global, last_reason: &[u8]) -> Result<Vec<u8>, AllocError>
     Ok(text)
 }
 
-/// Keeps why a command was refused with this reply ([`reason_of`]), or the reply, if the line was no command, or there is no reason or memory for it.
+/// Keeps why a command was refused ([`reason_of`]); or the reply, if the line was no command, no reason is known, or there is no memory for it.
 pub(crate) fn keep_refusal_reason<M: Machine>(
     alloc: Global,
     office: &mut M::Office,
@@ -108,7 +107,7 @@ pub(crate) fn keep_reply_reason(reply: &[u8], last_reason: &mut Vec<u8>) {
     let _ = last_reason.extend_from_slice(reply);
 }
 
-/// Why the register refused a registration for its order or its validity (E08, E09 or E12); `None` for any other refusal. No record changes.
+/// Why the register refused a registration for its order or its validity (E08, E09 or E12); `None` for any other refusal.
 fn reason_of<M: Machine>(office: &mut M::Office, refused: &RefusedCommand) -> Option<Reason>
     ensures { KeepsIn M.Office.Office office.old office.new }
 {
@@ -128,7 +127,6 @@ fn reason_of<M: Machine>(office: &mut M::Office, refused: &RefusedCommand) -> Op
     }
 }
 
-/// The latest notAfter that an order and the schedule allow a certificate with this notBefore.
 fn latest_of<M: Machine>(office: &mut M::Office, order: u64, not_before: Moment) -> Option<Reason>
     ensures { KeepsIn M.Office.Office office.old office.new }
 {
@@ -138,7 +136,7 @@ fn latest_of<M: Machine>(office: &mut M::Office, order: u64, not_before: Moment)
     }
 }
 
-/// Keeps in `reason` why a run of a script or an import ended at a refused registration ([`reason_of`]); `None` after any other run.
+/// Keeps in `reason` why a script or an import ended at a refused registration ([`reason_of`]); `None` if it ended otherwise.
 pub fn keep_reason<M: Machine>(
     office: &mut M::Office,
     run_result: &Result<Ended, Fault>,
@@ -152,7 +150,7 @@ pub fn keep_reason<M: Machine>(
     }
 }
 
-/// The last second of a validity of `days` days from `not_before` on. Both ends count (RFC 5280 4.1.2.5), so one second is taken off.
+/// The last second of a validity of `days` days from `not_before` on. Both ends count (RFC 5280 4.1.2.5), so one second is subtracted.
 fn last_moment_of(not_before: Moment, days: u64) -> Option<Moment>
     ensures { IfSome result (λ at. at ≡ last_second not_before days) }
 {
@@ -160,7 +158,7 @@ fn last_moment_of(not_before: Moment, days: u64) -> Option<Moment>
     Moment::of_secs(not_before.secs().checked_add(seconds)?)
 }
 
-/// A prefix (`b""` for the reply to `why`), the text of a reason and an LF; `None` if there is no reason or no memory.
+/// A prefix (`b""`, none, for the reply to `why`), the text of a reason and an LF; `None` if there is no reason or no memory.
 pub fn reason_line(alloc: Global, prefix: &[u8], reason: Option<Reason>) -> Option<Vec<u8>>
     ensures { IfSome result (λ text. IsReasonLine prefix.now reason text.items) }
 {

@@ -1,4 +1,4 @@
-//! Opens, creates and audits a register on a machine.
+//! Opens, creates and audits a register in the files of a machine.
 
 ghost use Rattle.std.specs.Prelude.{◌≡◌, IfErr, IfOk};
 ghost use Rattle.reg_office_api.specs.Signers.{OfficeSigners};
@@ -8,7 +8,7 @@ ghost use Rattle.reg_desk_service.specs.RegisterUses.{exit_of};
 ghost use Rattle.reg_desk_service.specs.Registers.{Audits, Created, Opened, Unaudited, NotCreated, Unopened};
 ghost use Rattle.reg_desk_service.specs.Signers.{signing_with, unsigned};
 
-use crate::crl_signer::CrlSigner;
+use crate::crl_signer::CrlSignerChoice;
 use crate::machine::Machine;
 use reg_audit_rows::AuditResult;
 use reg_core::{Fault, Policy};
@@ -21,14 +21,13 @@ pub fn open_unsigned<M: Machine>(machine: &mut M, path: &str) -> Result<M::Offic
     ensures err { IfErr result (λ why. Unopened M.Machine machine.old path.now unsigned why machine.new) }
     ensures faults { IfErr result IsOpenFailure }
 {
-    // This choice (the issuer's key signs OCSP responses) needs no certificate file and no signer of its own.
+    // With the issuer as the OCSP responder, there is no certificate file to read and no other signer.
     let issuer_signs = ResponderChoice::Issuer { certificate: None };
-    open_by(machine, path, &CrlSigner::NoSigner, &issuer_signs)
+    open_by(machine, path, &CrlSignerChoice::NoSigner, &issuer_signs)
 }
 
-/// Opens the register at a path with the given signer of its CRLs, and with its OCSP responder. Without a signer, each new CRL gets a placeholder
-/// digest, or fails with a fault of the signer if the responder has a key of its own. Errors: those of [`Machine::read_responder`] and of
-/// [`open_unsigned`].
+/// Opens the register at a path, with a signer of its CRLs and an OCSP responder. Without a signer, CRLs get a placeholder digest; but if the
+/// responder has its own key, `crl` fails (`Fault::Signer`). Errors: those of [`Machine::read_responder`] and of [`open_unsigned`].
 pub fn open_signed<M: Machine>(
     machine: &mut M,
     path: &str,
@@ -41,14 +40,19 @@ pub fn open_signed<M: Machine>(
         Unopened M.Machine machine.old path.now (signing_with signer.now responder.now) why machine.new) }
     ensures faults { IfErr result IsOpenFailure }
 {
-    open_by(machine, path, &CrlSigner::of(signer, responder), responder)
+    open_by(
+        machine,
+        path,
+        &CrlSignerChoice::of(signer, responder),
+        responder,
+    )
 }
 
-/// Checks that there is a database at the path before it connects: connecting would create one.
+/// Checks that there is a database at the path before it connects to it, since `connect` would create one.
 fn open_by<M: Machine>(
     machine: &mut M,
     path: &str,
-    crl_signer: &CrlSigner<'_>,
+    crl_signer: &CrlSignerChoice<'_>,
     responder: &ResponderChoice<'_>,
 ) -> Result<M::Office, Failure>
     ensures ok { IfOk result (λ office.
@@ -77,8 +81,7 @@ pub fn create_register<M: Machine>(
     ensures err { IfErr result (λ why. NotCreated M.Machine machine.old path.now why machine.new) }
     ensures faults { IfErr result IsCreateFailure }
 {
-    // The job has called `Machine::claim`. If there still is no file, the call returned `false`: the path is a dangling symbolic link, a WAL without
-    // a register is beside it, or no file can be created there. The machine kept the cause, if it is known.
+    // The job has tried to create the file (`Machine::claim`). If it is missing, the path is a dangling link, its WAL exists, or none can be created.
     if !machine.is_there(path) {
         return Err(Failure::Fault(Fault::Store));
     }
@@ -86,7 +89,7 @@ pub fn create_register<M: Machine>(
     machine.create_in(database, issuer, policy)
 }
 
-/// Audits the register at a path. It only reads its files (`sources`): none changes, none is created, and a register of an older version is not
+/// Audits the register at a path. Its files (`sources`) are only read: none changes, none is created, and a register of an older version is not
 /// migrated. Errors: those of [`Machine::read`] and [`Machine::audit_in`].
 pub fn audit_at<M: Machine>(machine: &M, path: &str) -> Result<AuditResult, Failure>
     ensures ok { IfOk result (Audits M.Machine machine.now path.now) }
@@ -97,7 +100,7 @@ pub fn audit_at<M: Machine>(machine: &M, path: &str) -> Result<AuditResult, Fail
     machine.audit_in(sources)
 }
 
-/// The result of a call (`ran`), with its fault as a [`Failure`].
+/// The result of a job or a step, from that of its last call (`ran`): a [`Fault`] becomes a [`Failure`].
 pub fn ended(ran: Result<(), Fault>) -> Result<(), Failure>
     ensures { result ≡ exit_of ran }
 {

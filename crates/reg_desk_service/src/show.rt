@@ -1,4 +1,4 @@
-//! The words `show` and `help` at the control socket.
+//! The lines `show ..` and `help` at the control socket.
 
 ghost use Rattle.std.specs.Prelude.{◌≡◌, ◌++◌, ◌∷◌, ◌-◌, ◌≤◌, [], IfOk, find as first_passing};
 ghost use Rattle.reg_core_lists.specs.Lists.{key_of, page};
@@ -17,7 +17,7 @@ use reg_core_lists::{Cursor, Format, Row, put_rows};
 use reg_office_api::Office;
 use std::alloc::{AllocError, Global};
 
-/// How many subscribers one call of [`Office::page`] reads: as many rows as a page over HTTP reads at most.
+/// How many subscribers one call of [`Office::page`] reads at most: as many rows as a page of a list over HTTP.
 const SUBSCRIBERS_READ: u64 = 250;
 
 const SERIAL_BYTES: usize = 20;
@@ -32,7 +32,7 @@ pub(crate) fn answer_help(alloc: Global) -> ControlReply
     ControlReply::line(alloc, HELP_LINE, LineOutcome::Done)
 }
 
-/// Shows a row at a moment, in the form of `list --json`. No record changes.
+/// Shows the row that `shown` names, as it is at `now`, in the form of `list --json`. Keeps a refusal or a fault for `why`.
 pub(crate) fn answer_show<M: Machine>(
     alloc: Global,
     office: &mut M::Office,
@@ -65,7 +65,6 @@ fn answer_found(
     }
 }
 
-/// Replies with a fault, and keeps it for `why`.
 pub(crate) fn report_fault(alloc: Global, fault: Fault, last_reason: &mut Vec<u8>) -> ControlReply
     ensures told { ReportsFault fault result.text.items }
     ensures line_outcome { ReportsLineOutcome result.line_outcome result.text.items }
@@ -93,7 +92,7 @@ fn row_line(alloc: Global, row: Row) -> Result<Vec<u8>, AllocError>
     Ok(text)
 }
 
-/// The row to be shown, at a moment; `None` if there is none. A page of a list begins after its cursor, a key. Errors: those of [`Office::page`].
+/// The row that `shown` names, at `now`; `None` if there is none. A page begins after its cursor, so `from` is the key before. Errors: `page`'s.
 pub(crate) fn find<O: Office>(
     alloc: Global,
     office: &mut O,
@@ -117,7 +116,7 @@ pub(crate) fn find<O: Office>(
     }
 }
 
-/// The first row after `from`, the cursor just before the key of `shown`, if it has that key: a page of at most one row (`1`).
+/// The first row after the cursor `from`, if this row has the key `shown`. The cursor is just before that key. `1`: the page has at most one row.
 fn find_at<O: Office>(
     alloc: Global,
     office: &mut O,
@@ -134,7 +133,7 @@ fn find_at<O: Office>(
     Ok(row_among(&page.rows, shown))
 }
 
-/// Reads the subscribers in the order of their ids until it finds the one with this name: no cursor is by name.
+/// Reads the subscribers in the order of their ids, page by page, until it finds the one with this name: no cursor is by name.
 fn find_subscriber<O: Office>(
     alloc: Global,
     office: &mut O,
@@ -174,19 +173,19 @@ fn row_among(rows: &[Row], shown: &RowKey) -> Option<Row>
     None
 }
 
-/// Whether this is the row to be shown. `History` is a row of the list of all requests.
+/// Whether this is the row that `shown` names. `AnyRequest` is a row of the list of all requests.
 fn has_key(row: &Row, shown: &RowKey) -> bool
     ensures { result ≡ has_key shown.now row.now }
 {
     match (shown, row) {
-        (RowKey::Request(id), Row::History(history)) => history.request.request.id == *id,
+        (RowKey::Request(id), Row::AnyRequest(history)) => history.request.request.id == *id,
         (RowKey::Certificate(serial), Row::Certificate(line)) => line.certificate.serial == *serial,
         (RowKey::Subscriber(name), Row::Subscriber(subscriber)) => subscriber.name == *name,
         _ => false,
     }
 }
 
-/// The serial number minus 1, counted on its 20 bytes, the last of which is the lowest; `None` for 1.
+/// The serial number minus 1, computed on its 20 bytes from the last, the least significant, to the first. `None` for 1: 0 is no serial number.
 fn serial_before(serial: Serial) -> Option<Serial>
     ensures before { key_of result ≡ serial - 1 }
     ensures above_0 { 1 ≤ serial }

@@ -12,7 +12,7 @@ use std::alloc::{AllocError, Global};
 
 /// A field of a command or query, by its name in the reply to the line `help`.
 #[derive(Clone, Copy, PartialEq, Eq)]
-pub enum Field {
+pub enum CommandField {
     Name,
     Subscriber,
     Days,
@@ -24,35 +24,34 @@ pub enum Field {
     Request,
 }
 
-/// The first error in the fields of a command or query.
+/// The first error in the fields of a command or query. `TooMany`: there is a field after the last one.
 #[derive(Clone, Copy, PartialEq, Eq)]
 pub enum WrongField {
-    Malformed(Field),
-    Missing(Field),
-    /// There is a field after the last one.
+    Malformed(CommandField),
+    Missing(CommandField),
     TooMany,
 }
 
 /// The fields of the command `subscriber`, in their order. The lists below are those of other commands and queries.
-const SUBSCRIBER: &[Field] = &[Field::Name];
+const SUBSCRIBER: &[CommandField] = &[CommandField::Name];
 
-const ORDER: &[Field] = &[Field::Subscriber, Field::Days];
+const ORDER: &[CommandField] = &[CommandField::Subscriber, CommandField::Days];
 
-const REGISTER: &[Field] = &[
-    Field::Order,
-    Field::Serial,
-    Field::NotBefore,
-    Field::NotAfter,
+const REGISTER: &[CommandField] = &[
+    CommandField::Order,
+    CommandField::Serial,
+    CommandField::NotBefore,
+    CommandField::NotAfter,
 ];
 
-const REQUEST: &[Field] = &[Field::Serial, Field::Ground];
+const REQUEST: &[CommandField] = &[CommandField::Serial, CommandField::Ground];
 
-/// The fields of `revoke` and `decline`. The serial number is optional: a line that lacks only that can be read, so it isn't looked at here.
-const DECISION: &[Field] = &[Field::Request, Field::Serial];
+/// The fields of `revoke` and `decline`. The serial number is optional, but a line that lacks only this can be read: `wrong_field` never gets it.
+const DECISION: &[CommandField] = &[CommandField::Request, CommandField::Serial];
 
-const STATUS: &[Field] = &[Field::Serial];
+const STATUS: &[CommandField] = &[CommandField::Serial];
 
-/// The first wrong field of a line that can't be read. `None` if its word is no command or query that this function knows, or if no field is wrong.
+/// The first wrong field of a line that can't be read. `None` if its first word is none of those in `fields_by_word`, or if no field is wrong.
 pub(crate) fn wrong_field(line: &[u8]) -> Option<WrongField>
     ensures { result ≡ wrong_in (fields_of line.now) }
 {
@@ -61,9 +60,8 @@ pub(crate) fn wrong_field(line: &[u8]) -> Option<WrongField>
     first_wrong(fields_by_word(word)?, fields)
 }
 
-/// The fields of a command or query, by its word; `None` for other words, such as `ocsp`.
-fn fields_by_word(word: &[u8]) -> Option<&'static [Field]>
-    ensures { option_map (λ wanted. wanted.now) result ≡ fields_wanted word.now }
+fn fields_by_word(word: &[u8]) -> Option<&'static [CommandField]>
+    ensures { option_map (λ expected. expected.now) result ≡ fields_wanted word.now }
 {
     if word == b"subscriber".as_slice() {
         Some(SUBSCRIBER)
@@ -82,10 +80,10 @@ fn fields_by_word(word: &[u8]) -> Option<&'static [Field]>
     }
 }
 
-fn first_wrong(wanted: &[Field], mut fields: Fields<'_>) -> Option<WrongField>
-    ensures { result ≡ first_wrong wanted.now fields.entry }
+fn first_wrong(expected: &[CommandField], mut fields: Fields<'_>) -> Option<WrongField>
+    ensures { result ≡ first_wrong expected.now fields.entry }
 {
-    for field in wanted {
+    for field in expected {
         match fields.next() {
             Some(text) => {
                 if !is_well_formed(*field, text) {
@@ -102,16 +100,17 @@ fn first_wrong(wanted: &[Field], mut fields: Fields<'_>) -> Option<WrongField>
     }
 }
 
-fn is_well_formed(field: Field, text: &[u8]) -> bool
+fn is_well_formed(field: CommandField, text: &[u8]) -> bool
     ensures { result ≡ is_well_formed field text.now }
 {
     match field {
-        Field::Name | Field::Ground => is_label(text),
-        Field::Subscriber | Field::Days | Field::Order | Field::Request => {
-            read_number(text).is_some()
-        }
-        Field::Serial => Serial::read(text).is_some(),
-        Field::NotBefore | Field::NotAfter => is_moment(text),
+        CommandField::Name | CommandField::Ground => is_label(text),
+        CommandField::Subscriber
+        | CommandField::Days
+        | CommandField::Order
+        | CommandField::Request => { read_number(text).is_some() }
+        CommandField::Serial => Serial::read(text).is_some(),
+        CommandField::NotBefore | CommandField::NotAfter => is_moment(text),
     }
 }
 
@@ -137,7 +136,7 @@ pub(crate) fn wrong_field_text(alloc: Global, wrong: WrongField) -> Result<Vec<u
     }
 }
 
-fn field_words(alloc: Global, field: Field, end: &[u8]) -> Result<Vec<u8>, AllocError>
+fn field_words(alloc: Global, field: CommandField, end: &[u8]) -> Result<Vec<u8>, AllocError>
     ensures { IfOk result (λ text. text.items ≡ name_text field ++ end.now) }
 {
     let mut text = Vec::from_slice(alloc, name_of(field))?;
@@ -145,31 +144,33 @@ fn field_words(alloc: Global, field: Field, end: &[u8]) -> Result<Vec<u8>, Alloc
     Ok(text)
 }
 
-fn name_of(field: Field) -> &'static [u8]
+fn name_of(field: CommandField) -> &'static [u8]
     ensures { result.now ≡ name_text field }
 {
     match field {
-        Field::Name => b"NAME",
-        Field::Subscriber => b"SUBSCRIBER",
-        Field::Days => b"DAYS",
-        Field::Order => b"ORDER",
-        Field::Serial => b"SERIAL",
-        Field::NotBefore => b"NOTBEFORE",
-        Field::NotAfter => b"NOTAFTER",
-        Field::Ground => b"GROUND",
-        Field::Request => b"REQUEST",
+        CommandField::Name => b"NAME",
+        CommandField::Subscriber => b"SUBSCRIBER",
+        CommandField::Days => b"DAYS",
+        CommandField::Order => b"ORDER",
+        CommandField::Serial => b"SERIAL",
+        CommandField::NotBefore => b"NOTBEFORE",
+        CommandField::NotAfter => b"NOTAFTER",
+        CommandField::Ground => b"GROUND",
+        CommandField::Request => b"REQUEST",
     }
 }
 
-fn form_of(field: Field) -> &'static [u8]
+fn form_of(field: CommandField) -> &'static [u8]
     ensures { result.now ≡ form_text field }
 {
     match field {
-        Field::Name | Field::Ground => b" is not 1 to 64 bytes",
-        Field::Subscriber | Field::Days | Field::Order | Field::Request => {
-            b" is not 1 to 18 digits"
-        }
-        Field::Serial => b" is not 1 to 40 hexadecimal digits, from 1 to 2^159 - 1",
-        Field::NotBefore | Field::NotAfter => b" is not a moment such as 2026-01-01T00:00:00Z",
+        CommandField::Name | CommandField::Ground => b" is not 1 to 64 bytes",
+        CommandField::Subscriber
+        | CommandField::Days
+        | CommandField::Order
+        | CommandField::Request => { b" is not 1 to 18 digits" }
+        CommandField::Serial => b" is not 1 to 40 hexadecimal digits, from 1 to 2^159 - 1",
+        CommandField::NotBefore | CommandField::NotAfter =>
+            b" is not a moment such as 2026-01-01T00:00:00Z",
     }
 }

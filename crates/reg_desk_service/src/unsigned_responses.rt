@@ -1,4 +1,4 @@
-//! OCSP responses that are to be signed, and how they are finished.
+//! OCSP responses over HTTP that are to be signed, and how they are finished.
 
 ghost use Rattle.std.specs.Prelude.{◌≡◌, ◌≤◌, IfSome, length, option_map};
 ghost use Rattle.reg_desk_service.specs.Counted.{CountsFinished};
@@ -20,23 +20,20 @@ use reg_office_api::SignatureOutcome;
 use std::alloc::Global;
 use std::net::SocketAddr;
 
-/// The most bytes of a request that are kept for the log: it quotes at most this many of the first line.
+/// The most bytes of a request that are kept for the log, which quotes at most this many of the first line.
 const MOST_KEPT: usize = 256;
 
-/// An OCSP response that is to be signed, with the data that the tally and the log need.
+/// An OCSP response that is to be signed (`draft`), with the data that the tally (the desk's counts) and the log need.
 #[derive(Drop)]
 pub struct Unsigned {
-    /// The message to sign, and the rest of the response.
     pub(crate) draft: Draft,
-    /// The moment of the clock when the desk began to answer.
+    /// When the desk began to answer; `began`: the same in microseconds of the monotonic clock. `route`, for the tally: that of the request.
     pub(crate) moment: Moment,
-    /// The route of the request, for the tally.
     pub(crate) route: Route,
-    /// When the desk began to answer, in microseconds of the monotonic clock.
     pub(crate) began: u64,
     pub(crate) client: SocketAddr,
-    /// The first bytes of the request, for the log; empty if there is no log, or no memory.
-    pub(crate) asked: Vec<u8>,
+    /// The first bytes of the request; empty if there is no log, or no memory.
+    pub(crate) log_prefix: Vec<u8>,
 }
 
 pub(crate) fn unsigned_of<M: Machine>(
@@ -59,7 +56,7 @@ pub(crate) fn unsigned_of<M: Machine>(
         route,
         began,
         client,
-        asked: log_prefix_of(alloc, machine, request.as_slice()),
+        log_prefix: log_prefix_of(alloc, machine, request.as_slice()),
     }
 }
 
@@ -74,9 +71,9 @@ fn log_prefix_of<M: Machine>(alloc: Global, machine: &M, request: &[u8]) -> Vec<
     }
 }
 
-/// Finishes an OCSP response with the signer's answer to `request`, which asks for its signature. If there is no request, or no answer that has the
-/// form of a signature, it becomes internalError (RFC 6960 2.3). Returns the text of the HTTP answer. Counts the exchange under the moment and route
-/// of `unsigned`, and logs it if there is a log. `signer` signs CRLs; `responder` says whether it signs OCSP responses too, or another signer does.
+/// The HTTP answer with an OCSP response, whose signature is the signer's answer to the signature request (`request`); internalError (RFC 6960 2.3)
+/// without this request, or without an answer in the form of a signature. Counts the exchange by the moment and route of `unsigned`, and logs it if
+/// there is a log. `signer` signs CRLs. `responder` says whether this signer signs OCSP responses, too, or another one does.
 pub(crate) fn finish_http<M: Machine>(
     alloc: Global,
     machine: &M,
@@ -99,7 +96,7 @@ pub(crate) fn finish_http<M: Machine>(
         micros,
         unsigned.moment,
         unsigned.client,
-        &unsigned.asked,
+        &unsigned.log_prefix,
         &exchange,
     );
     exchange.text
@@ -131,21 +128,21 @@ fn signature_of<M: Machine>(
     }
 }
 
-/// The answer of the signer of CRLs, or of that of OCSP responses (`wanted` is `Answer`). `None` without this signer, without a request to it for
-/// `message`, or if [`Machine::receive_answer`] gives none.
+/// The bytes that the signer of CRLs (`Crl`) or of OCSP responses (`Answer`) sent for `message`. `None` without this signer, without a `request` to
+/// it for `message`, or if [`Machine::receive_answer`] gives none.
 pub(crate) fn received_answer<M: Machine>(
     alloc: Global,
     signer: &Option<SignerAddress<'_>>,
     responder: &ResponderChoice<'_>,
-    wanted: SignatureKind,
+    kind: SignatureKind,
     message: &[u8],
     request: &mut Option<SignatureRequest>,
 ) -> Option<Vec<u8>>
     ensures given { IfSome result (λ answer.
-        AnsweredBySigner M.signer_answered signer.now responder.now wanted message.now answer.items) }
+        AnsweredBySigner M.signer_answered signer.now responder.now kind message.now answer.items) }
     ensures short { IfSome result (λ answer. length answer.items ≤ 4096) }
 {
-    let socket = socket_of(signer, responder, wanted)?;
+    let socket = socket_of(signer, responder, kind)?;
     let request = request.as_mut()?;
     if !request.is_for(socket, message) {
         return None;

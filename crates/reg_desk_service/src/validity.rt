@@ -1,4 +1,5 @@
-//! Reads the end of a certificate's validity (RFC 5280 4.1.2.5).
+//! Reads notAfter of a certificate (RFC 5280 4.1.2.5). `take` returns the first DER value and the bytes after it. `expect` does so only if the value
+//! has the given tag. `optional` skips the value only if it has the given tag. `whole` returns a value's contents, if nothing comes after it.
 
 ghost use Rattle.std.specs.Prelude.{◌≡◌, ◌≢◌, ℕ, Some, IfNone, IfSome, length};
 ghost use Rattle.reg_core.specs.Calendar.{IsMoment, moment_text};
@@ -22,7 +23,7 @@ pub(crate) fn not_after(certificate: &[u8]) -> Option<Moment>
     }
 }
 
-/// notAfter of a certificate, in the form `2026-01-01T00:00:00Z`. The digits are not checked here: `Moment::read` does that.
+/// notAfter of a certificate, the second value in its validity, in the form `2026-01-01T00:00:00Z`. `Moment::read` checks the digits later.
 #[tactic(auto, unfolding(crate::specs::Validities::not_after_at))]
 fn not_after_text(certificate: &[u8]) -> Option<[u8; 20]>
     ensures { result ≡ not_after_at certificate.now }
@@ -57,7 +58,7 @@ fn time_text(tag: u8, digits: &[u8]) -> Option<[u8; 20]>
     }
 }
 
-/// The text of a UTCTime, whose contents (`digits`) are `YYMMDDHHMMSSZ`. Its year is 1950 to 2049.
+/// The form `2026-01-01T00:00:00Z` of a UTCTime, whose contents (`digits`) are `YYMMDDHHMMSSZ`. Its year is 1950 to 2049, by its first digit.
 fn utc_text(digits: &[u8]) -> Option<[u8; 20]>
     ensures { result ≡ utc_spec digits.now }
 {
@@ -67,7 +68,7 @@ fn utc_text(digits: &[u8]) -> Option<[u8; 20]>
     Some(dated(century(digits[0]), digits))
 }
 
-/// The text of a GeneralizedTime `YYYYMMDDHHMMSSZ`.
+/// The same of a GeneralizedTime, whose contents are `YYYYMMDDHHMMSSZ`.
 fn generalized_text(digits: &[u8]) -> Option<[u8; 20]>
     ensures { result ≡ generalized_spec digits.now }
 {

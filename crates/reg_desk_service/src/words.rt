@@ -1,4 +1,4 @@
-//! Reads a line at the control socket.
+//! Reads a line at the control socket: the words that only the control socket has, and any other line.
 
 ghost use Rattle.std.specs.Prelude.{◌≡◌, IfOk};
 ghost use Rattle.reg_desk_cli.specs.WordValues.{steps_of};
@@ -11,28 +11,25 @@ use reg_desk_cli::{Steps, read_step};
 use reg_lines::{Fields, untimed_line, without_end};
 use std::alloc::{AllocError, Global};
 
-/// The meaning of a line at the control socket.
 #[derive(Drop)]
 pub(crate) enum ControlWord<'a> {
-    /// `help`: the reply lists the lines that the control socket takes.
     Help,
-    /// `why`: the reply is the reason that the desk kept last for the connection, mostly for a refused line.
+    /// `why`: the reply is the last reason that the desk kept for the connection, mostly why a line was refused.
     Why,
     /// `copy`: the desk copies the register to this path; `None` if the path is not UTF-8.
     Copy(Option<&'a str>),
-    /// `show`: the reply shows a row.
     Show(RowKey),
-    /// `revoke` or `decline` with two fields: the desk decides the request with this number, which must be for this serial number.
+    /// `revoke N SERIAL` or `decline N SERIAL`: carries out or declines the request with the number N, if it is for this serial number.
     Decide(SerialDecision),
-    /// `accept-clock`: the operator accepts the clock.
+    /// `accept-clock`: the operator accepts this moment, so the clock may be up to 30 days past it.
     AcceptClock(AcceptedClock),
-    /// `schedule`: the desk sets another schedule; each of its steps is a notBefore and the longest validity in days from it on.
+    /// `schedule`: the desk sets the longest validities. Each step has a notBefore, and the most days of a certificate from that notBefore on.
     Schedule(Steps),
-    /// Any other line without its line end, also a word above with wrong fields, which will be refused. `None` for over 8,171 bytes.
+    /// Any other line, or a word above with wrong fields, without line end. `None` if over 8,171 bytes (in a script 8,192 with a moment and a space).
     Line(Option<&'a [u8]>),
 }
 
-/// The row that `show` is to show: a request by its number, a certificate by its serial number, or a subscriber by its name.
+/// The row that `show` is to show: a request by its number (`show request N`), a certificate by its serial number, or a subscriber by its name.
 #[derive(Clone, Copy)]
 pub(crate) enum RowKey {
     Request(u64),
@@ -40,13 +37,11 @@ pub(crate) enum RowKey {
     Subscriber(Label),
 }
 
-/// The moment that the operator accepts: the clock may be up to 30 days past it.
 #[derive(Clone, Copy)]
 pub(crate) struct AcceptedClock {
     pub(crate) moment: Moment,
 }
 
-/// A command that decides a request, and the serial number that the request must be for.
 #[derive(Clone, Copy)]
 pub(crate) struct SerialDecision {
     pub(crate) command: Command,
@@ -94,7 +89,6 @@ fn row_key_in(text: &[u8]) -> Option<RowKey>
     }
 }
 
-/// The row to show: `SERIAL`, `request N` or `subscriber NAME`.
 fn read_row_key(mut fields: Fields<'_>) -> Option<RowKey>
     ensures { result ≡ row_key_by fields.entry }
 {
@@ -114,7 +108,6 @@ fn read_row_key(mut fields: Fields<'_>) -> Option<RowKey>
     }
 }
 
-/// Reads `revoke N SERIAL` or `decline N SERIAL`.
 pub(crate) fn serial_decision_in(text: &[u8]) -> Option<SerialDecision>
     ensures { result ≡ serial_decision_in (fields_of text.now) }
 {
@@ -146,7 +139,6 @@ fn read_serial_decision(word: &[u8], request: u64, serial: Serial) -> Option<Ser
     })
 }
 
-/// The moment of `accept-clock MOMENT`.
 fn accepted_in(text: &[u8]) -> Option<Moment>
     ensures { result ≡ accepted_in (fields_of text.now) }
 {

@@ -61,7 +61,7 @@ pub replies_stay : (signs : Signs) (signers : OfficeSigners) (before : Records) 
 replies_stay signs signers before now request (Ok response) after came = came.1
 replies_stay signs signers before now request (Err memory) after came = came
 
-pub ocsps_stay : (signs : Signs) (signers : OfficeSigners) (before : Records) (now : ℕ) (request : List ℕ) (given : Result (ResponseKind × List ℕ) NoMemory)
+pub ocsp_stays : (signs : Signs) (signers : OfficeSigners) (before : Records) (now : ℕ) (request : List ℕ) (given : Result (ResponseKind × List ℕ) NoMemory)
     (after : Records) → of_any_kind (AnswersOcsp signs signers) before now request given after → after ≡ before
-ocsps_stay signs signers before now request (Ok response) after came = came.1
-ocsps_stay signs signers before now request (Err memory) after came = came
+ocsp_stays signs signers before now request (Ok response) after came = came.1
+ocsp_stays signs signers before now request (Err memory) after came = came

@@ -20,7 +20,7 @@ use Rattle.reg_http.specs.RoutedRequests.{RoutedRequest, refused, method_not_all
 use Rattle.reg_http.specs.AnswerEffects.{AnswerEffects, answer_effects}
 use Rattle.reg_http.specs.declared.answered.Answered.{Answered}
 use Rattle.reg_crl.specs.Signing.{signed_by}
-use Rattle.reg_http.proofs.Added.{nothing_added, ocsps_stay, replies_stay, request_adds}
+use Rattle.reg_http.proofs.Added.{nothing_added, ocsp_stays, replies_stay, request_adds}
 use Rattle.reg_ocsp.specs.Drafts.{Drafted}
 use Rattle.reg_io.specs.declared.begun.ReadyOrUnsigned.{ReadyOrUnsigned}
 use Rattle.reg_io.specs.declared.begun.ReadyOrUnsigned.TheVariants.{Ready, Unsigned}
@@ -78,7 +78,7 @@ module _ {O : Type 0} (office : Office O) (now : ℕ) (s t : O) where
       s t
   responds_leads asks response (it, answered, same) =
       follows office.is_clean office.stands _ _ (λ signers before after made. ((it, made.0, same), made.1)) s t
-      (answer_leads (λ signers. of_any_kind (AnswersOcsp office.signs signers)) (ocsps_stay office.signs) asks it answered)
+      (answer_leads (λ signers. of_any_kind (AnswersOcsp office.signs signers)) (ocsp_stays office.signs) asks it answered)
 
   -- the answer, or what is left to be signed for it
   pub begins_to : (what asks : RoutedRequest) (begun : ReadyOrUnsigned Answered Drafted) → what ≡ asks → BeginsIn office now s what begun t → BeginsIn office now s asks begun t

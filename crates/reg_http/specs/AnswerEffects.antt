@@ -14,14 +14,14 @@ use Rattle.reg_core.specs.declared.refusal.Fault.TheVariants.{Memory, Store}
 use Rattle.reg_http_head.specs.Response.{Response, shown}
 use Rattle.reg_http.specs.Bodies.{counts_text, der, due_text, fault_response, json, status_text}
 use Rattle.reg_http.specs.declared.answered.Answered.{Answered}
-use Rattle.reg_http.specs.declared.answered.LoggedRequest.{LoggedRequest}
+use Rattle.reg_http.specs.declared.answered.LoggedRevocationRequest.{LoggedRevocationRequest}
 
 -- the response of an answer, and its effects
 pub record AnswerEffects : Type 0 where
   pub response : Response
   pub signature : SignatureOutcome
   pub store : StoreEffect
-  pub named : Option LoggedRequest
+  pub named : Option LoggedRevocationRequest
 
 -- the response and the effects of an `Answered`
 abbrev pub answer_effects : Answered → AnswerEffects
@@ -58,7 +58,7 @@ outcome_effects (Ok reply) = reply_effects reply
 outcome_effects (Err fault) = fault_effects fault
 
 -- the request for revocation that a command entered, with the id in the reply, and the serial number and the word of the command
-abbrev pub entered_request : ℕ → List ℕ → Result Reply Fault → Option LoggedRequest
+abbrev pub entered_request : ℕ → List ℕ → Result Reply Fault → Option LoggedRevocationRequest
 entered_request serial word (Ok (Request id due)) =
     Some (record { id = id; serial = serial; ground = ground word })
 entered_request serial word other = None

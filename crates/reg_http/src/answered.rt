@@ -1,4 +1,4 @@
-//! An answer, with the outcome of its signature, its effect on the store, and the request for revocation that was entered.
+//! The answers to HTTP requests, with the values that the desk counts and logs of them.
 
 ghost use Rattle.std.specs.Prelude.{◌≡◌, ◌≤◌, [], Ok, vec_capacity};
 ghost use Rattle.reg_office_api.specs.Items.{items_of};
@@ -18,31 +18,30 @@ use reg_office_api::{OcspResponse, SignatureOutcome, StoreEffect};
 
 /// A request for revocation that was entered or decided, as the log names it.
 #[derive(Clone, Copy)]
-pub struct LoggedRequest {
+pub struct LoggedRevocationRequest {
     pub id: u64,
     pub serial: Serial,
-    /// The word of its ground, such as `key-compromise`, if the request was entered; `None` if it was decided (carried out or declined).
+    /// The word of its ground (the reason), such as `key-compromise`, if it was entered; `None` if it was decided (carried out or declined).
     pub ground: Option<Label>,
 }
 
+/// An answer, the outcome of its signature, and what the store did. `named` is the request for revocation that was entered: the log names it.
 #[derive(Drop)]
 pub struct Answered {
     pub answer: Answer,
     pub signature: SignatureOutcome,
     pub store: StoreEffect,
-    /// The request for revocation that was entered, for the log.
-    pub named: Option<LoggedRequest>,
+    pub named: Option<LoggedRevocationRequest>,
 }
 
 impl Answered {
-    /// An answer without a signature and without an effect on the store.
+    /// An answer that needs no signature and had no effect on the store.
     pub fn plain(answer: Answer) -> Answered
         ensures { answer_effects result ≡ plainly (shown answer) }
     {
         Answered::unsigned(answer, StoreEffect::Unwritten)
     }
 
-    /// An answer that has no signature and needs none.
     fn unsigned(answer: Answer, store: StoreEffect) -> Answered
         ensures { answer_effects result ≡ unsigned_effects (shown answer) store }
     {
@@ -55,7 +54,7 @@ impl Answered {
     }
 }
 
-/// The answer to a refusal or a fault: its line (such as `E22 syntax`) in a JSON body, written into `buffer`.
+/// The answer with a refusal or a fault: its line (such as `E22 syntax`) in a JSON body, written into the reserved `buffer`.
 pub(crate) fn answer_of_fault(buffer: Vec<u8>, fault: Fault) -> Answered
     requires empty { buffer.items ≡ [] }
     requires buffer { 256 ≤ vec_capacity buffer }
@@ -65,8 +64,7 @@ pub(crate) fn answer_of_fault(buffer: Vec<u8>, fault: Fault) -> Answered
     Answered::unsigned(fault_answer(buffer, fault), store)
 }
 
-/// The answer whose body is the reply to a query for a status or the counts, or to a request for revocation. No office returns
-/// another reply to these; one would be answered as a fault of the store.
+/// The answer with the reply to a query for a status or the counts, or to a request for revocation. `_`: no office gives another reply to these.
 fn reply_answer(mut buffer: Vec<u8>, reply: Reply) -> Answered
     requires empty { buffer.items ≡ [] }
     requires buffer { 256 ≤ vec_capacity buffer }
@@ -100,7 +98,7 @@ pub(crate) fn outcome_answer(buffer: Vec<u8>, outcome: Outcome) -> Answered
     }
 }
 
-/// The answer to a request for revocation on the ground `word`, with its [`LoggedRequest`] if it was entered.
+/// The answer to a request for revocation on the ground `word`, with its [`LoggedRevocationRequest`] if the office entered it.
 pub(crate) fn request_answer(
     buffer: Vec<u8>,
     serial: Serial,
@@ -117,11 +115,15 @@ pub(crate) fn request_answer(
     answered
 }
 
-fn entered_request(serial: Serial, word: Label, outcome: &Outcome) -> Option<LoggedRequest>
+fn entered_request(
+    serial: Serial,
+    word: Label,
+    outcome: &Outcome,
+) -> Option<LoggedRevocationRequest>
     ensures { result ≡ entered_request serial word outcome.now }
 {
     match outcome {
-        Ok(Reply::Request { id, .. }) => Some(LoggedRequest {
+        Ok(Reply::Request { id, .. }) => Some(LoggedRevocationRequest {
             id: *id,
             serial,
             ground: Some(word),
@@ -130,12 +132,12 @@ fn entered_request(serial: Serial, word: Label, outcome: &Outcome) -> Option<Log
     }
 }
 
-pub(crate) fn crl_answer(buffer: Vec<u8>, given: Result<Vec<u8>, Fault>) -> Answered
+pub(crate) fn crl_answer(buffer: Vec<u8>, crl: Result<Vec<u8>, Fault>) -> Answered
     requires empty { buffer.items ≡ [] }
     requires buffer { 256 ≤ vec_capacity buffer }
-    ensures { answer_effects result ≡ crl_effects (items_of given) }
+    ensures { answer_effects result ≡ crl_effects (items_of crl) }
 {
-    match given {
+    match crl {
         Ok(bytes) => Answered::plain(der(PKIX_CRL, bytes)),
         Err(fault) => answer_of_fault(buffer, fault),
     }
@@ -153,7 +155,7 @@ fn ocsp_answered(response: OcspResponse) -> Answered
     }
 }
 
-/// The answer with an OCSP response, or the draft of one that is to be signed; if out of memory, the answer with that fault.
+/// The answer with an OCSP response, or the draft of one that is to be signed; if the office was out of memory, the answer with that fault.
 pub(crate) fn begun_answer(
     buffer: Vec<u8>,
     given: Result<ReadyOrUnsigned<OcspResponse, Draft>, Memory>,
@@ -169,13 +171,12 @@ pub(crate) fn begun_answer(
     }
 }
 
-/// The answer with an OCSPResponse in DER, or with the fault that memory ran out.
-pub(crate) fn ocsp_answer(buffer: Vec<u8>, given: Result<Vec<u8>, Memory>) -> Answer
+pub(crate) fn ocsp_answer(buffer: Vec<u8>, response: Result<Vec<u8>, Memory>) -> Answer
     requires empty { buffer.items ≡ [] }
     requires buffer { 256 ≤ vec_capacity buffer }
-    ensures { shown result ≡ ocsp_reply (items_of given) }
+    ensures { shown result ≡ ocsp_reply (items_of response) }
 {
-    match given {
+    match response {
         Ok(bytes) => der(OCSP_RESPONSE, bytes),
         Err(_) => fault_answer(buffer, Fault::Memory),
     }

@@ -1,4 +1,4 @@
-//! The JSON bodies for a status, the counts, a new request and an error, written into memory reserved before the office's call; answers with them.
+//! JSON bodies for a status, the counts, a new request (their memory is reserved before the office is called) and an error. Answers with JSON or DER.
 
 ghost use Rattle.std.specs.Prelude.{◌≡◌, ◌≤◌, [], IfOk, length, vec_capacity};
 ghost use Rattle.reg_http_head.specs.Response.{shown};
@@ -15,7 +15,7 @@ pub(crate) const OCSP_RESPONSE: &str = "application/ocsp-response";
 
 pub(crate) const PKIX_CRL: &str = "application/pkix-crl";
 
-/// Reserves 256 bytes, enough for the longest of these JSON bodies. [`Memory`] if out of memory.
+/// Reserves 256 bytes, enough for the longest of these JSON bodies, which are written by functions `put_..`. [`Memory`] if out of memory.
 pub(crate) fn json_buffer(alloc: Global) -> Result<Vec<u8>, Memory>
     ensures empty { IfOk result (λ buffer. buffer.items ≡ []) }
     ensures buffer { IfOk result (λ buffer. 256 ≤ vec_capacity buffer) }
@@ -23,7 +23,7 @@ pub(crate) fn json_buffer(alloc: Global) -> Result<Vec<u8>, Memory>
     Vec::with_capacity(alloc, 256).map_err(|_| Memory)
 }
 
-/// `{"error":"LINE"}`: LINE is that of a refusal or a fault, a status code, or `diverged`.
+/// `{"error":"LINE"}`: LINE is the line of a refusal or a fault (such as `E22 syntax`), a status code, or `diverged`.
 #[tactic(auto, unfolding(crate::specs::Bodies::error_text))]
 fn put_error(buffer: &mut Vec<u8>, line: &[u8])
     requires empty { buffer.old.items ≡ [] }
@@ -97,7 +97,7 @@ pub fn json(code: u16, body: Vec<u8>) -> Answer
     }
 }
 
-/// An answer of status code 200, with DER of this media type in its body.
+/// An answer of status code 200 with a body that isn't JSON: DER of an OCSP response or a CRL, or a page of the changes feed. `kind`: its media type.
 #[tactic(auto, unfolding(crate::specs::Bodies::der))]
 pub(crate) fn der(kind: &'static str, body: Vec<u8>) -> Answer
     requires { length kind.now ≤ 64 }
@@ -111,7 +111,7 @@ pub(crate) fn der(kind: &'static str, body: Vec<u8>) -> Answer
     }
 }
 
-/// The answer to a request that is refused with this status code, such as 404, which is the body's error too.
+/// The answer that refuses a request with a status code, such as 404, which is in the body, too: `{"error":"404"}`.
 #[tactic(auto, unfolding(crate::specs::Bodies::http_refusal))]
 pub(crate) fn refusal(mut buffer: Vec<u8>, code: u16) -> Answer
     requires empty { buffer.items ≡ [] }
@@ -122,7 +122,7 @@ pub(crate) fn refusal(mut buffer: Vec<u8>, code: u16) -> Answer
     json(code, buffer)
 }
 
-/// The answer to a method that the route does not have, with the one that it has (RFC 9110 15.5.6).
+/// The answer to a request by another method than `method`, the only one that its route has (RFC 9110 15.5.6).
 #[tactic(auto, unfolding(crate::specs::Bodies::method_not_allowed))]
 pub(crate) fn method_not_allowed(mut buffer: Vec<u8>, method: &'static str) -> Answer
     requires empty { buffer.items ≡ [] }
@@ -142,7 +142,7 @@ pub(crate) fn method_not_allowed(mut buffer: Vec<u8>, method: &'static str) -> A
     }
 }
 
-/// The answer to a request for changes if the client's copy has got to positions that are not in the history of this register.
+/// The answer to a client of the changes feed whose copy has another history than this register: the positions of that copy are not in this history.
 #[tactic(auto, unfolding(crate::specs::Bodies::diverged_response))]
 pub(crate) fn diverged_answer(mut buffer: Vec<u8>) -> Answer
     requires empty { buffer.items ≡ [] }
@@ -153,7 +153,6 @@ pub(crate) fn diverged_answer(mut buffer: Vec<u8>) -> Answer
     json(status::CONFLICT, buffer)
 }
 
-/// The status code of a refusal or a fault: 400 if the request can't be read, 404 if there is no such CRL, 409 for other refusals, 500 for faults.
 fn status_of(fault: Fault) -> u16
     ensures { result ≡ fault_status fault }
 {

@@ -1,5 +1,4 @@
-//! Requests for the changes of the register, which only `desk open` answers: `GET /changes?after=POSITIONS` for those that a client's copy lacks
-//! (POSITIONS: how far the copy has got), or without a query for all from the first row on.
+//! `GET /changes` of `desk open`: a page of the changes feed, by which clients copy the register. With `?after=POSITIONS`, it has what a copy lacks.
 
 ghost use Rattle.std.specs.Prelude.{◌≡◌, IfOk};
 ghost use Rattle.reg_office_api.specs.Calls.{LooksIn};
@@ -15,22 +14,21 @@ use reg_core_lists::Positions;
 use reg_office_api::{Changes, Office};
 use std::alloc::Global;
 
-/// The media type of a page: its lines are text, but the octets of a CRL may be any.
+/// The media type of a page: its lines are text, but a CRL in it may have any octets. ([`der`] makes an answer of any body that isn't JSON.)
 const PAGE: &str = "application/octet-stream";
 
-/// The meaning of a request for changes.
 #[derive(Clone, Copy)]
 pub(crate) enum ChangesRequest {
     /// The method is not GET, the only one of the route.
     OnlyGet,
-    /// The query can't be read.
+    /// The query is not `after=POSITIONS`.
     Unreadable,
-    /// From the first row on.
+    /// From the first row on; or (`After`) after these positions, by which a client says how far its copy has got.
     FromFirst,
     After(Positions),
 }
 
-/// Answers a request for the changes of the register. No record changes. [`Memory`] if out of memory.
+/// Answers a request for the changes of the register, whose records stay the same. [`Memory`] if out of memory.
 pub fn answer_changes<O: Office>(
     alloc: Global,
     method: &Method,
@@ -97,7 +95,7 @@ fn positions_after(query: &[u8]) -> Option<Positions>
     Positions::read(&query[b"after=".len()..])
 }
 
-/// The answer with a page, with the fault that the office returned, or with `diverged` (the positions are not in the history of this register).
+/// The answer with a page, with the office's fault, or with `diverged`: the positions are not in the history of this register.
 fn answer_given(alloc: Global, given: Result<Changes, Fault>) -> Result<Answered, Memory>
     ensures { IfOk result (λ answered. answer_effects answered ≡ given_changes given) }
 {

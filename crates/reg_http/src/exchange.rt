@@ -7,7 +7,7 @@ ghost use Rattle.reg_http.specs.Bodies.{ocsp_reply};
 ghost use Rattle.reg_http.specs.Exchanges.{IsEmpty, IsMemoryAnswer, PutsText, HasNoEffects, HasOnlySignature, HasEffects, BeginsExchange, AnswersText};
 ghost use Rattle.reg_http.specs.AnswerEffects.{answer_effects};
 
-use crate::answered::{Answered, LoggedRequest, ocsp_answer};
+use crate::answered::{Answered, LoggedRevocationRequest, ocsp_answer};
 use crate::bodies::json_buffer;
 use crate::route::Route;
 use reg_core::{Memory, Moment};
@@ -17,11 +17,10 @@ use reg_ocsp::Draft;
 use reg_office_api::{SignatureOutcome, StoreEffect};
 use std::alloc::Global;
 
-/// The bytes that are reserved for the text of a response: before the office is called, and again in [`Exchange::finished`]. The response to each
-/// request for revocation fits, so its text needs no memory after the call. Most OCSP responses fit too.
+/// The bytes reserved for the text of a response: enough for the reply to a request for revocation, which needs no memory after the office is called.
 const TEXT_ROOM: usize = 4_096;
 
-/// Reserves 4,096 bytes for the text of a response; contracts rely on 512 of them, for its head. [`Memory`] if out of memory.
+/// Reserves `TEXT_ROOM` bytes for the text of a response; contracts rely on 512, for its head. [`Memory`] if out of memory.
 pub fn text_buffer(alloc: Global) -> Result<Vec<u8>, Memory>
     ensures empty { IfOk result (λ buffer. buffer.items ≡ []) }
     ensures buffer { IfOk result (λ buffer. 512 ≤ vec_capacity buffer) }
@@ -29,7 +28,7 @@ pub fn text_buffer(alloc: Global) -> Result<Vec<u8>, Memory>
     Vec::with_capacity(alloc, TEXT_ROOM).map_err(|_| Memory)
 }
 
-/// A finished HTTP exchange, with the text of its response.
+/// A finished HTTP exchange. The desk counts `route`, `status`, `signature` (whether one was requested and made) and `store` (what the store did).
 #[derive(Drop)]
 pub struct Exchange {
     pub route: Route,
@@ -37,14 +36,14 @@ pub struct Exchange {
     pub status: Option<u16>,
     pub signature: SignatureOutcome,
     pub store: StoreEffect,
-    /// The request for revocation that was entered, for the log.
-    pub named: Option<LoggedRequest>,
-    /// The head and the body of the response; empty if there is no memory for them.
+    /// The request for revocation that was entered, if one was: the log names it.
+    pub named: Option<LoggedRevocationRequest>,
+    /// The head and the body of the response; empty if no whole request came, or if there is no memory for them.
     pub text: Vec<u8>,
 }
 
 impl Exchange {
-    /// An exchange without a response (its text is empty), with this outcome of its signature.
+    /// An exchange without a response: its text is empty. A signature may have been requested before; `signature` is its outcome.
     pub fn empty(alloc: Global, route: Route, signature: SignatureOutcome) -> Exchange
         ensures empty { IsEmpty result }
         ensures effects { HasOnlySignature signature result }
@@ -60,8 +59,7 @@ impl Exchange {
         }
     }
 
-    /// The exchange if there was no memory for the answer: the constant text of status code 500, in `buffer`. `IsMemoryAnswer` allows an empty text
-    /// too, which [`Exchange::finished`] may have.
+    /// The exchange if there was no memory for the answer: `buffer` gets the constant text of status code 500.
     pub fn out_of_memory(route: Route, mut buffer: Vec<u8>) -> Exchange
         requires empty { buffer.items ≡ [] }
         requires buffer { 512 ≤ vec_capacity buffer }
@@ -80,7 +78,7 @@ impl Exchange {
         }
     }
 
-    /// An exchange with this answer, written into `buffer`; or the constant text of status code 500, if there is no memory for its body.
+    /// An exchange with this answer, dated `now`, written into `buffer`; or the constant text of status code 500, if out of memory for the body.
     pub fn of(route: Route, mut buffer: Vec<u8>, answered: Answered, now: Moment) -> Exchange
         requires empty { buffer.items ≡ [] }
         requires buffer { 512 ≤ vec_capacity buffer }
@@ -104,8 +102,8 @@ impl Exchange {
         }
     }
 
-    /// An exchange with an OCSP response, which was begun at `now` and is finished later. If `response` is `Memory`, the body has that fault's line,
-    /// with status code 500. If there is no memory for the exchange itself, the text is the constant one of status code 500, or empty.
+    /// The exchange of an OCSP request whose response was to be signed; it is dated `now`. If `response` is an error, the body has `F1 memory`
+    /// (status code 500). If there is no memory for a buffer, the text is empty; if none for the body, it is the constant text of status code 500.
     pub fn finished(
         alloc: Global,
         route: Route,
@@ -137,7 +135,7 @@ pub struct UnsignedResponse {
     pub draft: Draft,
 }
 
-/// The exchange with the answer to a request at a route, written into `buffer`; or the response that is to be signed.
+/// The exchange of an answer, with its text in `buffer`; for a draft, the response to be signed. For an error, the text is that of `out_of_memory`.
 pub fn begun_exchange(
     route: Route,
     buffer: Vec<u8>,
@@ -160,7 +158,6 @@ pub fn begun_exchange(
     }
 }
 
-/// Writes the text of an answer into an empty `text`, or the constant text if there is no memory for its body. Returns the status code.
 fn put_text(text: &mut Vec<u8>, answer: &Answer, now: Moment) -> u16
     requires empty { text.old.items ≡ [] }
     requires buffer { 512 ≤ vec_capacity text.old }

@@ -1,5 +1,5 @@
-//! Requests for lists, `GET /list/WORD` with a query: `after=KEY`, `limit=N`, `before=MOMENT` (for the list `ending`), and a filter by `subscriber`,
-//! `serial`, `from` and `to`. Only `desk open` answers them; [`serve_one`](crate::serve_one) answers 404.
+//! Requests for lists, `GET /list/WORD` (WORD names the list) with a query: `after=KEY` (the serial number, id or CRL number of the
+//! last row read), `limit=N`, `before=MOMENT` (only for `ending`), and a filter (`subscriber`, `serial`, `from`, `to`). `desk serve` answers 404.
 
 ghost use Rattle.std.specs.Prelude.{◌≡◌, IfOk, OnErr};
 ghost use Rattle.reg_office_api.specs.Calls.{LooksIn};
@@ -17,17 +17,15 @@ use reg_http_head::status;
 use reg_office_api::Office;
 use std::alloc::{AllocError, Global};
 
-/// The meaning of a request for a list.
+/// A request for a list. `OnlyGet`: its method is not GET. `Unreadable`: its word or query can't be read. `Page`: the page that it asks for.
 #[derive(Clone, Copy)]
 pub(crate) enum ListRequest {
-    /// The method is not GET, the only one of the route.
     OnlyGet,
-    /// The word of the list, or its query, can't be read.
     Unreadable,
     Page(PageQuery),
 }
 
-/// Answers a request for a list at a moment. No record changes. [`Memory`] if out of memory.
+/// Answers a request for a page of a list at the moment `now`. No record changes. [`Memory`] if out of memory.
 pub fn answer_list<O: Office>(
     alloc: Global,
     method: &Method,
@@ -42,7 +40,7 @@ pub fn answer_list<O: Office>(
 {
     match read_list(alloc, method, target) {
         Ok(ListRequest::Page(wanted)) => {
-            // `from` is where the page begins (`after=KEY`), `most` how many rows it reads (at most 250); the query's `from=MOMENT` is in the filter.
+            // `from` is where the page begins (`after=KEY`), `most` how many rows it reads (at most 250). The query's `from=MOMENT` is in the filter.
             let given = office.page(alloc, now, wanted.from, wanted.most);
             answer_page(alloc, &wanted, &given)
         }
@@ -91,7 +89,6 @@ fn page_of_parts(path: &[u8], decoded_query: &[u8]) -> ListRequest
     }
 }
 
-/// The answer with the rows of a page that the filter keeps, or with the fault that the office returned.
 fn answer_page(
     alloc: Global,
     wanted: &PageQuery,

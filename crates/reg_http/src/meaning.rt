@@ -1,4 +1,4 @@
-//! Reads a request from its method, its target and its body, before the office is called.
+//! Reads what an HTTP request asks for, from its method, target and body, before the office is called.
 
 ghost use Rattle.std.specs.Prelude.{◌≡◌, ℕ, List, IfOk, Some, codes, option_map, option_and_then};
 ghost use Rattle.reg_core.specs.Number.{number_of};
@@ -21,11 +21,10 @@ use serde_json::{Category, Error, Value};
 use std::alloc::Global;
 use std::str;
 
+/// What an HTTP request asks for: an OCSP request in its body, one that was decoded from its path, or another call.
 #[derive(Drop)]
 pub(crate) enum Meaning {
-    /// An OCSP request in the body.
     OcspByPost,
-    /// An OCSP request that was decoded from the path.
     OcspByGet(Vec<u8>),
     Other(Call),
 }
@@ -35,23 +34,22 @@ pub(crate) enum Meaning {
 pub(crate) enum Call {
     /// The request is refused with this status code.
     Refused(u16),
-    /// The method is not GET, the only one of the route. For `OnlyPost`, the only one is POST.
+    /// The route has only the method GET, and the request another one. `OnlyPost`: the same for POST.
     OnlyGet,
     OnlyPost,
-    /// A number, a serial number or a body can't be read: the answer is 400 with `E22`.
+    /// A CRL's number, a serial number or a JSON body can't be read: the answer is 400 with the line `E22`.
     Unreadable,
-    /// The text of an OCSP request in the path can't be decoded: the answer is an OCSPResponse of status malformedRequest.
+    /// The OCSP request in the path can't be decoded from base64: the answer is an OCSPResponse of status malformedRequest.
     Malformed,
-    /// The CRL with this number, or the latest one.
+    /// The CRL with this number; `None`: the latest one.
     Crl(Option<u64>),
     Status(Serial),
     Counts,
-    /// A request to revoke this serial number. `word` names its ground (such as `key-compromise`); the office checks whether it is a known one.
+    /// A request for revocation. `word` names its ground, such as `key-compromise`; the office checks whether there is such a ground.
     Request { serial: Serial, word: Label },
 }
 
-/// Whether a target begins with a slash, as in origin-form (RFC 9112 3.2.1). Other targets are refused with 400.
-fn is_rooted(target: &str) -> bool
+fn is_origin_form(target: &str) -> bool
     ensures { result ≡ is_rooted_text target.now }
 {
     target.starts_with('/')
@@ -123,7 +121,6 @@ fn request_in(value: &Value) -> Call
     }
 }
 
-/// `Unreadable` for text that is not JSON; [`Memory`] if out of memory.
 fn unreadable(error: &Error) -> Result<Meaning, Memory>
     ensures { IfOk result (λ part. ¬ (IsMemory error.now) × (part ≡ Meaning.Other Call.Unreadable)) }
 {
@@ -161,7 +158,7 @@ fn meaning_at(
     let is_get = method.as_str() == "GET";
     let is_post = method.as_str() == "POST";
     match found.route {
-        // `desk open` answers the first four before it calls this; `desk serve` doesn't have them.
+        // `desk open` answers the first four routes before it calls this. `desk serve` (no control socket) lacks them. `Other`: any other path.
         Route::List | Route::Health | Route::Metrics | Route::Changes | Route::Other => {
             Ok(Meaning::Other(Call::Refused(status::NOT_FOUND)))
         }
@@ -177,7 +174,6 @@ fn meaning_at(
     }
 }
 
-/// Reads a request. [`Memory`] if out of memory.
 pub(crate) fn meaning_of(
     alloc: Global,
     method: &Method,
@@ -187,7 +183,7 @@ pub(crate) fn meaning_of(
     ensures { IfOk result (λ part.
         request_of_meaning body.now part ≡ query_by method.now target.now body.now) }
 {
-    if !is_rooted(target) {
+    if !is_origin_form(target) {
         return Ok(Meaning::Other(Call::Refused(status::BAD_REQUEST)));
     }
     let found = find_route(alloc, path_of(target))?;

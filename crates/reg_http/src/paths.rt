@@ -1,4 +1,5 @@
-//! Finds the route of a path, and its variable part, with a router. [`Route::of`], for dispatch and counts, looks at the start of a path only.
+//! Finds, with a router, the route by which `begin` answers a request, and the path's variable part. The desk dispatches and counts by another one,
+//! [`Route::of`]. There, `/health` (which only `desk open` has) is `Health`, and `/crl/` (no number) is `CrlNumber`; here, both are `Other`.
 
 ghost use Rattle.std.specs.Prelude.{◌≡◌, ◌≤◌, ◌<◌, [], All, length, codes, IfOk, IsTrue, OnOk, unwrap_or};
 ghost use Rattle.matchit.specs.Router.{map_key, rename};
@@ -11,7 +12,7 @@ use matchit::{InsertError, Router};
 use reg_core::Memory;
 use std::alloc::Global;
 
-/// The result of the router: a route, and the variable part of the path.
+/// The route of a path, and the variable part of the path (`rest`), such as the serial number; empty if the route has none.
 #[derive(Clone, Copy)]
 pub(crate) struct Found<'p> {
     pub(crate) route: Route,
@@ -62,7 +63,7 @@ fn route_for_path(alloc: Global, path: &str) -> Result<Route, Memory>
     requires { All (λ byte. byte < 256) path.now }
     ensures { IfOk result (IsRoute path.now) }
 {
-    // Most requests have this path, so no router is built for it.
+    // Most requests have this path (`POST /ocsp`), so no router is built for it.
     if is_ocsp(path) {
         return Ok(Route::Ocsp);
     }
@@ -84,7 +85,6 @@ fn prefix_length(route: Route, path: &[u8]) -> usize
     }
 }
 
-/// The route of a path (RFC 3986 3.3), and the variable part of the path. [`Memory`] if out of memory for the router.
 pub(crate) fn find_route(alloc: Global, path: &str) -> Result<Found<'_>, Memory>
     ensures { IfOk result (λ found. route_seen found ≡ route path.entry.now) }
 {

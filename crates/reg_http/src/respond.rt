@@ -1,4 +1,4 @@
-//! Calls the office, which runs commands and queries on the register, and answers with its result.
+//! Answers an HTTP request by a call of the office (it runs commands and queries on the register). Some answers need no call, as for a wrong method.
 
 ghost use Rattle.std.specs.Prelude.{◌≡◌, ◌≤◌, [], codes, vec_capacity};
 ghost use Rattle.reg_http_head.specs.Response.{shown};
@@ -27,7 +27,8 @@ fn malformed(mut buffer: Vec<u8>) -> Answer
     der(OCSP_RESPONSE, buffer)
 }
 
-/// Makes the call (`Crl(None)`: of the latest CRL). A body but a CRL is written into `buffer`, reserved before: no memory is needed after the call.
+/// Makes the call, if any, and answers. Each body but a CRL goes into the reserved `buffer`, so no memory is needed after the call. `number` is that
+/// of a CRL (`None`: the latest one), `word` the ground (reason) of a request for revocation.
 pub(crate) fn respond<O: Office>(
     alloc: Global,
     buffer: Vec<u8>,

@@ -2,42 +2,38 @@
 
 ghost use Rattle.std.specs.Prelude.{◌≡◌, ◌<◌, IfSome, length};
 ghost use Rattle.std.specs.List.{position};
-ghost use Rattle.reg_http.specs.RoutedRequests.{path_of as path_in};
+ghost use Rattle.reg_http.specs.RoutedRequests.{path_of as target_path};
 ghost use Rattle.reg_http.specs.RouteNames.{ends_path as ends_a_path, prefix_to, is_space, named_path, named_route, route_at as route_of_path};
 
 /// A route. The variable part of its path, such as the serial number, is not kept.
 #[derive(Clone, Copy, PartialEq, Eq)]
 pub enum Route {
     Ocsp,
-    /// `/ocsp/{*rest}`: the request in the path, which may have slashes.
+    /// `/ocsp/{*rest}`: an OCSP request in the path, in base64, which may have slashes.
     OcspRest,
     Crl,
-    /// `/crl/{n}`
     CrlNumber,
-    /// `/status/{serial}`
     Status,
     Counts,
-    /// `/requests`, for requests for revocation.
+    /// `/requests`: requests for revocation.
     Requests,
     /// `/list/{word}`: only `desk open` has this route and the next three.
     List,
     Health,
     Metrics,
     Changes,
-    /// Any other path.
     Other,
 }
 
 impl Route {
-    /// The route of a target (RFC 9112 3.2.1). A route with a variable part is found by the start of the path alone: `/crl/` is [`Route::CrlNumber`]
-    /// here, though it is answered with 404.
+    /// The route of a target (RFC 9112 3.2.1). A variable part is not checked: `/crl/` is [`Route::CrlNumber`], though it is answered with 404.
     pub fn of(target: &str) -> Route
-        ensures { result ≡ route_of_path (path_in target.now) }
+        ensures { result ≡ route_of_path (target_path target.now) }
     {
         route_at(path_of(target).as_bytes())
     }
 
-    /// The route of the path after the first space of some bytes, even if they are no valid head: so refused requests are counted by route too.
+    /// The route of the path after the first space in a request's bytes. A request whose head is refused is counted under this route.
     pub fn named_in(request: &[u8]) -> Route
         ensures { result ≡ named_route request.now }
     {
@@ -45,9 +41,9 @@ impl Route {
     }
 }
 
-/// The path of a target: up to the first `?` (RFC 3986 3.3).
+/// The path of a target: all before the first `?`.
 pub(crate) fn path_of(target: &str) -> &str
-    ensures { result.now ≡ path_in target.now }
+    ensures { result.now ≡ target_path target.now }
 {
     match target.split_once('?') {
         Some((path, _)) => path,

@@ -25,13 +25,8 @@ use reg_ocsp::Draft;
 use reg_office_api::Office;
 use std::alloc::Global;
 
-/// Answers one request, by its method, target and body, with at most one call of the office. The call adds at most one request for
-/// revocation to the records, and the replies to `counts` stay the same.
-///
-/// # Errors
-///
-/// [`Memory`] if out of memory before any call of the office, which stays as it is: the memory to read the request and to
-/// write the answer is allocated first.
+/// Answers one HTTP request at `now`, with at most one call of the office. It adds at most one request for revocation to the records. [`Memory`] if
+/// there is no memory to read the HTTP request, or for the buffer of the answer: the office was not called. The program calls [`begin`] instead.
 pub fn answer<O: Office>(
     alloc: Global,
     method: &Method,
@@ -58,8 +53,7 @@ pub fn answer<O: Office>(
     }
 }
 
-/// As [`answer`], with the same errors, but returns an OCSP response that still needs its signature as a draft, and other answers with the effects
-/// that are logged and counted.
+/// As [`answer`], but an OCSP response that is to be signed is returned as a draft. Any other answer has its effects, which are logged and counted.
 pub fn begin<O: Office>(
     alloc: Global,
     method: &Method,
@@ -92,8 +86,8 @@ pub fn begin<O: Office>(
     }
 }
 
-/// The serial number of a request for revocation, to which `desk open` applies its limits. `None` for any other request, and if the ground has an
-/// unknown word: the register refuses that without any limit. [`Memory`] if out of memory.
+/// The serial number of a request for revocation, by which `desk open` limits such requests. `None` for any other request, and for one with an
+/// unknown ground, which the register refuses anyway. [`Memory`] if out of memory.
 pub fn serial_of(
     alloc: Global,
     method: &Method,
@@ -102,8 +96,8 @@ pub fn serial_of(
 ) -> Result<Option<Serial>, Memory>
     ensures { IfOk result (λ serial. serial ≡ requested_serial (asked method.now target.now body.now)) }
 {
-    let part = meaning_of(alloc, method, target, body)?;
-    match &part {
+    let meaning = meaning_of(alloc, method, target, body)?;
+    match &meaning {
         Meaning::Other(call) => Ok(serial_in(*call)),
         _ => Ok(None),
     }
@@ -121,7 +115,7 @@ fn serial_in(call: Call) -> Option<Serial>
     }
 }
 
-/// The answer to a request that ended in this fault, with the fault's line. [`Memory`] if out of memory.
+/// The answer to a request that ended in this fault, with the line of the fault. [`Memory`] if out of memory.
 pub fn report_fault(alloc: Global, fault: Fault) -> Result<Answered, Memory>
     ensures { IfOk result (λ answered. answer_effects answered ≡ fault_effects fault) }
 {

@@ -1,5 +1,4 @@
-//! Serves one request over any reader and writer, for other users of this crate. The program calls [`begin`](crate::begin) instead, which can leave a
-//! response to be signed.
+//! Serves one request over any reader and writer. `desk` doesn't use this, but [`begin`](crate::begin), which can leave a response to be signed.
 
 ghost use Rattle.std.specs.Prelude.{◌≡◌, ◌≢◌, ◌≤◌, ◌⊎◌, [], ℕ, List, IfErr, OnOk, vec_capacity};
 ghost use Rattle.std.specs.Io.KnownBytes.{Appends};
@@ -23,7 +22,7 @@ use reg_office_api::Office;
 use std::alloc::Global;
 use std::io::{Read, Write};
 
-/// Writes the answer at a moment; `buffer` is for the head of the response.
+/// Writes the answer, dated `now`; `buffer` is for the head of the response.
 fn send<W: Write>(
     writer: &mut W,
     buffer: Vec<u8>,
@@ -115,15 +114,10 @@ fn reply<W: Write, O: Office>(
     }
 }
 
-/// Serves one request: reads it, answers it, and writes the response. Reads and writes may be in pieces of any size. If
-/// there is no memory to answer a valid request, the office does not change, and the constant response of status code 500 is written.
-/// The clause `ends` is about the records that the office keeps, and `calls` about the calls of the office.
-///
-/// # Errors
-///
-/// [`Fault::Read`] if the reader fails or ends within the request, and [`Fault::Memory`] if out of memory for the response's
-/// head (reserved first), to read the request or to refuse it: then nothing was written, and the office did not change. [`Fault::Write`] if the
-/// writer fails or accepts no more bytes: then only a prefix of the response was written, and the office is as it was after the answer.
+/// Reads one request, answers it and writes the response. If there is no memory to answer a valid request, the response is a constant with status
+/// code 500, and the office does not change. [`Fault::Read`]: the reader failed, or ended within the request. [`Fault::Memory`]: there was no memory
+/// to read the request, to refuse an invalid one, or for the response's head. After both faults, nothing was written, and the office did not change.
+/// [`Fault::Write`]: the writer failed or accepted no more bytes. Then a prefix of the response was written, and the office is as after the answer.
 pub fn serve_one<R: Read, W: Write, O: Office>(
     alloc: Global,
     reader: &mut R,

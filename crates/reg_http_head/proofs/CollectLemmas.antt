@@ -10,7 +10,7 @@ use Rattle.reg_http_head.specs.Head.{blank_line, longest_head, RefusesHead, IsHe
 use Rattle.reg_http_head.specs.Frame.{RequestMeaning, refused, asked, AsksFor, Framed, HasHead, IsUnfinished}
 use Rattle.reg_http_head.specs.Bytes.{IsExact}
 use Rattle.reg_http_head.specs.Collected.{HoldsRequest, IsWholeRequest, HasNoHeadEnd, IsRefusedRequest, NeedsBytes, Knows, IsAllKnown}
-use Rattle.reg_http_head.specs.declared.scan_state.HeadIn.{HeadIn}
+use Rattle.reg_http_head.specs.declared.scan_state.HeadState.{HeadState}
 use Rattle.reg_http_head.specs.declared.scan_state.ScanState.{ScanState}
 use Rattle.reg_http_head.specs.declared.scan_state.ScanState.TheVariants.{NoHeadEnd, Refused, Valid}
 use Rattle.reg_http_head.proofs.FrameLemmas.{head_of_more, take_of_more}
@@ -57,7 +57,7 @@ holds_refused bytes count status is =
     record { took = take count bytes; left = drop count bytes; parted = sym (take-append-drop count bytes); framed = is }
 
 -- a head with all of its body is asked
-pub asks_of_needs : (bytes : List ℕ) (it : HeadIn) (needs : NeedsBytes bytes it) → it.needed ≤ length bytes
+pub asks_of_needs : (bytes : List ℕ) (it : HeadState) (needs : NeedsBytes bytes it) → it.needed ≤ length bytes
     → (asks : AsksFor bytes needs.head.method needs.head.target (take it.spans.size (drop it.end bytes))) × (asks.end ≡ it.end)
 asks_of_needs bytes it needs there =
     let long : length (take it.spans.size (drop it.end bytes)) ≡ it.spans.size =
@@ -76,7 +76,7 @@ asks_of_needs bytes it needs there =
       refl,
     )
 
-pub holds_asked : (bytes : List ℕ) (it : HeadIn) (needs : NeedsBytes bytes it) → it.needed ≤ length bytes
+pub holds_asked : (bytes : List ℕ) (it : HeadState) (needs : NeedsBytes bytes it) → it.needed ≤ length bytes
     → HoldsRequest bytes (asked needs.head.method needs.head.target (take it.spans.size (drop it.end bytes)))
 holds_asked bytes it needs there =
     record { took = bytes; left = []; parted = sym (append-nil bytes); framed = (asks_of_needs bytes it needs there).0 }
@@ -84,11 +84,11 @@ holds_asked bytes it needs there =
 pub whole_of_refused : (bytes : List ℕ) (count status : ℕ) → IsRefusedRequest bytes count status → IsWholeRequest bytes
 whole_of_refused bytes count status is = record { part = refused status; holds = holds_refused bytes count status is }
 
-pub whole_of_needs : (bytes : List ℕ) (it : HeadIn) → NeedsBytes bytes it → it.needed ≤ length bytes → IsWholeRequest bytes
+pub whole_of_needs : (bytes : List ℕ) (it : HeadState) → NeedsBytes bytes it → it.needed ≤ length bytes → IsWholeRequest bytes
 whole_of_needs bytes it needs there = record { part = _; holds = holds_asked bytes it needs there }
 
 -- the same by the slices of the bytes
-pub holds_slices : (bytes method target : List ℕ) (it : HeadIn) → method ≡ span_bytes (take it.end bytes) it.spans.method
+pub holds_slices : (bytes method target : List ℕ) (it : HeadState) → method ≡ span_bytes (take it.end bytes) it.spans.method
     → target ≡ span_bytes (take it.end bytes) it.spans.target → it.needed ≤ length bytes → NeedsBytes bytes it
     → HoldsRequest bytes (asked method target (take (it.needed - it.end) (drop it.end bytes)))
 holds_slices bytes method target it method_is target_is there needs =
@@ -107,7 +107,7 @@ at_most n m buffered bounds =
       | inr (inr late) ↦ absurd (not_there buffered (λ fact. let most = bounds fact in absurd (omega (arith, late, most))))
     ]
 
-pub exact_of_needs : (bytes : List ℕ) (it : HeadIn) → NeedsBytes bytes it → it.needed ≡ length bytes → IsExact bytes
+pub exact_of_needs : (bytes : List ℕ) (it : HeadState) → NeedsBytes bytes it → it.needed ≡ length bytes → IsExact bytes
 exact_of_needs bytes it needs all =
     let body : List ℕ = take it.spans.size (drop it.end bytes) in
     let long : length body ≡ it.spans.size =
@@ -122,15 +122,15 @@ exact_of_needs bytes it needs all =
     }
 
 -- no head yet, or a head with less than its body
-pub unfinished_of_unmarked : (bytes : List ℕ) (count : ℕ) → IsAllKnown bytes (NoHeadEnd count) → IsUnfinished bytes
-unfinished_of_unmarked bytes count told =
+pub unfinished_of_no_end : (bytes : List ℕ) (count : ℕ) → IsAllKnown bytes (NoHeadEnd count) → IsUnfinished bytes
+unfinished_of_no_end bytes count told =
     let P : List ℕ → Type 0 = λ b. HasNoDelimiter blank_line b in
     inl (
       omega (arith, told.0, told.1),
       subst P (take_all count bytes (omega (arith, told.0))) (no_delimiter_in_prefix blank_line bytes count told.2),
     )
 
-pub unfinished_of_needs : (bytes : List ℕ) (it : HeadIn) → NeedsBytes bytes it → length bytes < it.needed → IsUnfinished bytes
+pub unfinished_of_needs : (bytes : List ℕ) (it : HeadState) → NeedsBytes bytes it → length bytes < it.needed → IsUnfinished bytes
 unfinished_of_needs bytes it needs short =
     inr (it.end, needs.head, it.spans.size, needs.has_head, needs.stands.reads, needs.stands.size_is, omega (arith, short, needs.needed_is))
 

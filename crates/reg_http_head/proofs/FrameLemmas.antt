@@ -4,7 +4,7 @@ use Rattle.std.proofs.lemmas.List.{append-nil, take-append-le, drop-append-le, t
 use Rattle.httparse.specs.Grammar.{RequestHead}
 use Rattle.reg_io.specs.Fill.{FillsTo, FillsShort}
 use Rattle.reg_io.specs.Delimiter.{HasNoDelimiter}
-use Rattle.reg_io.specs.declared.fill.Reached.TheVariants.{Delimiter, Full, End}
+use Rattle.reg_io.specs.declared.fill.FillEnd.TheVariants.{Delimiter, Full, End}
 use Rattle.reg_io.proofs.PublicLaws.{first_delimiter_of_append, first_delimiter_in_prefix, keeps_what_was_taken}
 use Rattle.reg_http_head.specs.Head.{blank_line, longest_head, IsHead, RefusesHead, body_size}
 use Rattle.reg_http_head.specs.Frame.{refused, AsksFor, HasHead, IsTooLong, IsUnfinished, Framed}

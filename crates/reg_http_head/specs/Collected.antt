@@ -4,7 +4,7 @@ use Rattle.httparse.specs.Grammar.{RequestHead}
 use Rattle.reg_io.specs.Delimiter.{EndsWith}
 use Rattle.reg_http_head.specs.Head.{blank_line, longest_head, IsHeadAt}
 use Rattle.reg_http_head.specs.Frame.{RequestMeaning, refused, Framed, HasHead}
-use Rattle.reg_http_head.specs.declared.scan_state.HeadIn.{HeadIn}
+use Rattle.reg_http_head.specs.declared.scan_state.HeadState.{HeadState}
 use Rattle.reg_http_head.specs.declared.scan_state.ScanState.{ScanState}
 use Rattle.reg_http_head.specs.declared.scan_state.ScanState.TheVariants.{NoHeadEnd, Refused, Valid}
 
@@ -29,7 +29,7 @@ abbrev pub IsRefusedRequest : List ℕ → ℕ → ℕ → Type 0
 IsRefusedRequest bytes count status = Framed (take count bytes) (refused status)
 
 -- the bytes begin with this head, and its body ends at this index
-pub record NeedsBytes (bytes : List ℕ) (it : HeadIn) : Type 0 where
+pub record NeedsBytes (bytes : List ℕ) (it : HeadState) : Type 0 where
   pub head : RequestHead
   pub has_head : HasHead bytes it.end
   pub stands : IsHeadAt (take it.end bytes) it.spans head

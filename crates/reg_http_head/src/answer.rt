@@ -1,5 +1,3 @@
-//! The answer to one request, before it is written. Contracts describe its parts as bytes.
-
 ghost use Rattle.std.specs.Prelude.{◌≤◌, length, option_map};
 ghost use Rattle.reg_http_head.specs.Allow.{allowed};
 
@@ -10,7 +8,7 @@ pub struct Answer {
     pub status: u16,
     /// The media type of the body, at most 64 bytes.
     pub kind: &'static str,
-    /// For a 405, the method that the route has, at most 64 bytes.
+    /// The method that Allow names, if the status code is 405: at most 64 bytes.
     pub allow: Option<&'static str>,
     pub body: Vec<u8>,
     ghost short_kind: { length kind.now ≤ 64 },

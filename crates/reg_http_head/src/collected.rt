@@ -5,12 +5,11 @@ ghost use Rattle.reg_http_head.specs.Collected.{HoldsRequest, Knows, NeedsBytes}
 ghost use Rattle.reg_http_head.specs.Frame.{request_ref_meaning};
 
 use crate::request::RequestRef;
-use crate::scan_state::{HeadIn, ScanState, scan_all};
+use crate::scan_state::{HeadState, ScanState, scan_all};
 use reg_core::Fault;
 use std::alloc::{AllocError, Global};
 
-/// The bytes that came on a connection. In however many pieces they come, [`Collected::is_whole`] tests only once for each byte whether the head
-/// ends there, and reads the head only once.
+/// The bytes that came on a connection, in pieces. `known` is what [`Collected::is_whole`] found so far.
 #[derive(Drop)]
 pub struct Collected {
     bytes: Vec<u8>,
@@ -33,14 +32,13 @@ impl Collected {
         }
     }
 
-    /// All bytes that were added.
     pub fn as_slice(&self) -> &[u8]
         ensures { result.now ≡ collected_bytes self.now }
     {
         self.bytes.as_slice()
     }
 
-    /// Appends bytes. [`AllocError`] if out of memory: then none was appended.
+    /// Appends bytes. [`AllocError`] if out of memory; none is then appended.
     pub fn add(&mut self, more: &[u8]) -> Result<(), AllocError>
         ensures ok { OnOk result (collected_bytes self.new ≡ collected_bytes self.old ++ more.now) }
         ensures err { OnErr result (collected_bytes self.new ≡ collected_bytes self.old) }
@@ -51,7 +49,7 @@ impl Collected {
         self.bytes.extend_from_slice(more)
     }
 
-    /// Whether the bytes begin with a whole request (RFC 9112 2.1): one with all of its body, or one whose head is refused.
+    /// Whether the bytes begin with a whole request (RFC 9112 2.1): a head and all of its body (`needed` bytes in all), or a head that is refused.
     pub fn is_whole(&mut self) -> bool
         ensures same { collected_bytes self.new ≡ collected_bytes self.old }
         ensures whole { result ≡ true → ∥ IsWholeRequest (collected_bytes self.old) ∥₁ }
@@ -65,7 +63,7 @@ impl Collected {
         }
     }
 
-    /// Whether [`Collected::is_whole`] found that the bytes are one whole request that is not refused, with nothing after it.
+    /// Whether the bytes are one whole request that is not refused, and nothing more. `false` also before [`Collected::is_whole`] has read the head.
     pub fn is_exact(&self) -> bool
         ensures { result ≡ true → ∥ IsExact (collected_bytes self.now) ∥₁ }
     {
@@ -75,8 +73,7 @@ impl Collected {
         }
     }
 
-    /// The request with which the bytes begin, its target and body as slices of them. [`Fault::Read`] if they don't begin with a whole request,
-    /// [`Fault::Memory`] if out of memory.
+    /// The request at the start of the bytes, with slices of them. [`Fault::Read`] if it isn't whole, [`Fault::Memory`] if out of memory.
     pub fn request(&self, alloc: Global) -> Result<RequestRef<'_>, Fault>
         ensures ok { IfOk result (λ request.
             ∥ HoldsRequest (collected_bytes self.now) (request_ref_meaning request) ∥₁) }
@@ -93,7 +90,8 @@ impl Collected {
     }
 }
 
-fn request_at(alloc: Global, bytes: &[u8], head: HeadIn) -> Result<RequestRef<'_>, Fault>
+/// The request at the start of the bytes. `head` has the positions of its method and target, and where its head and body end.
+fn request_at(alloc: Global, bytes: &[u8], head: HeadState) -> Result<RequestRef<'_>, Fault>
     requires head { ∥ NeedsBytes bytes.now head ∥₁ }
     requires ordered { head.end ≤ head.needed }
     requires whole { head.needed ≤ length bytes.now }

@@ -1,4 +1,4 @@
-//! Finds the length of the body from the fields of a head.
+//! Finds the length of a request's body from the fields of its head.
 
 ghost use Rattle.std.specs.Prelude.{◌≡◌, ◌++◌, ◌∷◌, [], ℕ, List, codes, length, map, All};
 ghost use Rattle.httparse.specs.Spans.{header_bytes, IsHeaderWithin};
@@ -8,10 +8,10 @@ use crate::status;
 use httparse::spans::{HeaderSpan, Span};
 use reg_core::read_number;
 
-/// The most bytes of a body.
+/// The most bytes of a body: as many as an OCSP request may have. The other routes need fewer.
 const LONGEST_BODY: u64 = 65_536;
 
-/// The values of the fields of one name: none, one (its place in the head), or more.
+/// The values of all fields of one name: none, one (its position in the head), or several.
 #[derive(Clone, Copy)]
 pub(crate) enum Values {
     Absent,
@@ -19,24 +19,23 @@ pub(crate) enum Values {
     Several,
 }
 
-/// The values after this field: `values` (those before it), with its own if it has this name.
-fn with_field(head: &[u8], field: &HeaderSpan, name: &[u8], values: Values) -> Values
+/// Adds this field's value, if the field has this `name`, to `earlier`: the values of the fields before it. Ignores letter case (RFC 9110 5.1).
+fn with_field(head: &[u8], field: &HeaderSpan, name: &[u8], earlier: Values) -> Values
     requires { IsHeaderWithin (length head.now) field.now }
-    ensures { (before : List (List ℕ)) → HasFieldValues head.now before values
+    ensures { (before : List (List ℕ)) → HasFieldValues head.now before earlier
         → HasFieldValues head.now (before ++ values_of name.now (header_bytes head.now field.now ∷ []))
         result }
 {
     if !field.name.of(head).eq_ignore_ascii_case(name) {
-        return values;
+        return earlier;
     }
-    match values {
+    match earlier {
         Values::Absent => Values::One(field.value),
         Values::One(_) => Values::Several,
         Values::Several => Values::Several,
     }
 }
 
-/// The values of the fields with this name, which is compared without regard to case (RFC 9110 5.1).
 fn values_of(head: &[u8], fields: &[HeaderSpan], name: &[u8]) -> Values
     requires { All (IsHeaderWithin (length head.now)) fields.now }
     ensures { HasFieldValues head.now (values_of name.now (map (header_bytes head.now) fields.now)) result }
@@ -48,7 +47,7 @@ fn values_of(head: &[u8], fields: &[HeaderSpan], name: &[u8]) -> Values
     values
 }
 
-/// The length in bytes of the body of a POST, by its fields (RFC 9112 6.3), or the status code that refuses it. No transfer coding is read (411).
+/// The length in bytes of a POST's body (RFC 9112 6.3), or the status code that refuses it: 411 also for any transfer coding (`chunked`).
 pub(crate) fn post_size(head: &[u8], fields: &[HeaderSpan]) -> Result<u64, u16>
     requires { All (IsHeaderWithin (length head.now)) fields.now }
     ensures { result ≡ size_by

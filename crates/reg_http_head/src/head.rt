@@ -15,12 +15,11 @@ use std::str;
 
 const MOST_FIELDS: usize = 64;
 
-/// A head that was read: the positions of its parts in its bytes, and the length of the body.
+/// A head that was read: the positions of its parts in it, and the length in bytes of its body (at most 65,536; 0 if the method is not POST).
 #[derive(Clone, Copy)]
 pub(crate) struct HeadSpans {
     pub(crate) method: Span,
     pub(crate) target: Span,
-    /// The length in bytes of the body that follows: at most 65,536, and 0 if the method is not POST.
     pub(crate) size: u64,
 }
 
@@ -45,8 +44,8 @@ impl HeadSpans {
     }
 }
 
-/// Reads a whole head, with its empty line. The error is the status code that refuses the head: 431 for more than 64 fields; 400 for bytes that are
-/// no head (if both apply, one of the two); 411, 400 or 413 for a POST whose length [`post_size`] refuses.
+/// Reads a whole head, with its empty line. The error is the status code that refuses the head: 431 for more than 64 fields, or 400 for bytes that
+/// are no head (if both apply, one of the two); or the error of [`post_size`].
 pub(crate) fn read_head(head: &[u8]) -> Result<HeadSpans, u16>
     ensures ok { IfOk result (HoldsHead head.now) }
     ensures small { IfOk result (λ spans. spans.size ≤ longest_body) }
@@ -62,9 +61,8 @@ pub(crate) fn read_head(head: &[u8]) -> Result<HeadSpans, u16>
                 size,
             })
         }
-        // The parser found a head that ends before the CR LF CR LF: at an empty line with LF alone.
+        // `Complete`: the parser takes a lone LF as a line end, so it found an earlier end. `Partial`: the head has only empty lines, which it skips.
         Ok(Status::Complete(_)) => Err(status::BAD_REQUEST),
-        // The parser found no request line, as it skips empty lines.
         Ok(Status::Partial) => Err(status::BAD_REQUEST),
         Err(Error::TooManyHeaders) => Err(status::HEADERS_TOO_LARGE),
         Err(_) => Err(status::BAD_REQUEST),

@@ -2,7 +2,7 @@
 
 ghost use Rattle.reg_http_head.specs.Laws.{ArePhrases, IsOneRequest, IsOneText};
 
-/// The phrases of the desk's status codes are those of the crate `http`; for 429 this is not stated.
+/// The reason phrases of the desk's status codes (RFC 9112 4) are those of the crate `http`. The law leaves out 429, for which it would hold, too.
 pub fn phrases()
     ensures { ArePhrases }
 {}
@@ -12,7 +12,7 @@ pub fn one_request()
     ensures { IsOneRequest }
 {}
 
-/// A response has at most one text at a moment.
+/// At a moment, a response has at most one text (its head and body).
 pub fn one_text()
     ensures { IsOneText }
 {}

@@ -1,4 +1,4 @@
-//! Reads one request from any reader.
+//! A request, and how one is read from any reader.
 
 ghost use Rattle.std.specs.Prelude.{◌≡◌, ◌+◌, ◌<◌, ◌≤◌, ◌++◌, ◌⊎◌, ℕ, List, length, take, IfOk, IfErr, OnOk, OnErr};
 ghost use Rattle.std.specs.Io.KnownBytes.{Consumes};
@@ -10,29 +10,26 @@ use crate::head::{HeadSpans, read_head};
 use crate::status;
 use http::Method;
 use reg_core::Fault;
-use reg_io::{Reached, ReadFault, fill_exact, fill_to_delimiter};
+use reg_io::{FillEnd, ReadFault, fill_exact, fill_to_delimiter};
 use std::alloc::Global;
 use std::io::Read;
 
 pub(crate) const LONGEST_HEAD: usize = 8_192;
 
-/// The end of the last line of a head, and the empty line after it.
-pub(crate) const BLANK_LINE: &[u8] = b"\r\n\r\n";
+pub(crate) const HEAD_END: &[u8] = b"\r\n\r\n";
 
+/// A request, or the status code that refuses its head. `target` is as in the request line; `body` is empty if the method isn't POST.
 #[derive(Drop)]
 pub enum Request {
-    /// The head is refused with this status code, whatever its route.
     Refused(u16),
     Valid {
         method: Method,
-        /// The target, as it stands in the request line (RFC 9112 3.2).
         target: String,
-        /// The body; empty if the method is not POST.
         body: Vec<u8>,
     },
 }
 
-/// A request that was collected: the same as [`Request`], with its target and body as slices of the collected bytes.
+/// As [`Request`], with the target and the body as slices of the bytes of a [`crate::Collected`].
 #[derive(Drop)]
 pub enum RequestRef<'b> {
     Refused(u16),
@@ -43,39 +40,40 @@ pub enum RequestRef<'b> {
     },
 }
 
-/// Reads one request (RFC 9112 2.1): its head, up to the first CR LF CR LF, and the body of a POST. It reads at most a head of 8,192 bytes and
-/// a body of 65,536. [`Fault::Read`] if the reader fails, or ends within the request; [`Fault::Memory`] if out of memory.
+/// Reads one request (RFC 9112 2.1): its head (at most 8,192 bytes), up to the first CR LF CR LF, and the body of a POST (at most 65,536 bytes).
+/// [`Fault::Read`] if the reader fails, or ends within the request; [`Fault::Memory`] if out of memory.
 pub fn read_request<R: Read>(alloc: Global, reader: &mut R) -> Result<Request, Fault>
     ensures ok { IfOk result (λ request. TakesAtMost (R.remaining reader.old) (R.remaining reader.new)
         (longest_head + longest_body) (λ took. Framed took (request_meaning request))) }
     ensures err { IfErr result (λ fault. TakesAtMost (R.remaining reader.old) (R.remaining reader.new)
         (longest_head + longest_body) (IsCutBy fault)) }
 {
-    let mut room = vec![in alloc; 0u8; LONGEST_HEAD].map_err(|_| Fault::Memory)?;
-    read_within(alloc, reader, &mut room)
+    let mut buffer = vec![in alloc; 0u8; LONGEST_HEAD].map_err(|_| Fault::Memory)?;
+    read_within(alloc, reader, &mut buffer)
 }
 
-fn read_within<R: Read>(alloc: Global, reader: &mut R, room: &mut [u8]) -> Result<Request, Fault>
-    requires { length room.old ≡ longest_head }
+/// As [`read_request`], with a `buffer` for the head. It has no bytes of the head yet: hence the 0 in the call of `fill_to_delimiter`.
+fn read_within<R: Read>(alloc: Global, reader: &mut R, buffer: &mut [u8]) -> Result<Request, Fault>
+    requires { length buffer.old ≡ longest_head }
     ensures ok { IfOk result (λ request. TakesAtMost (R.remaining reader.old) (R.remaining reader.new)
         (longest_head + longest_body) (λ took. Framed took (request_meaning request))) }
     ensures err { IfErr result (λ fault. TakesAtMost (R.remaining reader.old) (R.remaining reader.new)
         (longest_head + longest_body) (IsCutBy fault)) }
 {
-    match fill_to_delimiter(reader, room, 0, BLANK_LINE) {
-        Ok(Reached::Delimiter { end, buffered }) => read_rest(
+    match fill_to_delimiter(reader, buffer, 0, HEAD_END) {
+        Ok(FillEnd::Delimiter { end, buffered }) => read_rest(
             alloc,
             reader,
-            &room[..buffered],
+            &buffer[..buffered],
             end,
         ),
-        Ok(Reached::Full) => Ok(Request::Refused(status::HEADERS_TOO_LARGE)),
-        Ok(Reached::End { .. }) => Err(Fault::Read),
+        Ok(FillEnd::Full) => Ok(Request::Refused(status::HEADERS_TOO_LARGE)),
+        Ok(FillEnd::End { .. }) => Err(Fault::Read),
         Err(_) => Err(Fault::Read),
     }
 }
 
-/// Reads the rest of a request. `buffered` has the bytes that were read, of which the head ends at the index `end`.
+/// Reads the rest of a request. `buffered` has the bytes that were read; the head ends in them at the index `end`.
 fn read_rest<R: Read>(
     alloc: Global,
     reader: &mut R,
@@ -98,7 +96,7 @@ fn read_rest<R: Read>(
     }
 }
 
-/// A body of `size` bytes: first those that were read after the head (`buffered`), then those of the reader.
+/// Reads a body of `size` bytes. `buffered` has its first bytes, which were read together with the head. The others come from the reader.
 fn read_body<R: Read>(
     alloc: Global,
     reader: &mut R,
@@ -128,9 +126,9 @@ fn fill_body<R: Read>(reader: &mut R, body: &mut [u8], buffered: &[u8]) -> Resul
         × Consumes (R.remaining reader.old) (R.remaining reader.new) took
         × (length buffered.now + length took < length body.old)) }
 {
-    let kept = buffered.len().min(body.len());
-    body[..kept].copy_from_slice(&buffered[..kept]);
-    fill_exact(reader, body, kept)
+    let copied = buffered.len().min(body.len());
+    body[..copied].copy_from_slice(&buffered[..copied]);
+    fill_exact(reader, body, copied)
 }
 
 fn owned(alloc: Global, head: &[u8], spans: HeadSpans, body: Vec<u8>) -> Result<Request, Fault>

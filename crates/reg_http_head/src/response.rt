@@ -70,7 +70,6 @@ fn put_status_line(out: &mut Vec<u8>, code: u16)
     put_line(out, b" ", phrase(code));
 }
 
-/// Appends Allow with the method that a 405 allows, if there is one (RFC 9110 10.2.1).
 #[tactic(auto, unfolding(crate::specs::Response::allow_line))]
 fn put_allow(out: &mut Vec<u8>, allow: Option<&'static str>)
     requires short { length (allowed (option_map (λ method. method.now) allow)) ≤ 64 }
@@ -85,7 +84,6 @@ fn put_allow(out: &mut Vec<u8>, allow: Option<&'static str>)
     }
 }
 
-/// Appends Retry-After, which asks the client to wait 60 seconds, if the status code is 429 (RFC 9110 10.2.3).
 #[tactic(auto, unfolding(crate::specs::Response::retry_line))]
 fn put_retry(out: &mut Vec<u8>, code: u16)
     requires { length out.old.items + 32 ≤ vec_capacity out.old }
@@ -117,14 +115,14 @@ fn put_head(out: &mut Vec<u8>, answer: &Answer, date: &[u8])
     put_line(out, b"", b"");
 }
 
-/// The date of a moment as IMF-fixdate (RFC 9110 5.6.7). Each moment has one, because it is before the year 10000.
+/// The moment as IMF-fixdate (RFC 9110 5.6.7). Each moment has one, because it is before the year 10000.
 fn date_of(now: Moment) -> [u8; 29]
     ensures { IsDateOf now result }
 {
     HttpDate::from_unix_secs(now.secs()).unwrap().to_bytes()
 }
 
-/// Writes the response at a moment into an empty `text`. [`AllocError`] if out of memory for the body: then `text` has only the head.
+/// Writes the response, with Date `now`, into an empty `text`. [`AllocError`] if out of memory for the body: then `text` has only the head.
 pub fn put_answer(text: &mut Vec<u8>, answer: &Answer, now: Moment) -> Result<(), AllocError>
     requires empty { text.old.items ≡ [] }
     requires room { RESPONSE_HEAD_ROOM ≤ vec_capacity text.old }
@@ -138,7 +136,7 @@ pub fn put_answer(text: &mut Vec<u8>, answer: &Answer, now: Moment) -> Result<()
     }
 }
 
-/// The constant response of a desk that is out of memory: status code 500, without a Date or a body.
+/// The constant response when out of memory: status code 500, without a Date or a body.
 #[tactic(auto, unfolding(crate::specs::Response::memory_text, crate::specs::Response::field_line))]
 pub fn memory_fault() -> &'static [u8]
     ensures text { result.now ≡ memory_text }
@@ -147,7 +145,7 @@ pub fn memory_fault() -> &'static [u8]
     b"HTTP/1.1 500 Internal Server Error\r\nConnection: close\r\nContent-Length: 0\r\n\r\n"
 }
 
-/// Writes the response at a moment: its head, made in `room`, and the body. [`WriteFault`] if the writer fails or accepts no more bytes.
+/// Writes the response, with Date `now`. `room` is an empty buffer for its head. [`WriteFault`] if the writer fails or accepts no more bytes.
 pub fn write_answer<W: Write>(
     writer: &mut W,
     mut room: Vec<u8>,

@@ -2,8 +2,8 @@
 use Rattle.std.specs.Prelude.{◌≡◌, ℕ, ◌+◌, ◌<◌, ◌≤◌, ◌++◌, List, length, take, drop}
 use Rattle.std.specs.declared.option.Option.{Option}
 use Rattle.std.specs.Io.KnownBytes.{Consumes, IsAtEnd}
-use Rattle.reg_io.specs.declared.fill.Reached.{Reached}
-use Rattle.reg_io.specs.declared.fill.Reached.TheVariants.{Delimiter, Full, End}
+use Rattle.reg_io.specs.declared.fill.FillEnd.{FillEnd}
+use Rattle.reg_io.specs.declared.fill.FillEnd.TheVariants.{Delimiter, Full, End}
 use Rattle.reg_io.specs.Delimiter.{FirstDelimiter, HasNoDelimiter}
 
 -- these bytes were taken from the reader, and the buffer has them after its first `buffered` bytes, which stayed the same
@@ -14,14 +14,14 @@ pub record Fills (input left : Option (List ℕ)) (before after : List ℕ) (buf
   pub stands : take (buffered + length took) after ≡ take buffered before ++ took
 
 -- how many bytes a buffer of this size has after a read up to a delimiter
-abbrev pub buffered_after : ℕ → Reached → ℕ
+abbrev pub buffered_after : ℕ → FillEnd → ℕ
 buffered_after size (Delimiter end buffered) = buffered
 buffered_after size Full = size
 buffered_after size (End buffered) = buffered
 
 -- a read stopped: the buffer has a delimiter, the first of which ends at `end`; or is full without a delimiter; or the reader is at its end,
 -- and the buffer is neither full nor has a delimiter
-abbrev pub ReadStopsAt : List ℕ → List ℕ → Option (List ℕ) → Reached → Type 0
+abbrev pub ReadStopsAt : List ℕ → List ℕ → Option (List ℕ) → FillEnd → Type 0
 ReadStopsAt delimiter buffer left (Delimiter end buffered) =
     (end ≤ buffered) × FirstDelimiter delimiter buffer end
 ReadStopsAt delimiter buffer left Full = HasNoDelimiter delimiter buffer
@@ -30,7 +30,7 @@ ReadStopsAt delimiter buffer left (End buffered) =
 
 -- a read up to a delimiter: the bytes `took` were taken from the reader, and the buffer has its first `buffered` bytes, then these, and no others
 pub record FillsTo (delimiter : List ℕ) (input left : Option (List ℕ)) (before after : List ℕ) (buffered : ℕ)
-    (reached : Reached) : Type 0 where
+    (reached : FillEnd) : Type 0 where
   pub took : List ℕ
   pub fills : Fills input left before after buffered took
   pub count : buffered_after (length after) reached ≡ buffered + length took
@@ -50,7 +50,7 @@ pub record FillsShort (delimiter : List ℕ) (input left : Option (List ℕ)) (b
 abbrev pub KeepsWhatWasTaken : Type 0
 KeepsWhatWasTaken =
     (delimiter : List ℕ) (input left : Option (List ℕ)) (before after : List ℕ) (buffered : ℕ)
-    (reached : Reached)
+    (reached : FillEnd)
     → (to : FillsTo delimiter input left before after buffered reached)
     → take (buffered_after (length after) reached) after ≡ take buffered before ++ to.took
 

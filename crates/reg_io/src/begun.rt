@@ -1,4 +1,4 @@
-/// A result that is ready, or an unsigned part of a result that must be signed first.
+/// A result that is ready, or the data for a result that must be signed first.
 #[derive(Drop)]
 pub enum ReadyOrUnsigned<R, U> {
     Ready(R),

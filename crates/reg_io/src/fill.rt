@@ -1,5 +1,3 @@
-//! Reads into a buffer: up to a delimiter, to the end of the buffer, or to the end of the reader.
-
 ghost use Rattle.std.specs.Prelude.{◌≡◌, ℕ, ◌+◌, ◌<◌, ◌≤◌, ◌++◌, List, length, take, IfOk, MatchOption, OnErr, OnOk};
 ghost use Rattle.std.specs.Io.KnownBytes.{Consumes, IsAtEnd};
 ghost use Rattle.reg_io.specs.Delimiter.{EndsWith, FirstDelimiter};
@@ -8,27 +6,26 @@ ghost use Rattle.reg_io.specs.Fill.{Fills, FillsShort, FillsTo};
 use crate::streams::Source;
 use std::io::Read;
 
-/// The reader failed, it ended before the buffer was full ([`fill_exact`]), or its bytes filled the buffer ([`fill_to_end`]).
+/// A read fails if the reader failed (even with `Interrupted`), ended before the buffer was full ([`fill_exact`]), or filled it ([`fill_to_end`]).
 #[derive(Clone, Copy, PartialEq, Eq)]
 pub struct ReadFault;
 
-/// Why a read up to a delimiter stopped: the buffer has a delimiter, and `end` is the index after the first one; the buffer is full and has none; or
-/// the reader ended before either. `buffered` is how many bytes the buffer has then.
+/// Why a read up to a delimiter stopped: the buffer has a delimiter (`end` is the index after the first one), it is full without one, or the reader
+/// ended before either. `buffered` is the number of bytes in the buffer then.
 #[derive(Clone, Copy, PartialEq, Eq)]
-pub enum Reached {
+pub enum FillEnd {
     Delimiter { end: usize, buffered: usize },
     Full,
     End { buffered: usize },
 }
 
 /// Reads into `buf` after its first `buffered` bytes, until the buffered bytes contain the delimiter or fill the buffer, or the reader is at its end.
-/// [`ReadFault`] at the first read that fails, even with `Interrupted`.
 pub fn fill_to_delimiter<R: Source>(
     reader: &mut R,
     buf: &mut [u8],
     buffered: usize,
     delimiter: &[u8],
-) -> Result<Reached, ReadFault>
+) -> Result<FillEnd, ReadFault>
     requires buffered_fits { buffered ≤ length buf.old }
     requires delimiter_not_empty { 0 < length delimiter.now }
     ensures ok { IfOk result (FillsTo delimiter.now
@@ -37,7 +34,6 @@ pub fn fill_to_delimiter<R: Source>(
         (R.remaining reader.old) (R.remaining reader.new) buf.old buf.new buffered) }
     ensures fails { OnErr result R.failed }
 
-    // If the buffer has a delimiter already, or is full, nothing is read.
     ensures has_delimiter { (end : ℕ) → end ≤ buffered → EndsWith (take end buf.old) delimiter.now
         → (reader.new ≡ reader.old) × (buf.new ≡ buf.old) }
     ensures is_full { buffered ≡ length buf.old → (reader.new ≡ reader.old) × (buf.new ≡ buf.old) }
@@ -47,25 +43,24 @@ pub fn fill_to_delimiter<R: Source>(
     // The proof finds the loop by this label.
     'reading: loop {
         if let Some(end) = first_delimiter(buf, filled, delimiter, searched) {
-            return Ok(Reached::Delimiter {
+            return Ok(FillEnd::Delimiter {
                 end,
                 buffered: filled,
             });
         }
         if filled == buf.len() {
-            return Ok(Reached::Full);
+            return Ok(FillEnd::Full);
         }
         searched = filled;
         match reader.read_once(&mut buf[filled..]) {
-            Ok(0) => return Ok(Reached::End { buffered: filled }),
+            Ok(0) => return Ok(FillEnd::End { buffered: filled }),
             Ok(count) => filled += count,
             Err(_) => return Err(ReadFault),
         }
     }
 }
 
-/// The index after the first delimiter in the first `buffered` bytes; `None` if they have none. The caller knows that no delimiter ends within
-/// the first `searched` bytes.
+/// The index after the first delimiter in the first `buffered` bytes, if any. Precondition: none ends within the first `searched` bytes.
 pub fn first_delimiter(
     buf: &[u8],
     buffered: usize,
@@ -86,8 +81,7 @@ pub fn first_delimiter(
     None
 }
 
-/// Reads into `buf` after its first `buffered` bytes, until the buffer is full. [`ReadFault`] at the first read that fails, even with
-/// `Interrupted`, and if the reader ends before that.
+/// Reads into `buf` after its first `buffered` bytes, until `buf` is full.
 pub fn fill_exact<R: Read>(reader: &mut R, buf: &mut [u8], buffered: usize) -> Result<(), ReadFault>
     requires { buffered ≤ length buf.old }
     ensures ok { OnOk result ((took : List ℕ)
@@ -108,8 +102,7 @@ pub fn fill_exact<R: Read>(reader: &mut R, buf: &mut [u8], buffered: usize) -> R
     Ok(())
 }
 
-/// Reads into `buf` from its beginning until the reader is at its end, and returns how many bytes came. [`ReadFault`] at the first read that
-/// fails, even with `Interrupted`, and if the bytes fill the buffer, even exactly: then the reader's end was not seen.
+/// Reads up to the reader's end into `buf`, and returns how many bytes came. [`ReadFault`] also if they fill the buffer, since more may follow.
 pub fn fill_to_end<R: Read>(reader: &mut R, buf: &mut [u8]) -> Result<usize, ReadFault>
     ensures came { IfOk result (λ count.
         Consumes (R.remaining reader.old) (R.remaining reader.new) (take count buf.new)) }

@@ -5,8 +5,8 @@ ghost use Rattle.reg_io.specs.Delimiter.{OneFirstDelimiter, FirstDelimiterOfAppe
 ghost use Rattle.reg_io.specs.Put.{PrefixOfFirst, PrefixOfSecond};
 ghost use Rattle.reg_io.specs.RunsOfAnswers.{RunsGoOn, RunsStepOn};
 
-/// Bytes have at most one first delimiter. It is also the first in longer bytes that begin with these, and in each prefix that contains it. If no
-/// prefix of some bytes ends with the delimiter, they don't contain it.
+/// Bytes have at most one first delimiter. It is also the first in longer bytes that begin with these, and in each prefix that contains it. Bytes of
+/// which no prefix ends with the delimiter don't contain it.
 pub fn one_first_delimiter()
     ensures one { OneFirstDelimiter }
     ensures longer { FirstDelimiterOfAppend }
@@ -14,19 +14,19 @@ pub fn one_first_delimiter()
     ensures none { NoDelimiterInPrefix }
 {}
 
-/// The first delimiter of one byte is the first such byte, and bytes without such a delimiter don't contain the byte.
+/// The first delimiter of one byte is the first such byte; bytes without such a delimiter don't contain the byte.
 pub fn delimiters_of_one_byte()
     ensures first { FirstDelimiterOfByte }
     ensures none { NoDelimiterOfByte }
 {}
 
-/// After a read up to a delimiter, the buffer has the bytes that it had before and those that were taken, and no others.
+/// After a read up to a delimiter, the buffer has exactly the bytes that it had before and those that were read.
 pub fn kept_is_what_was_taken()
     ensures all { KeepsWhatWasTaken }
     ensures parts { SplitsAtDelimiter }
 {}
 
-/// Appending a proper prefix of the first of two parts, or that part and a proper prefix of the second, appends a proper prefix of both together.
+/// If a proper prefix of `first` was appended, or `first` and a proper prefix of `second`, the appended bytes are a proper prefix of both together.
 pub fn prefixes_of_two_parts()
     ensures first { PrefixOfFirst }
     ensures second { PrefixOfSecond }

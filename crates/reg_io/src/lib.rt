@@ -8,6 +8,6 @@ mod put;
 mod streams;
 
 pub use begun::ReadyOrUnsigned;
-pub use fill::{Reached, ReadFault, fill_exact, fill_to_delimiter, fill_to_end, first_delimiter};
+pub use fill::{FillEnd, ReadFault, fill_exact, fill_to_delimiter, fill_to_end, first_delimiter};
 pub use put::{WriteFault, write_whole};
 pub use streams::{Sink, Source};

@@ -1,5 +1,3 @@
-//! Writes a whole slice.
-
 ghost use Rattle.std.specs.Prelude.{OnErr, OnOk};
 ghost use Rattle.std.specs.Io.KnownBytes.{Appends};
 ghost use Rattle.reg_io.specs.Put.{AppendsPrefix};
@@ -10,8 +8,8 @@ use crate::streams::Sink;
 #[derive(Clone, Copy, PartialEq, Eq)]
 pub struct WriteFault;
 
-/// Writes all of the bytes, in as many writes as the writer needs. [`WriteFault`] at the first write that fails, even with `Interrupted`, or that
-/// takes 0 bytes: then the bytes that earlier writes took are written, and no others.
+/// Writes all of the bytes, in as many writes as the writer needs. [`WriteFault`] at the first write that fails, even if only a signal interrupted
+/// it, or that takes 0 bytes: then the bytes that earlier writes took are written, and no others.
 pub fn write_whole<W: Sink>(writer: &mut W, bytes: &[u8]) -> Result<(), WriteFault>
     ensures ok { OnOk result (Appends (W.contents writer.old) (W.contents writer.new) bytes.now) }
     ensures err { OnErr result

@@ -1,10 +1,8 @@
-//! Readers and writers whose failures a contract can name.
-
 use crate::fill::ReadFault;
 use crate::put::WriteFault;
 use std::io::{Read, Write};
 
-/// A reader. In a contract over any `R: Source`, `R.failed` means that a read failed: only `read_once` gives it. [`Read`] can't say so.
+/// A reader whose failure a contract can state: `R.failed`, for any `R: Source`. `read_once` ensures this if it fails; no other call does.
 pub trait Source: Read {
     ghost use Rattle.std.specs.Prelude.{OnErr};
     ghost use Rattle.std.specs.Io.{ReadsAtMost};
@@ -20,7 +18,7 @@ pub trait Source: Read {
 }
 
 impl<R: Read> Source for R {
-    // Here `failed` is always true, since no clause can state what a call did outside the program.
+    // Here `failed` always holds, so it tells nothing: no clause can state what a call did outside the program.
     ghost failed = { Unit {0} };
 
     fn read_once(&mut self, buf: &mut [u8]) -> Result<usize, ReadFault> {
@@ -31,13 +29,12 @@ impl<R: Read> Source for R {
     }
 }
 
-/// A writer. In a contract over any `W: Sink`, `W.failed` means that a write failed, or took 0 bytes: only `write_once` gives it.
+/// A writer whose failure a contract can state: `W.failed`, for any `W: Sink`. `write_once` ensures this if it fails or takes 0 of some bytes.
 pub trait Sink: Write {
     ghost use Rattle.std.specs.Prelude.{◌≡◌, ◌<◌, length, IfOk, OnErr};
     ghost use Rattle.std.specs.Io.{WritesAtMost};
     ghost use Rattle.std.specs.Io.KnownBytes.{WriteAppends};
 
-    /// A write failed, or took 0 bytes of a slice that is not empty.
     ghost failed: { Type 0 };
 
     /// Writes once, as [`Write::write`], and returns how many bytes were written. [`WriteFault`] if the write fails, even with `Interrupted`.
@@ -49,7 +46,6 @@ pub trait Sink: Write {
 }
 
 impl<W: Write> Sink for W {
-    // As for `Source`.
     ghost failed = { Unit {0} };
 
     fn write_once(&mut self, bytes: &[u8]) -> Result<usize, WriteFault> {

@@ -7,9 +7,9 @@ pub mod Pieces
 pub mod PublicLaws
 pub mod Readings
 pub mod RowLemmas
-pub mod RowsTold
+pub mod RowLineTexts
 pub mod ScriptLemmas
 pub mod ScriptsAndImports
 pub mod StepLemmas
 pub mod Twice
-pub mod Unasked
+pub mod CallsNotMade

@@ -21,7 +21,7 @@ use Rattle.reg_lines.specs.Accepted.{IsAccepted}
 use Rattle.reg_lines.specs.ByCalls.{Call}
 use Rattle.reg_lines.specs.Import.{AreCsvRows, EndsBy, Row, RowReplies, RowsEnd, TextRead, TookRow, data_rows, is_header}
 use Rattle.reg_lines.specs.LineReading.{four, four_at}
-use Rattle.reg_lines.specs.Strict.{StrictRan, ended_part}
+use Rattle.reg_lines.specs.Strict.{StrictRan, whole_lines}
 use Rattle.reg_lines.specs.declared.answered.Continuation.TheVariants as passed
 
 -- ---- the fields of a row
@@ -225,5 +225,5 @@ ends_unread remaining input_failed s reader reader' writer Ran other ends = absu
 
 -- a run of these rows came to a fault
 pub strict_failed : {S : Type 0} (answers : S → ℕ → Call → S → Type 0) (now : ℕ) (s t : S) (output_failed : Type 0) (out out' : Option (List ℕ)) (text front : List ℕ) (fault : Fault)
-    → front ≡ ended_part text → RowsEnd answers true now s t output_failed out out' front (Err fault) → StrictRan answers now s t output_failed out out' text (Err fault)
+    → front ≡ whole_lines text → RowsEnd answers true now s t output_failed out out' front (Err fault) → StrictRan answers now s t output_failed out out' text (Err fault)
 strict_failed answers now s t output_failed out out' text front fault is ran = subst (λ l. RowsEnd answers true now s t output_failed out out' l (Err fault)) is ran

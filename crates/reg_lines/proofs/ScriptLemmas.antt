@@ -16,7 +16,7 @@ use Rattle.reg_lines.specs.Accepted.{IsAccepted, GivesReason}
 use Rattle.reg_lines.specs.Script.{CutLine, EndOrMore, FirstLines, HasNoLf, IsCut, IsShort, IsWholeLine, NextEnds, RanLast, RanNone, RanWhole, RunEnds, TakesNoLine, WritesPart, line_of, longest_of, pieces}
 use Rattle.reg_lines.specs.declared.answered.Ended.{Ended}
 use Rattle.reg_lines.specs.declared.answered.Ended.TheVariants as ended
-use Rattle.reg_lines.specs.declared.lines.Next.TheVariants.{End}
+use Rattle.reg_lines.specs.declared.lines.AfterLine.TheVariants.{End}
 use Rattle.reg_lines.proofs.StepLemmas.{line_free, strip_free}
 
 abbrev no_lf : ℕ → Type 0

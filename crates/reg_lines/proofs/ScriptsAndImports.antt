@@ -10,7 +10,7 @@ use Rattle.reg_lines.specs.ByCalls.{Call, ran, asked, responded}
 use Rattle.reg_lines.specs.Import.{EndsBy, ImportEnds, ImportRan, Row, RowReplies, RowsEnd, data_rows}
 use Rattle.reg_lines.specs.Meaning.{Meaning, means_command, means_query, is_ocsp_line}
 use Rattle.reg_lines.specs.Script.{ClockFails, LinesEnd, RunEnds, line_of, longest_of, pieces}
-use Rattle.reg_lines.specs.Strict.{StrictEnds, StrictRan, ended_part}
+use Rattle.reg_lines.specs.Strict.{StrictEnds, StrictRan, whole_lines}
 use Rattle.reg_lines.specs.declared.answered.Answered.{Answered as LineOutcome}
 use Rattle.reg_lines.specs.declared.answered.Ended.{Ended}
 use Rattle.reg_lines.specs.declared.answered.Ended.TheVariants as ended
@@ -154,12 +154,12 @@ module _ {S I R : Type 0} (is_clean : S → Type 0) (stands : I → S → R → 
       → StrictRan answers now s t output_failed out out' text result
       → Leads is_clean stands (λ i before after. StrictRan (kept i) now before after output_failed out out' text result) s t
   strict_run_moves now s t output_failed out out' text (Ok (ended.Refused refused)) run =
-      row_run_moves true now s t output_failed out out' (ended_part text) (Ok (passed.Refused refused)) run
+      row_run_moves true now s t output_failed out out' (whole_lines text) (Ok (passed.Refused refused)) run
   strict_run_moves now s t output_failed out out' text (Ok ended.Whole) (run, all) =
-      follows is_clean stands _ _ (λ i before after moved. (moved, all)) s t (row_run_moves true now s t output_failed out out' (ended_part text) (Ok passed.On) run)
+      follows is_clean stands _ _ (λ i before after moved. (moved, all)) s t (row_run_moves true now s t output_failed out out' (whole_lines text) (Ok passed.On) run)
   strict_run_moves now s t output_failed out out' text (Ok ended.NoLineEnd) (run, more) =
-      follows is_clean stands _ _ (λ i before after moved. (moved, more)) s t (row_run_moves true now s t output_failed out out' (ended_part text) (Ok passed.On) run)
-  strict_run_moves now s t output_failed out out' text (Err fault) run = row_run_moves true now s t output_failed out out' (ended_part text) (Err fault) run
+      follows is_clean stands _ _ (λ i before after moved. (moved, more)) s t (row_run_moves true now s t output_failed out out' (whole_lines text) (Ok passed.On) run)
+  strict_run_moves now s t output_failed out out' text (Err fault) run = row_run_moves true now s t output_failed out out' (whole_lines text) (Err fault) run
 
   -- an import, by what holds of its rows
   ends_moves : {E W A : Type 0} (remaining : E → Option (List ℕ)) (input_failed : Type 0) (s t : S) (reader reader' : E) (writer writer' : W)

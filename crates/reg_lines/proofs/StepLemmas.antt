@@ -6,14 +6,14 @@ use Rattle.std.specs.Io.KnownBytes.{Appends}
 use Rattle.std.proofs.lemmas.Bool.{eq-eqb, ne_eqb, lt-ltb}
 use Rattle.std.proofs.lemmas.List.{get_or_push, take_all, take_at}
 use Rattle.reg_io.specs.Fill.{FillsShort, FillsTo}
-use Rattle.reg_io.specs.declared.fill.Reached.TheVariants.{Delimiter, Full, End}
+use Rattle.reg_io.specs.declared.fill.FillEnd.TheVariants.{Delimiter, Full, End}
 use Rattle.reg_io.proofs.PublicLaws.{first_delimiter_of_byte, no_delimiter_of_byte, splits_at_delimiter, keeps_what_was_taken}
 use Rattle.reg_core.specs.declared.refusal.Fault.{Fault}
 use Rattle.reg_core.specs.declared.refusal.Fault.TheVariants.{Read, Write}
 use Rattle.reg_lines.specs.Script.{HasNoLf, IsCut, IsShort, IsWholeLine, LineEnds, NextEnds, RanLast, RanWhole, line_of}
 use Rattle.reg_lines.specs.declared.answered.Ended.TheVariants as ended
 use Rattle.reg_lines.specs.declared.answered.Continuation.TheVariants as passed
-use Rattle.reg_lines.specs.declared.lines.Next.TheVariants.{Held, End as Ends}
+use Rattle.reg_lines.specs.declared.lines.AfterLine.TheVariants.{Held, End as Ends}
 use Rattle.reg_lines.proofs.Pieces.{turned}
 
 -- ---- lines

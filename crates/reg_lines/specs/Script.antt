@@ -15,8 +15,8 @@ use Rattle.reg_lines.specs.Fields.{in_prefix}
 use Rattle.reg_lines.specs.declared.answered.Ended.{Ended}
 use Rattle.reg_lines.specs.declared.answered.Ended.TheVariants.{Whole, Refused, NoLineEnd}
 use Rattle.reg_lines.specs.declared.answered.Continuation.{Continuation}
-use Rattle.reg_lines.specs.declared.lines.Next.{Next}
-use Rattle.reg_lines.specs.declared.lines.Next.TheVariants.{Held, End}
+use Rattle.reg_lines.specs.declared.lines.AfterLine.{AfterLine}
+use Rattle.reg_lines.specs.declared.lines.AfterLine.TheVariants.{Held, End}
 
 -- the most bytes of a line before its LF; a CR counts
 abbrev pub longest_line : ℕ
@@ -238,7 +238,7 @@ module _ {S : Type 0} (runs : S → List ℕ → List ℕ → S → Type 0) (s t
       pub wrote : AppendsPrefix out out' reply
 
     -- how a step ends: with a number of bytes at the start of the buffer, or with the run, or with a fault
-    abbrev pub NextEnds : Type 0 → Type 0 → Type 0 → Bool → List ℕ → Result Next Fault → Type 0
+    abbrev pub NextEnds : Type 0 → Type 0 → Type 0 → Bool → List ℕ → Result AfterLine Fault → Type 0
     NextEnds input_failed clock_failed output_failed is_strict buffer (Ok (Held left)) =
         (left < length buffer) × (ran : RanWhole (take left buffer))
         × (IsTrue is_strict → IsAccepted ran.reply)

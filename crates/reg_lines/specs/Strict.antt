@@ -18,8 +18,8 @@ skip_within [] = []
 skip_within (byte ∷ rest) = if is_within byte then skip_within rest else byte ∷ rest
 
 -- a text up to and including its last line end
-abbrev pub ended_part : List ℕ → List ℕ
-ended_part text = reverse (skip_within (reverse text))
+abbrev pub whole_lines : List ℕ → List ℕ
+whole_lines text = reverse (skip_within (reverse text))
 
 -- how the run of a text ends: only the part up to its last line end runs, and the text ends there, or has more bytes (`NoLineEnd`)
 abbrev pub StrictRan
@@ -27,15 +27,15 @@ abbrev pub StrictRan
     → List ℕ
     → Result Ended Fault → Type 0
 StrictRan answers now s t output_failed out out' text (Ok Whole) =
-    RowsEnd answers true now s t output_failed out out' (ended_part text) (Ok passed.On)
-    × (length (ended_part text) ≡ length text)
+    RowsEnd answers true now s t output_failed out out' (whole_lines text) (Ok passed.On)
+    × (length (whole_lines text) ≡ length text)
 StrictRan answers now s t output_failed out out' text (Ok NoLineEnd) =
-    RowsEnd answers true now s t output_failed out out' (ended_part text) (Ok passed.On)
-    × ¬ (length (ended_part text) ≡ length text)
+    RowsEnd answers true now s t output_failed out out' (whole_lines text) (Ok passed.On)
+    × ¬ (length (whole_lines text) ≡ length text)
 StrictRan answers now s t output_failed out out' text (Ok (Refused refused)) =
-    RowsEnd answers true now s t output_failed out out' (ended_part text) (Ok (passed.Refused refused))
+    RowsEnd answers true now s t output_failed out out' (whole_lines text) (Ok (passed.Refused refused))
 StrictRan answers now s t output_failed out out' text (Err fault) =
-    RowsEnd answers true now s t output_failed out out' (ended_part text) (Err fault)
+    RowsEnd answers true now s t output_failed out out' (whole_lines text) (Err fault)
 
 -- a strict import at a moment: the office, the reader and the writer before and after
 abbrev pub StrictEnds

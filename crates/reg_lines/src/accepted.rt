@@ -1,7 +1,7 @@
 ghost use Rattle.std.specs.Prelude.{◌↔◌, IsTrue};
 ghost use Rattle.reg_lines.specs.Accepted.{IsAccepted};
 
-/// Whether a reply begins neither with `E` (a refusal), nor with `F` (a fault), nor with `b` (`bad-policy` and `bad-clock`, of an open desk).
+/// Whether a reply does not begin with `E` (a refusal), `F` (a fault) or `b` (`bad-policy` and `bad-clock`: replies that only `desk open` gives).
 pub fn is_accepted(reply: &[u8]) -> bool
     ensures { IsTrue result ↔ IsAccepted reply.now }
 {

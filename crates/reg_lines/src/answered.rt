@@ -8,7 +8,7 @@ use crate::reply::ReplyText;
 use reg_core::{Command, Fault, Outcome, Query, Refusal};
 use reg_io::{Sink, WriteFault, write_whole};
 
-/// The kind of a line, by the call of the office that it asks for.
+/// The kind of a line, by the call of the office (which runs commands and queries on a register) that it needs.
 #[derive(Clone, Copy)]
 pub enum LineKind {
     /// The line can't be read, so the office gets no call.
@@ -21,7 +21,7 @@ pub enum LineKind {
 /// The reply to an OCSP request.
 #[derive(Drop)]
 pub struct OcspReply {
-    /// `ocsp HEX`, with its LF.
+    /// `ocsp` and the response in hexadecimal, with an LF.
     pub line: Vec<u8>,
     /// Whether the response has only a status, so no signature (RFC 6960 4.2.1).
     pub has_only_status: bool,
@@ -30,27 +30,25 @@ pub struct OcspReply {
 /// The result of a line.
 #[derive(Drop)]
 pub enum Answered {
-    /// The kind of the line, and its outcome: [`Refusal::Syntax`] if it can't be read, and [`Fault::Memory`] for an OCSP request
-    /// if there is no memory for its bytes, for the response or for the reply.
+    /// The line's kind and outcome. `Nothing` has [`Refusal::Syntax`]. `Ocsp` has [`Fault::Memory`]: an OCSP line with a response is a `Response`.
     Completed(LineKind, Outcome),
-    /// The reply to an OCSP request.
     Response(OcspReply),
 }
 
-/// A refused command, and its refusal.
+/// A refused command, and why it is refused.
 #[derive(Clone, Copy)]
 pub struct RefusedCommand {
     pub command: Command,
     pub why: Refusal,
 }
 
-/// How a run of lines or rows ended, if no fault of input, clock, output or memory cut it short. A strict run (`--strict`) ends at the first refusal
-/// or fault, and does not run a last line or row without its line end, as it may be cut off.
+/// How a run of script lines or CSV rows ended, unless a fault of its input, clock, output or memory stopped it. A strict run (`--strict`) ends at
+/// the first refusal or fault. It does not run a last line or row without a line end, which may be cut off.
 #[derive(Clone, Copy)]
 pub enum Ended {
     /// Each line or row ran. In a strict run, each was accepted.
     Whole,
-    /// The run is strict, and the last reply is a refusal or a fault. Nothing ran after it. The variant has the command, if a command was refused.
+    /// The run is strict, and the last reply is a refusal or a fault. Nothing ran after it. `None` if it is not the refusal of a command.
     Refused(Option<RefusedCommand>),
     /// The run is strict, and each line or row up to the last line end ran and was accepted. The rest did not run.
     NoLineEnd,
@@ -89,7 +87,7 @@ impl Answered {
         }
     }
 
-    /// The reply, with its LF. The reply of an outcome is written into `room`, which has the capacity of the longest, so nothing is allocated.
+    /// The reply, with its LF. For `Completed` it is written into `room`, which must have the capacity of the longest reply, 84 bytes: no allocation.
     pub fn into_reply(self, mut room: Vec<u8>) -> Vec<u8>
         requires empty { room.items ≡ [] }
         requires room { 84 ≤ vec_capacity room }
@@ -118,8 +116,7 @@ impl Answered {
         }
     }
 
-    /// Writes the reply, and returns whether the run goes on. Each `Answered` of this crate meets the precondition; a `Response` with a line other
-    /// than `ocsp HEX` need not.
+    /// Writes the reply, and returns whether the run goes on.
     pub(crate) fn write_reply<W: Sink>(
         &self,
         writer: &mut W,
@@ -138,7 +135,7 @@ impl Answered {
     }
 }
 
-/// The fault of a run, if any, without how it ended.
+/// The result of a run without the way in which it ended.
 pub(crate) fn done<T: Copy>(ran: Result<T, Fault>) -> Result<(), Fault>
     ensures { result ≡ done_of ran }
 {

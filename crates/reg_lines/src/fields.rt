@@ -1,4 +1,4 @@
-//! The fields of a line, one after the other.
+//! Splits a line into its fields: the texts between its spaces.
 
 ghost use Rattle.std.specs.Prelude.{◌≡◌, ◌+◌, ◌<◌, ◌≤◌, [], ◌∷◌, IsTrue, ◌↔◌, MatchOption, option_map, position, ◌==◌};
 ghost use Rattle.reg_lines.specs.Fields.{fields_of};
@@ -6,10 +6,10 @@ ghost use Rattle.reg_lines.specs.LineReading.{one, two, four};
 
 use std::marker::Model;
 
-/// The fields of a line that are left. Contracts see the list of them.
+/// The fields of a line that are not taken yet.
 #[derive(Drop)]
 pub struct Fields<'a> {
-    /// The text that is left; `None` if no field is. An empty text is one empty field.
+    /// The text that is left, which is at least one field (an empty one if the text is empty); `None` if no field is left.
     rest: Option<&'a [u8]>,
 }
 
@@ -23,7 +23,7 @@ impl<'a> Model for Fields<'a> {
 }
 
 impl<'a> Fields<'a> {
-    /// All fields of a line: the texts between its spaces.
+    /// All fields of a line.
     pub fn of(line: &'a [u8]) -> Fields<'a>
         ensures { result ≡ fields_of line.now }
     {
@@ -61,7 +61,7 @@ fn first_space(text: &[u8]) -> Option<usize>
     text.iter().position(|byte| *byte == b' ')
 }
 
-/// The only field; `None` if there is no field, or more than one. `two` and `four` return exactly two and four fields.
+/// The only field; `None` if there is no field, or more than one. `two` and `four` do the same for exactly two and four fields.
 pub(crate) fn one(mut fields: Fields<'_>) -> Option<&[u8]>
     ensures { option_map (λ a. a.now) result ≡ one fields.entry }
 {

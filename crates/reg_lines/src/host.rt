@@ -1,23 +1,20 @@
-//! The host of a run of lines: its clock, if it has one, and its observer.
+//! The host of a run of lines.
 
 use crate::answered::Answered;
 use reg_core::{Fault, Moment};
 
-/// The host of a run of lines, which observes the result of each line. The host has a clock if the lines have no moments of their own.
+/// What a run of lines needs from its caller: an observer of the results, and a clock if the lines have no moments of their own.
 pub trait Host {
     ghost use Rattle.std.specs.Prelude.{◌≡◌, ℕ, Bool, IfErr, IfOk, OnErr};
     ghost use Rattle.reg_core.specs.declared.refusal.Fault.TheVariants.{Read};
 
-    /// Whether the host has a clock.
     ghost clocked: { Self → Bool };
 
-    /// The clock has reached this moment.
     ghost clock_reached: { ℕ → Type 0 };
 
-    /// The clock could not be read.
     ghost clock_failed: { Type 0 };
 
-    /// Whether lines run at the moment of the clock. Otherwise each begins with a moment of its own.
+    /// Whether the host has a clock, at whose moment each line runs. Otherwise each line begins with a moment of its own.
     fn is_clocked(&self) -> bool
         ensures { result ≡ clocked self.now };
 

@@ -1,4 +1,4 @@
-//! Runs script lines and imported rows from any reader, and writes a reply line for each to any writer.
+//! Runs script lines and imported CSV rows from any reader, and writes a reply line for each to any writer.
 #![tactic(auto)]
 
 mod accepted;

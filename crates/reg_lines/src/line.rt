@@ -30,7 +30,7 @@ pub fn read_line(line: &[u8]) -> Option<ParsedLine<'_>>
     read_fields(Fields::of(line))
 }
 
-/// Reads `subscriber NAME`, `order SUBSCRIBER DAYS` (the longest validity), `register ORDER SERIAL NOTBEFORE NOTAFTER`, or as `read_revoking`.
+/// Reads `subscriber NAME`, `order SUBSCRIBER DAYS` (the longest validity), `register ORDER SERIAL NOTBEFORE NOTAFTER`. Other words: `read_revoking`.
 #[tactic(auto, unfolding(crate::specs::LineReading::meaning_in_fields, crate::specs::LineReading::meaning_by))]
 fn read_fields(mut fields: Fields<'_>) -> Option<ParsedLine<'_>>
     ensures { option_map meaning_of result ≡ meaning_in_fields fields.entry }
@@ -47,7 +47,7 @@ fn read_fields(mut fields: Fields<'_>) -> Option<ParsedLine<'_>>
     }
 }
 
-/// Reads `request SERIAL GROUND`, `decline REQUEST`, `revoke REQUEST`, `crl` (issue the next CRL), or as `read_query`.
+/// Reads `request SERIAL GROUND` (why to revoke), `decline REQUEST`, `revoke REQUEST`, `crl` (issue the next CRL). Other words: `read_query`.
 #[tactic(auto, unfolding(crate::specs::LineReading::revoking_by))]
 fn read_revoking<'a>(word: &[u8], fields: Fields<'a>) -> Option<ParsedLine<'a>>
     ensures { option_map meaning_of result ≡ revoking_by word.now fields.entry }
@@ -110,7 +110,7 @@ fn ocsp(digits: Option<&[u8]>) -> Option<ParsedLine<'_>>
     Some(ParsedLine::Ocsp(digits?))
 }
 
-/// The value for a word without arguments: `None` if a field is left.
+/// The value of a word without arguments; `None` if a field is left.
 fn alone<T: Copy>(value: T, fields: Fields<'_>) -> Option<T>
     ensures { result ≡ alone value fields.entry }
 {
@@ -143,7 +143,6 @@ fn read_register(fields: Fields<'_>) -> Option<Command>
     read_registration(order, serial, not_before, not_after)
 }
 
-/// A registration by its four fields: those of a line, or of an imported row.
 #[tactic(auto, unfolding(crate::specs::LineReading::register_by))]
 pub(crate) fn read_registration(
     order: &[u8],
@@ -175,7 +174,6 @@ fn read_request(fields: Fields<'_>) -> Option<Command>
     Some(Command::Request { serial, ground })
 }
 
-/// The number in the only field.
 #[tactic(auto, unfolding(crate::specs::LineReading::number_alone))]
 fn number_alone(fields: Fields<'_>) -> Option<u64>
     ensures { result ≡ number_alone fields.entry }
@@ -198,7 +196,6 @@ fn read_hex(fields: Fields<'_>) -> Option<&[u8]>
     if is_hex(digits) { Some(digits) } else { None }
 }
 
-/// Whether a text has only hexadecimal digits, an even number of them and at least two.
 fn is_hex(digits: &[u8]) -> bool
     ensures { hex_of digits.now ≡ cond result (Some (decoded_bytes digits.now)) None }
 {

@@ -11,35 +11,29 @@ use crate::host::Host;
 use crate::moments::{MOMENT, take_moment, without_end};
 use crate::run::{run_line, unreadable};
 use reg_core::Fault;
-use reg_io::{Reached, Sink, Source, fill_to_delimiter};
+use reg_io::{FillEnd, Sink, Source, fill_to_delimiter};
 use reg_office_api::Office;
 use std::alloc::Global;
 
-/// The most bytes of a line before its LF (a CR counts). One buffer, allocated before the first line, has room for each.
+/// The most bytes of a line before its LF (a CR counts). The one buffer of a run, allocated before the first line, has room for each line.
 pub const LONGEST_LINE: usize = 8192;
 
-/// The most bytes of an untimed line before its LF: 8,171, as [`LONGEST_LINE`] without a moment and a space. A CR counts.
+/// The most bytes of an untimed line (without a moment and the space after it) before its LF: 8,171. A CR counts.
 pub const LONGEST_UNTIMED_LINE: usize = LONGEST_LINE - MOMENT - 1;
 
 /// The most lines of a run.
 pub const MOST_LINES: u64 = 1_000_000;
 
-/// How a run goes on after a line.
 #[derive(Clone, Copy)]
-enum Next {
+enum AfterLine {
     /// More lines may follow: this many of their bytes are at the start of the buffer.
     Held(usize),
     End(Ended),
 }
 
-/// Runs each line of an input, in turn, and writes each reply before the next line runs. The lines begin with moments of their
-/// own, as in a script; or, if the host has a clock, each runs at the clock's moment. A strict run ends after the first reply that is
-/// a refusal or a fault, and does not run a last line without its LF.
-///
-/// # Errors
-///
-/// The errors of [`crate::run_script`]. A line that runs at the moment of the clock has at most 8,171 bytes. [`Fault::Read`] if the clock
-/// can't be read: then the line did not run.
+/// Runs each line of an input, in turn, and writes each reply before the next line runs. Each line begins with the moment at which it runs. If the
+/// host has a clock, lines have no moments, and run at the clock's. [`Ended`] says when a strict run ends. Errors: those of [`crate::run_script`].
+/// With a clock, also [`Fault::Read`] if the clock can't be read (the line did not run), or if a line has more than 8,171 bytes before its LF.
 pub fn run_lines<R: Source, W: Sink, O: Office, H: Host>(
     alloc: Global,
     reader: &mut R,
@@ -58,8 +52,8 @@ pub fn run_lines<R: Source, W: Sink, O: Office, H: Host>(
         office.old office.new reader.old reader.new writer.old writer.new
         H.clock_reached H.clock_failed (H.clocked host.now) is_strict result }
 {
-    let room = buffer_size(host.is_clocked());
-    match vec![in alloc; 0; room] {
+    let size = buffer_size(host.is_clocked());
+    match vec![in alloc; 0; size] {
         Ok(mut buffer) => run_all(alloc, reader, writer, office, host, is_strict, &mut buffer),
         Err(_) => Err(Fault::Memory),
     }
@@ -75,7 +69,7 @@ fn buffer_size(is_clocked: bool) -> usize
     }
 }
 
-/// Runs each line of an input. `buffer` has room for the longest line and its LF.
+/// Runs each line of an input. `buffer` has room for the longest line and its LF; its first `buffered` bytes were read and have not run.
 fn run_all<R: Source, W: Sink, O: Office, H: Host>(
     alloc: Global,
     reader: &mut R,
@@ -96,19 +90,19 @@ fn run_all<R: Source, W: Sink, O: Office, H: Host>(
         match run_next(
             alloc, reader, writer, office, host, is_strict, buffer, buffered,
         ) {
-            Ok(Next::Held(left)) => buffered = left,
-            Ok(Next::End(ended)) => return Ok(ended),
+            Ok(AfterLine::Held(left)) => buffered = left,
+            Ok(AfterLine::End(ended)) => return Ok(ended),
             Err(fault) => return Err(fault),
         }
     }
-    // There is a line after the 1,000,000th.
+    // `MOST_LINES` lines ran, so any more bytes are an error: those that are buffered, or one that is read into the buffer.
     if buffered > 0 {
         return Err(Fault::Read);
     }
     end_of_input(reader, &mut buffer[..1])
 }
 
-/// Runs the next line, and returns whether more lines may follow.
+/// Runs the next line, moves the bytes after it to the start of `buffer`, and returns whether more lines may follow (`Held`).
 fn run_next<R: Source, W: Sink, O: Office, H: Host>(
     alloc: Global,
     reader: &mut R,
@@ -118,7 +112,7 @@ fn run_next<R: Source, W: Sink, O: Office, H: Host>(
     is_strict: bool,
     buffer: &mut [u8],
     buffered: usize,
-) -> Result<Next, Fault>
+) -> Result<AfterLine, Fault>
     requires room { length buffer.old ≡ longest_of (H.clocked host.now) + 1 }
     requires buffered_fits { buffered ≤ length buffer.old }
     ensures { NextEnds (HostLines O.Office H.Host host.now) office.old office.new
@@ -127,33 +121,33 @@ fn run_next<R: Source, W: Sink, O: Office, H: Host>(
         R.failed (ClockFails H.clock_failed (H.clocked host.now)) W.failed is_strict buffer.new result }
 {
     match fill_to_delimiter(reader, buffer, buffered, b"\n") {
-        Ok(Reached::Delimiter { end, buffered }) => {
+        Ok(FillEnd::Delimiter { end, buffered }) => {
             let line = without_end(&buffer[..end]);
             match answer_line(alloc, writer, office, host, is_strict, line) {
                 Ok(Continuation::On) => {
                     buffer.rotate_left(end);
-                    Ok(Next::Held(buffered - end))
+                    Ok(AfterLine::Held(buffered - end))
                 }
-                Ok(Continuation::Refused(refused)) => Ok(Next::End(Ended::Refused(refused))),
+                Ok(Continuation::Refused(refused)) => Ok(AfterLine::End(Ended::Refused(refused))),
                 Err(fault) => Err(fault),
             }
         }
-        Ok(Reached::End { buffered: 0 }) => Ok(Next::End(Ended::Whole)),
-        Ok(Reached::End { buffered }) => {
+        Ok(FillEnd::End { buffered: 0 }) => Ok(AfterLine::End(Ended::Whole)),
+        Ok(FillEnd::End { buffered }) => {
             if is_strict {
-                return Ok(Next::End(Ended::NoLineEnd));
+                return Ok(AfterLine::End(Ended::NoLineEnd));
             }
             match answer_line(alloc, writer, office, host, is_strict, &buffer[..buffered]) {
-                Ok(_) => Ok(Next::End(Ended::Whole)),
+                Ok(_) => Ok(AfterLine::End(Ended::Whole)),
                 Err(fault) => Err(fault),
             }
         }
-        Ok(Reached::Full) => Err(Fault::Read),
+        Ok(FillEnd::Full) => Err(Fault::Read),
         Err(_) => Err(Fault::Read),
     }
 }
 
-/// Runs a line, shows the result to the host (which may warn), writes the reply, and returns whether the run goes on.
+/// Runs a line, shows the result to the host (which may warn the operator), writes the reply, and returns whether the run goes on.
 fn answer_line<W: Sink, O: Office, H: Host>(
     alloc: Global,
     writer: &mut W,
@@ -177,7 +171,6 @@ fn answer_line<W: Sink, O: Office, H: Host>(
     }
 }
 
-/// Runs a line at the moment of the host's clock, or else at its own.
 fn run_by<O: Office, H: Host>(
     alloc: Global,
     office: &mut O,
@@ -209,12 +202,11 @@ fn run_at_own_moment<O: Office>(alloc: Global, office: &mut O, line: &[u8]) -> A
     }
 }
 
-/// Checks that the input is at its end: `Read` if there is one more byte, or if a read fails.
-fn end_of_input<R: Source>(reader: &mut R, room: &mut [u8]) -> Result<Ended, Fault>
-    requires { length room.old ≡ 1 }
+fn end_of_input<R: Source>(reader: &mut R, byte: &mut [u8]) -> Result<Ended, Fault>
+    requires { length byte.old ≡ 1 }
     ensures { EndOrMore R.failed (R.remaining reader.old) (R.remaining reader.new) result }
 {
-    match reader.read_once(room) {
+    match reader.read_once(byte) {
         Ok(0) => Ok(Ended::Whole),
         Ok(_) | Err(_) => Err(Fault::Read),
     }

@@ -1,4 +1,4 @@
-//! The parts of a script line: its moment, the untimed line after it, and the line end.
+//! The parts of a script line: its moment, then an untimed line with its line end.
 
 ghost use Rattle.std.specs.Prelude.{◌≡◌, IfNone, IfSome, MatchOption};
 ghost use Rattle.std.specs.Io.BufRead.{strip_last};
@@ -8,11 +8,10 @@ ghost use Rattle.reg_lines.specs.Script.{IsShortUntimedLine, line_of};
 use crate::lines::LONGEST_UNTIMED_LINE;
 use reg_core::Moment;
 
-/// The number of bytes of a moment's text.
+/// The number of bytes of a moment's text, such as `2026-01-01T09:10:00Z`.
 pub(crate) const MOMENT: usize = 20;
 
-/// The moment with which a script line begins, and the untimed line after it; `None` if the line does not begin with a moment and a space. No line
-/// has two such readings.
+/// The moment that begins a script line, and the untimed line after the space that follows; `None` for other lines. No line has two readings.
 pub fn take_moment(line: &[u8]) -> Option<(Moment, &[u8])>
     ensures found { IfSome result (λ taken. HasMoment line.now taken.0 taken.1.now) }
     ensures none { IfNone result (HasNoMoment line.now) }
@@ -25,7 +24,7 @@ pub fn take_moment(line: &[u8]) -> Option<(Moment, &[u8])>
     Some((now, &line[MOMENT + 1..]))
 }
 
-/// `line`, an untimed line, without its line end; `None` if it has more than [`LONGEST_UNTIMED_LINE`] (8,171) bytes before its LF.
+/// The untimed line `line` without its line end; `None` if it has more than [`LONGEST_UNTIMED_LINE`] (8,171) bytes before its LF.
 pub fn untimed_line(line: &[u8]) -> Option<&[u8]>
     ensures { MatchOption result (¬ IsShortUntimedLine line.now)
         (λ command. (command.now ≡ line_of line.now) × IsShortUntimedLine line.now) }

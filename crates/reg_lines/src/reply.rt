@@ -1,4 +1,4 @@
-//! The line of each reply.
+//! The line of each reply to a command or query.
 
 ghost use Rattle.std.specs.Prelude.{◌≡◌, ℕ, ◌+◌, ◌≤◌, ◌++◌, [], length};
 ghost use Rattle.std.specs.Fmt.{decimal};
@@ -11,7 +11,7 @@ use std::marker::Model;
 /// The length of the longest reply to a command or query, with its LF: that of the reply to `counts`, with three numbers of 20 digits.
 pub const LONGEST_REPLY: usize = 84;
 
-/// The text of a reply in an array, so that it needs no allocation. Contracts see the list of its bytes.
+/// A reply's text, in an array, so without an allocation. In contracts, a `ReplyText` is the list of its bytes.
 #[derive(Drop)]
 pub struct ReplyText {
     bytes: [u8; LONGEST_REPLY],

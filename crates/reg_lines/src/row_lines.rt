@@ -13,13 +13,8 @@ use reg_core::Fault;
 use reg_io::Source;
 use std::alloc::{AllocError, Global};
 
-/// The untimed lines, each with its LF, for the rows of a text, in order: `register` and the row's four fields. A first row
-/// `order,serial,notBefore,notAfter` is skipped. A row that is no registration gives `register` alone, which is refused
-/// (`E22`), so that each row but the header has one line.
-///
-/// # Errors
-///
-/// [`Fault::Read`] if a read fails or there are more than 16,777,216 bytes; [`Fault::Memory`].
+/// The untimed lines, with LF, of the rows of a CSV text. A row's line is `register` and its four fields. A row that is no registration has the line
+/// `register`, which is refused (`E22`). A first row `order,serial,notBefore,notAfter` has no line. Errors: `Read` as in [`crate::import`]; `Memory`.
 pub fn lines_of_rows<R: Source>(alloc: Global, reader: &mut R) -> Result<Vec<u8>, Fault>
     ensures { ListingEnds R.failed (R.remaining reader.old) (R.remaining reader.new)
         (result_map_both (λ lines. lines.items) (λ fault. fault) result) }
@@ -42,7 +37,7 @@ fn lines_of_text(alloc: Global, text: &[u8]) -> Result<Vec<u8>, Fault>
     }
 }
 
-/// Appends the line of each row of a reader that has read none yet. Each row is read into the same `ByteRecord`.
+/// Appends the line of each row of `rows`, a reader that has read none yet. Each row is read into the same `row`.
 fn put_each(
     rows: &mut Reader<&[u8]>,
     row: &mut ByteRecord,
@@ -59,19 +54,19 @@ fn put_each(
                 Err(fault) => return Err(fault),
             },
             Ok(false) => return Ok(()),
-            // The text is in memory, and rows may have any number of fields: so a read fails only if out of memory.
+            // The text is in memory, and a row may have any number of fields, so a read fails only if out of memory.
             Err(_) => return Err(AllocError),
         }
     }
-    // No text has this many rows.
+    // No text has so many rows.
     Err(AllocError)
 }
 
-/// Appends the line of a row, if it is not the header, which only the first row can be.
-fn put_row(row: &ByteRecord, first: bool, lines: &mut Vec<u8>) -> Result<(), AllocError>
-    ensures { OnOk result (lines.new.items ≡ lines.old.items ++ line_added first (fields_of row.now)) }
+/// Appends a row's line, unless the row is the header, which only the first row can be.
+fn put_row(row: &ByteRecord, is_first: bool, lines: &mut Vec<u8>) -> Result<(), AllocError>
+    ensures { OnOk result (lines.new.items ≡ lines.old.items ++ line_added is_first (fields_of row.now)) }
 {
-    if first && is_header(row) {
+    if is_first && is_header(row) {
         return Ok(());
     }
     put_line(four_fields(row), lines)
@@ -90,7 +85,6 @@ fn put_line(
     Ok(())
 }
 
-/// Appends these four fields of a row, if they are a registration.
 fn put_fields(
     fields: Option<(&[u8], &[u8], &[u8], &[u8])>,
     text: &mut Vec<u8>,

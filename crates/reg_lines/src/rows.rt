@@ -1,4 +1,4 @@
-//! Imports rows, and writes a reply line for each.
+//! Imports rows of comma-separated fields, and writes a reply line for each.
 
 ghost use Rattle.std.specs.Prelude.{◌≡◌, ◌==◌, ◌&&◌, ℕ, List, OnErr, option_map, is_some};
 ghost use Rattle.std.specs.Result.{result_map_both};
@@ -17,20 +17,15 @@ use reg_io::{Sink, Source, WriteFault};
 use reg_office_api::Office;
 use std::alloc::Global;
 
-/// The most bytes of an import, because its whole text is held in memory.
+/// The most bytes of an import. It has a limit because its whole text is held in memory.
 pub const MOST_BYTES: usize = 16_777_216;
 
-/// The most bytes of one read.
 const PIECE: usize = 4096;
 
-/// Registers each row of a text of comma-separated fields (RFC 4180) at one moment, in order, and writes each reply before the next row runs.
-/// The whole text is read first. A first row `order,serial,notBefore,notAfter` is skipped. A row that is no registration is refused (`E22`).
-///
-/// # Errors
-///
-/// [`Fault::Read`] if a read fails or there are more than 16,777,216 bytes: nothing ran. [`Fault::Write`] if the output
-/// fails in a reply, whose row ran. [`Fault::Memory`] if out of memory for the text, and nothing ran; or for a row, and the rows before
-/// that ran, and their replies were written.
+/// Registers each row of a text of comma-separated fields (RFC 4180) at `now`, in order, and writes each reply before the next row runs. The whole
+/// text is read first. A first row `order,serial,notBefore,notAfter` is skipped. A row that is no registration is refused (`E22`). The import goes on
+/// after a refusal or a fault in a reply. [`Fault::Read`] if a read fails, or for over 16,777,216 bytes: nothing ran. [`Fault::Write`]
+/// if the output fails in a reply, whose row ran. [`Fault::Memory`] if out of memory for the text (nothing ran) or for a row (those before it ran).
 pub fn import<R: Source, W: Sink, O: Office>(
     alloc: Global,
     reader: &mut R,
@@ -47,12 +42,12 @@ pub fn import<R: Source, W: Sink, O: Office>(
         now office.old office.new reader.old reader.new writer.old writer.new result }
 {
     match read_text(alloc, reader) {
+        // The run is not strict (`false`), so no reply ends it: each run that has no fault gives `Continuation::On`. `done` replaces that by `()`.
         Ok(text) => done(run_rows(alloc, writer, now, office, false, &text)),
         Err(fault) => Err(fault),
     }
 }
 
-/// The whole text; `Read` if a read fails or there are more than 16,777,216 bytes, `Memory` if out of memory.
 pub(crate) fn read_text<R: Source>(alloc: Global, reader: &mut R) -> Result<Vec<u8>, Fault>
     ensures { TextRead R.failed (R.remaining reader.old) (R.remaining reader.new)
         (result_map_both (λ text. text.items) (λ fault. fault) result) }
@@ -74,7 +69,7 @@ pub(crate) fn read_text<R: Source>(alloc: Global, reader: &mut R) -> Result<Vec<
     Err(Fault::Read)
 }
 
-/// A reader of the rows of a text, each with any number of fields. The reader has read none yet.
+/// A reader of the rows of a text. Each row may have any number of fields. The reader has read no row yet, and takes none as a header.
 pub(crate) fn rows_of(alloc: Global, text: &[u8]) -> Reader<&[u8]>
     ensures at_start { IsAtStart result }
     ensures reads { ReadsText result text.entry.now }
@@ -102,7 +97,7 @@ pub(crate) fn run_rows<W: Sink, O: Office>(
     run_each(alloc, writer, now, office, is_strict, &mut rows, &mut row)
 }
 
-/// Runs each row of a reader that has read none yet. Each row is read into the same `ByteRecord`.
+/// Runs each row of `rows`, a reader that has read none yet. Each row is read into the same `row`.
 fn run_each<W: Sink, O: Office>(
     alloc: Global,
     writer: &mut W,
@@ -125,15 +120,15 @@ fn run_each<W: Sink, O: Office>(
                 Err(_) => return Err(Fault::Write),
             },
             Ok(false) => return Ok(Continuation::On),
-            // The text is in memory, and rows may have any number of fields: so a read fails only if out of memory.
+            // The text is in memory, and a row may have any number of fields, so a read fails only if out of memory.
             Err(_) => return Err(Fault::Memory),
         }
     }
-    // No text has this many rows.
+    // No text has so many rows.
     Err(Fault::Memory)
 }
 
-/// Runs a row, if it is not the header, which only the first row can be. Returns whether the run goes on.
+/// Runs a row, unless it is the header, which only the first row can be. Returns whether the run goes on.
 fn take_row<W: Sink, O: Office>(
     alloc: Global,
     writer: &mut W,
@@ -141,13 +136,13 @@ fn take_row<W: Sink, O: Office>(
     office: &mut O,
     is_strict: bool,
     row: &ByteRecord,
-    first: bool,
+    is_first: bool,
 ) -> Result<Continuation, WriteFault>
-    ensures took { TookRow (LineCalls O.Office) is_strict now office.old office.new first (fields_of row.now)
+    ensures took { TookRow (LineCalls O.Office) is_strict now office.old office.new is_first (fields_of row.now)
         (W.contents writer.old) (W.contents writer.new) result }
     ensures fails { OnErr result W.failed }
 {
-    if first && is_header(row) {
+    if is_first && is_header(row) {
         return Ok(Continuation::On);
     }
     run_row(alloc, writer, now, office, is_strict, row)
@@ -202,7 +197,6 @@ pub(crate) fn four_fields(row: &ByteRecord) -> Option<(&[u8], &[u8], &[u8], &[u8
     four_of(row.get(0), row.get(1), row.get(2), row.get(3), row.get(4))
 }
 
-/// The first four fields, if there are four and no fifth.
 fn four_of<'a>(
     first: Option<&'a [u8]>,
     second: Option<&'a [u8]>,

@@ -17,7 +17,7 @@ use std::alloc::{AllocError, Global};
 /// The length in bytes of an OCSP response that has only a status (RFC 6960 4.2.1).
 const STATUS_ONLY_LENGTH: usize = 5;
 
-/// Runs an untimed line, given without its line end, at a moment. A line that can't be read gets [`Refusal::Syntax`], without a call of the office.
+/// Runs an untimed line, without its line end, at the moment `now`. A line that can't be read gets [`Refusal::Syntax`] without a call of the office.
 pub fn run_line<O: Office>(alloc: Global, office: &mut O, now: Moment, line: &[u8]) -> Answered
     ensures leads { LeadsIn O.Office
         (λ signers before after. ComesTo (Lines O.signs signers) now before line.now result after)
@@ -48,7 +48,7 @@ fn run_ocsp<O: Office>(alloc: Global, office: &mut O, now: Moment, digits: &[u8]
     ensures { OfficeAnswers (LineCalls O.Office) now office.old (is_ocsp_line (decoded_bytes digits.now))
         result office.new }
 {
-    // `read_line` found the digits valid, so decoding fails only if out of memory.
+    // `decode` and `ocsp` fail only if out of memory: `read_line` found the digits valid.
     let Ok(request) = hex::decode(alloc, digits) else {
         return no_memory();
     };

@@ -13,7 +13,7 @@ use reg_io::{Sink, Source};
 use reg_office_api::Office;
 use std::alloc::Global;
 
-/// The host of a script whose lines have moments of their own. It has no clock, so no line calls `moment`, and it observes nothing.
+/// The [`Host`] (observer and clock of a run) of a script whose lines have moments. It has no clock, so `moment` isn't called, and observes nothing.
 struct NoHost;
 
 impl Host for NoHost {
@@ -36,16 +36,11 @@ impl Host for NoHost {
     fn observe(&self, _answered: &Answered) {}
 }
 
-/// Runs each line of a script, in order, and writes each reply before it runs the next line. The input may come in pieces
-/// of any size. Memory is allocated once, before the first line, and later only by the calls of the office and for `ocsp`
-/// lines. If a later allocation fails, the reply is `F1 memory`. `F3 signer` is the reply only if the office's count of
-/// failures of the signer of CRLs rose at that line.
-///
-/// # Errors
-///
-/// [`Fault::Read`] if a read fails, a line has more than 8,192 bytes before its LF, or there is a line after the 1,000,000th: the lines
-/// before the failure ran, and their replies were written. [`Fault::Write`] if the output fails in a reply, whose line ran.
-/// [`Fault::Memory`] if there is no memory for one line: nothing ran, nothing was read and nothing was written.
+/// Runs each line of a script, in order, and writes each reply before it runs the next line. Memory is allocated before the first line, and later
+/// only by the office and for `ocsp` lines. If a later allocation fails, the reply is `F1 memory`. The reply is `F3 signer` only if the signer of
+/// CRLs failed: its failure count rose ([`Office::failure_counts`]). [`Fault::Read`] if a read fails, a line has more than 8,192 bytes before its LF,
+/// or there is a line after the 1,000,000th: each line before ran, and its reply was written. [`Fault::Write`] if a reply can't be written; its line
+/// ran. [`Fault::Memory`] if there is no memory for the longest line: nothing was read.
 pub fn run_script<R: Source, W: Sink, O: Office>(
     alloc: Global,
     reader: &mut R,
@@ -63,7 +58,7 @@ pub fn run_script<R: Source, W: Sink, O: Office>(
     run_script_for(alloc, reader, writer, office, &NoHost)
 }
 
-/// As [`run_script`], with the same errors, for a host without a clock, which observes the result of each line. The run is not strict.
+/// As [`run_script`], with the same errors, for a host that has no clock and observes the result of each line. The run is not strict (`false`).
 pub fn run_script_for<R: Source, W: Sink, O: Office, H: Host>(
     alloc: Global,
     reader: &mut R,

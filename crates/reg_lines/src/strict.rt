@@ -3,7 +3,7 @@
 ghost use Rattle.std.specs.Prelude.{◌≡◌};
 ghost use Rattle.reg_office_api.specs.Calls.{LeadsIn};
 ghost use Rattle.reg_lines.specs.ByCalls.{LineCalls, Lines};
-ghost use Rattle.reg_lines.specs.Strict.{StrictEnds, StrictRan, ended_part, is_within};
+ghost use Rattle.reg_lines.specs.Strict.{StrictEnds, StrictRan, whole_lines, is_within};
 
 use crate::answered::{Continuation, Ended};
 use crate::rows::{read_text, run_rows};
@@ -12,8 +12,8 @@ use reg_io::{Sink, Source};
 use reg_office_api::Office;
 use std::alloc::Global;
 
-/// Registers each row (CSV) of a text as [`crate::import`] does, up to the first reply that is a refusal or a fault. Bytes after the last line end
-/// (CR or LF) of the text do not run ([`Ended::NoLineEnd`]), because they may be a part of a row. The errors are those of [`crate::import`].
+/// Registers each row (CSV) of a text as [`crate::import`] does, up to the first reply that is a refusal or a fault; the errors are the same. Bytes
+/// after the last line end (CR or LF) do not run ([`Ended::NoLineEnd`]), because they may be a part of a row.
 pub fn import_strictly<R: Source, W: Sink, O: Office>(
     alloc: Global,
     reader: &mut R,
@@ -30,13 +30,13 @@ pub fn import_strictly<R: Source, W: Sink, O: Office>(
         now office.old office.new reader.old reader.new writer.old writer.new result }
 {
     match read_text(alloc, reader) {
-        Ok(text) => run_ended(alloc, writer, now, office, &text),
+        Ok(text) => run_whole_lines(alloc, writer, now, office, &text),
         Err(fault) => Err(fault),
     }
 }
 
-/// Runs each row of a text up to its last line end. The run is strict (`true`).
-fn run_ended<W: Sink, O: Office>(
+/// Runs the rows of a text up to its last line end (`whole`: the part up to there). The run is strict (`true`).
+fn run_whole_lines<W: Sink, O: Office>(
     alloc: Global,
     writer: &mut W,
     now: Moment,
@@ -46,28 +46,27 @@ fn run_ended<W: Sink, O: Office>(
     ensures { StrictRan (LineCalls O.Office) now office.old office.new W.failed
         (W.contents writer.old) (W.contents writer.new) text.now result }
 {
-    let ended = ended_part(text);
-    match run_rows(alloc, writer, now, office, true, ended) {
-        Ok(Continuation::On) if ended.len() == text.len() => Ok(Ended::Whole),
+    let whole = whole_lines(text);
+    match run_rows(alloc, writer, now, office, true, whole) {
+        Ok(Continuation::On) if whole.len() == text.len() => Ok(Ended::Whole),
         Ok(Continuation::On) => Ok(Ended::NoLineEnd),
         Ok(Continuation::Refused(refused)) => Ok(Ended::Refused(refused)),
         Err(fault) => Err(fault),
     }
 }
 
-fn ended_part(mut text: &[u8]) -> &[u8]
-    ensures { result.now ≡ ended_part text.entry.now }
+fn whole_lines(mut text: &[u8]) -> &[u8]
+    ensures { result.now ≡ whole_lines text.entry.now }
 {
     while let [trimmed @ .., last] = text
-        && is_within(*last)
+        && is_no_line_end(*last)
     {
         text = trimmed;
     }
     text
 }
 
-/// Whether a byte is within a line: neither CR nor LF.
-fn is_within(byte: u8) -> bool
+fn is_no_line_end(byte: u8) -> bool
     ensures { result ≡ is_within byte }
 {
     byte != b'\r' && byte != b'\n'

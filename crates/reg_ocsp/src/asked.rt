@@ -1,23 +1,18 @@
-/// The CertIDs and the nonce of an OCSP request (RFC 6960 4.1.1, 4.4.1), as slices of its bytes.
+/// What an OCSP request asks for, as slices of its bytes: its CertIDs (RFC 6960 4.1.1), at least one and in their order, and its nonce (4.4.1).
 #[derive(Drop)]
 pub struct Asked<'a> {
-    /// The CertIDs, in the order of the request: at least one.
     pub ids: Vec<CertId<'a>>,
-    /// The contents of extnValue of the first nonce in requestExtensions, if they are 1 to 131 bytes. The response repeats them.
+    /// The contents of extnValue of the first nonce in requestExtensions, if 1 to 131 bytes (RFC 9654 2.1); else `None`. The response repeats them.
     pub nonce: Option<&'a [u8]>,
 }
 
-/// A certificate by its issuer's hashes and its serial number (CertID, RFC 6960 4.1.1).
+/// A certificate by its issuer's hashes and its serial number (CertID, RFC 6960 4.1.1). `raw` is the whole DER value, which the response repeats, and
+/// `algorithm` that of hashAlgorithm. The others are the contents of issuerNameHash, issuerKeyHash, and serialNumber (in the fewest octets).
 #[derive(Clone, Copy)]
 pub struct CertId<'a> {
-    /// The whole DER value, which the response repeats.
     pub raw: &'a [u8],
-    /// The whole DER value of hashAlgorithm, an AlgorithmIdentifier.
     pub algorithm: &'a [u8],
-    /// The contents of issuerNameHash.
     pub name_hash: &'a [u8],
-    /// The contents of issuerKeyHash.
     pub key_hash: &'a [u8],
-    /// The contents of serialNumber, an INTEGER in the fewest octets.
     pub serial: &'a [u8],
 }

@@ -1,4 +1,4 @@
-//! Compares the hashes of a CertID with an issuer, and reads the CertID's serial number (RFC 6960 4.1.1).
+//! Compares the hashes in a CertID with an issuer's Name and key, and gives the serial number in the CertID (RFC 6960 4.1.1).
 
 ghost use Rattle.std.specs.Prelude.{◌≡◌, ℕ, ◌↔◌, IsTrue, IfSome, IfNone};
 ghost use Rattle.sha1.specs.Sha1.{sha1};
@@ -27,8 +27,8 @@ const SHA256_NULL: [u8; 15] = [
     0x30, 0x0D, 0x06, 0x09, 0x60, 0x86, 0x48, 0x01, 0x65, 0x03, 0x04, 0x02, 0x01, 0x05, 0x00,
 ];
 
-/// The serial number of a CertID, if it is 1 to 2^159 - 1, and the hashes are the SHA-1, or the SHA-256, of the issuer's Name and key. The
-/// parameters of the hash algorithm may be NULL or left out. `None` for every other CertID.
+/// The serial number of a CertID, if it is 1 to 2^159 - 1 and the hashes are the SHA-1, or the SHA-256, of the issuer's Name and key; else `None`.
+/// The parameters of the hash algorithm may be NULL or left out.
 pub fn matches(issuer: &Issuer, id: &CertId<'_>) -> Option<Serial>
     ensures found { IfSome result (λ serial. IsMatch issuer.now (id_model id.now) serial) }
     ensures none { IfNone result ((serial : ℕ) → ¬ (IsMatch issuer.now (id_model id.now) serial)) }

@@ -1,4 +1,4 @@
-//! A certificate for OCSP responses, and its public key (RFC 5280 4.1.2.7).
+//! A certificate for OCSP responses, and how its public key is read (RFC 5280 4.1.2.7).
 
 ghost use Rattle.std.specs.Prelude.{◌≡◌, ◌≤◌, ℕ, List, Some, IfOk, IfSome, IsErrOf, length, option_map};
 ghost use Rattle.reg_der.specs.ValueReading.{AgreesWith};
@@ -11,15 +11,14 @@ use reg_der::values::{expect, optional, whole};
 use std::alloc::{AllocError, Global};
 use std::marker::Model;
 
+/// The most bytes of a certificate; [`LONGEST_KEY`]: the most bytes (not bits) of a subjectPublicKey.
 const LONGEST_CERTIFICATE: usize = 65_536;
 
-/// The most bytes (not bits) of a subjectPublicKey.
 const LONGEST_KEY: usize = 2_048;
 
-/// Why there is no [`Certificate`].
+/// Why there is no [`Certificate`]. `Bad`: [`subject_public_key`] reads no key in the bytes.
 #[derive(Clone, Copy, PartialEq, Eq)]
 pub enum CertificateFault {
-    /// The bytes are not a certificate with a public key that [`subject_public_key`] reads.
     Bad,
     Memory,
 }
@@ -95,12 +94,10 @@ impl Certificate {
     }
 }
 
-/// The public key of a certificate, in slices of the certificate's bytes.
+/// The public key of a certificate, in slices of its bytes: as [`Certificate::algorithm`] and [`Certificate::key`].
 #[derive(Clone, Copy)]
 pub struct SubjectPublicKey<'a> {
-    /// The whole DER value of the AlgorithmIdentifier in its subjectPublicKeyInfo.
     pub algorithm: &'a [u8],
-    /// The bits of its subjectPublicKey, without the octet that counts the unused bits: 1 to 2,048 bytes.
     pub key: &'a [u8],
 }
 
@@ -114,16 +111,16 @@ pub fn subject_public_key(certificate: &[u8]) -> Option<SubjectPublicKey<'_>>
     read_certificate(certificate)
 }
 
+// `expect` (the value must be there), `optional` and `whole` (nothing may follow) read the first DER value of some bytes, if it has a given tag.
 #[tactic(auto, unfolding(crate::specs::Certificate::certificate_at))]
 fn read_certificate(bytes: &[u8]) -> Option<SubjectPublicKey<'_>>
     ensures { AgreesWith key_model result (certificate_at bytes.now) }
 {
-    let part = tbs_contents(bytes)?;
-    let (info, _) = expect(SEQUENCE, after_subject(part)?)?;
+    let tbs = tbs_contents(bytes)?;
+    let (info, _) = expect(SEQUENCE, after_subject(tbs)?)?;
     key_info(info.contents)
 }
 
-/// The contents of the TBSCertificate of a certificate of at most 65,536 bytes.
 #[tactic(auto, unfolding(crate::specs::Certificate::tbs_contents_at))]
 fn tbs_contents(bytes: &[u8]) -> Option<&[u8]>
     ensures { AgreesWith (λ x. x.now) result (tbs_contents_at bytes.now) }
@@ -131,18 +128,18 @@ fn tbs_contents(bytes: &[u8]) -> Option<&[u8]>
     if bytes.len() > LONGEST_CERTIFICATE {
         return None;
     }
-    let (part, rest) = expect(SEQUENCE, whole(SEQUENCE, bytes)?)?;
+    let (tbs, rest) = expect(SEQUENCE, whole(SEQUENCE, bytes)?)?;
     let (_, rest) = expect(SEQUENCE, rest)?;
     whole(BIT_STRING, rest)?;
-    Some(part.contents)
+    Some(tbs.contents)
 }
 
-/// The fields after version, serialNumber, signature, issuer, validity and subject, in the contents of a TBSCertificate (`part`).
+/// The bytes after version, serialNumber, signature, issuer, validity and subject, in the contents of a TBSCertificate.
 #[tactic(auto, unfolding(crate::specs::Certificate::after_subject_at))]
-fn after_subject(part: &[u8]) -> Option<&[u8]>
-    ensures { AgreesWith (λ x. x.now) result (after_subject_at part.now) }
+fn after_subject(tbs: &[u8]) -> Option<&[u8]>
+    ensures { AgreesWith (λ x. x.now) result (after_subject_at tbs.now) }
 {
-    let (_, rest) = optional(TAGGED_0, part)?;
+    let (_, rest) = optional(TAGGED_0, tbs)?;
     let (_, rest) = expect(INTEGER, rest)?;
     let (_, rest) = expect(SEQUENCE, rest)?;
     let (_, rest) = expect(SEQUENCE, rest)?;
@@ -151,7 +148,6 @@ fn after_subject(part: &[u8]) -> Option<&[u8]>
     Some(rest)
 }
 
-/// The key and its algorithm, from the contents of a SubjectPublicKeyInfo.
 #[tactic(auto, unfolding(crate::specs::Certificate::key_info_at))]
 fn key_info(bytes: &[u8]) -> Option<SubjectPublicKey<'_>>
     ensures { AgreesWith key_model result (key_info_at bytes.now) }
@@ -165,7 +161,6 @@ fn key_info(bytes: &[u8]) -> Option<SubjectPublicKey<'_>>
     })
 }
 
-/// The bits in the contents of a BIT STRING; `None` if some are unused, or if there are no contents.
 fn without_unused_bits(contents: &[u8]) -> Option<&[u8]>
     ensures { AgreesWith (λ x. x.now) result (no_unused contents.now) }
 {

@@ -1,3 +1,5 @@
+//! An OCSP response that waits for its signature.
+
 ghost use Rattle.std.specs.Prelude.{◌≡◌, ◌^◌, ◌≤◌, IfOk, IfSome, length, option_copied, option_map};
 ghost use Rattle.reg_ocsp.specs.Drafts.{drafted_response};
 ghost use Rattle.reg_core.specs.Buffers.{ItemsOnOk};
@@ -8,14 +10,13 @@ use reg_der::copy_of;
 use std::alloc::Global;
 use std::marker::Model;
 
-/// The fields of a BasicOCSPResponse except the signature (RFC 6960 4.2.1; `message` is the ResponseData), and the public key of its signer, to
-/// check the signature's form. Nothing more is read from the register to complete the response, so it may change before the signature comes.
+/// The fields of a BasicOCSPResponse except the signature (RFC 6960 4.2.1): ResponseData (`message`), signatureAlgorithm, the certificate in `certs`
+/// (if any). `key` is the signer's public key, to check the signature's form. No later step reads the register: it may change before the signature.
 #[derive(Drop)]
 pub struct Draft {
     message: Vec<u8>,
     algorithm: Vec<u8>,
     key: Vec<u8>,
-    /// The certificate in `certs`, if there is one.
     certificate: Option<Vec<u8>>,
 }
 
@@ -37,8 +38,7 @@ impl Model for Draft {
 }
 
 impl Draft {
-    /// A draft with the ResponseData (at most 2^27 bytes), the AlgorithmIdentifier of the signature (at most 1,024), the signer's public key and the
-    /// certificate (at most 65,536), if there is one. [`Memory`] if out of memory.
+    /// Copies the ResponseData, the signature's AlgorithmIdentifier, the bits of the signer's subjectPublicKey, and the certificate, if any.
     pub fn of(
         alloc: Global,
         message: &[u8],
@@ -81,7 +81,7 @@ impl Draft {
         &self.algorithm
     }
 
-    /// The public key of the signer: the bits of its subjectPublicKey.
+    /// The bits of the subjectPublicKey of the signer.
     pub fn key(&self) -> &[u8]
         ensures { result.now ≡ self.now.key }
     {

@@ -1,3 +1,6 @@
+//! Checks the extensions of an OCSP request, and finds the nonce. The first DER value of some bytes is read by `expect` (it must be there),
+//! `optional`, `whole` (nothing may follow) or `last` (as `whole`, or there are no bytes), if it has a given tag.
+
 ghost use Rattle.std.specs.Prelude.{◌≡◌, ◌<◌, length, IfSome, option_copied};
 ghost use Rattle.reg_der.specs.ValueReading.{AgreesWith};
 ghost use Rattle.reg_ocsp.specs.RequestReading.{critical_at, extension_at, fields_at, flag_of, last_nonce_at, nonce_at, written_flag};
@@ -7,26 +10,25 @@ ghost use Rattle.reg_ocsp.specs.Views.{extension_model};
 use reg_der::tags::{BOOLEAN, OBJECT_IDENTIFIER, OCTET_STRING, SEQUENCE};
 use reg_der::values::{expect, last, optional, whole};
 
-/// id-pkix-ocsp-nonce, 1.3.6.1.5.5.7.48.1.2 (RFC 6960 4.4.1).
+/// The contents of the OID id-pkix-ocsp-nonce, 1.3.6.1.5.5.7.48.1.2 (RFC 6960 4.4.1).
 pub(crate) const NONCE: [u8; 9] = [0x2B, 0x06, 0x01, 0x05, 0x05, 0x07, 0x30, 0x01, 0x02];
 
-/// An Extension that is the nonce or is not critical.
+/// An Extension (RFC 5280 4.1) of an OCSP request that is the nonce or not critical: the contents of extnID, `critical` as it is encoded (`None` if
+/// it is left out, which means `false`), and the contents of extnValue.
 #[derive(Clone, Copy)]
 pub(crate) struct Extension<'a> {
     identifier: &'a [u8],
-    /// As it is written; `None` if it is left out, which means `false`.
     critical: Option<bool>,
-    /// The contents of the OCTET STRING.
     value: &'a [u8],
 }
 
-/// The value of the first nonce in `bytes`, which are empty or one Extensions value under this explicit tag. `Some(None)` if there is no nonce;
-/// `None` if `bytes` are anything else, or an Extension is refused ([`is_refused`]).
+/// The value of the first nonce in `bytes`. `bytes` must be empty, or one Extensions value with this explicit tag. `Some(None)` if there is no nonce;
+/// `None` if `bytes` are anything else, or if an Extension is refused ([`is_refused`]).
 #[tactic(auto, unfolding(crate::specs::RequestReading::last_nonce_at))]
 pub(crate) fn nonce_under(tag: u8, bytes: &[u8]) -> Option<Option<&[u8]>>
     ensures { AgreesWith (λ x. option_copied x) result (last_nonce_at tag bytes.now) }
 {
-    // `last` reads the one value that is left, if any.
+    // `last` reads the one value that is left, if any: hence the name `last_nonce_at` in the contract.
     written_nonce(last(tag, bytes)?)
 }
 
@@ -39,7 +41,7 @@ fn written_nonce(extensions: Option<&[u8]>) -> Option<Option<&[u8]>>
     }
 }
 
-/// The value of the first nonce in the bytes of one Extensions value. `Some(None)` if there is no nonce; `None` for any other bytes.
+/// The value of the first nonce in one Extensions value. `Some(None)` if it has none; `None` for any other bytes, or if an Extension is refused.
 #[tactic(auto, unfolding(crate::specs::RequestReading::nonce_at))]
 fn first_nonce(bytes: &[u8]) -> Option<Option<&[u8]>>
     ensures { AgreesWith (λ x. option_copied x) result (nonce_at bytes.now) }
@@ -56,7 +58,7 @@ fn first_nonce(bytes: &[u8]) -> Option<Option<&[u8]>>
     Some(nonce)
 }
 
-/// The first Extension, and the bytes after it.
+/// The first Extension, and the bytes after it. `None`, here and below, if the bytes are not as expected or the Extension is refused.
 #[tactic(auto, unfolding(crate::specs::RequestReading::extension_at))]
 fn next_extension(bytes: &[u8]) -> Option<(Extension<'_>, &[u8])>
     ensures exact { AgreesWith (λ x. (extension_model x.0, x.1.now)) result (extension_at bytes.now) }
@@ -67,7 +69,6 @@ fn next_extension(bytes: &[u8]) -> Option<(Extension<'_>, &[u8])>
     Some((extension, rest))
 }
 
-/// The Extension with these contents.
 #[tactic(auto, unfolding(crate::specs::RequestReading::fields_at))]
 fn extension_of(bytes: &[u8]) -> Option<Extension<'_>>
     ensures { AgreesWith extension_model result (fields_at bytes.now) }
@@ -86,14 +87,12 @@ fn extension_of(bytes: &[u8]) -> Option<Extension<'_>>
     })
 }
 
-/// Whether the OID is empty, or the extension is critical and not the nonce.
 fn is_refused(identifier: &[u8], critical: Option<bool>) -> bool
     ensures { result ≡ spec.is_refused identifier.now critical }
 {
     identifier.is_empty() || (critical.unwrap_or(false) && identifier != NONCE.as_slice())
 }
 
-/// `critical`, if it is written, and the bytes after it.
 #[tactic(auto, unfolding(crate::specs::RequestReading::critical_at))]
 fn critical(bytes: &[u8]) -> Option<(Option<bool>, &[u8])>
     ensures { AgreesWith (λ x. (x.0, x.1.now)) result (critical_at bytes.now) }
@@ -105,7 +104,7 @@ fn critical(bytes: &[u8]) -> Option<(Option<bool>, &[u8])>
     }
 }
 
-/// The value of a BOOLEAN with these contents (X.690 8.2.2, 11.1).
+/// The value of a BOOLEAN with these contents (X.690 8.2.2, 11.1); `None` if they are not DER.
 fn flag(contents: &[u8]) -> Option<bool>
     ensures { result ≡ flag_of contents.now }
 {

@@ -1,4 +1,4 @@
-//! Reads OCSP requests by their grammar, writes responses (RFC 6960 4), and reads the public key of a certificate (RFC 5280 4.1.2.7).
+//! Reads OCSP requests, writes OCSP responses (RFC 6960 4), and reads the public key of a certificate (RFC 5280 4.1.2.7).
 #![tactic(auto)]
 
 mod asked;

@@ -1,4 +1,5 @@
-//! Reads an OCSP request (RFC 6960 4.1.1).
+//! Reads an OCSP request (RFC 6960 4.1.1). The functions `expect` (the value must be there), `optional`, `whole` (nothing may follow) and `last`
+//! (as `whole`, or there are no bytes) read the first DER value of some bytes, if it has a given tag.
 
 ghost use Rattle.std.specs.Prelude.{◌≡◌, ℕ, List, Option, ◌≤◌, ◌<◌, length, IfOk, IfSome, IsErrOf, option_copied};
 ghost use Rattle.reg_der.specs.ValueReading.{AgreesWith, value_at};
@@ -18,7 +19,7 @@ use reg_der::take;
 use reg_der::values::{expect, last, optional, whole};
 use std::alloc::Global;
 
-/// The most bytes of a request: as many as the body of an HTTP request may have.
+/// In bytes: as many as the body of an HTTP request may have.
 const LONGEST_REQUEST: usize = 65_536;
 
 /// The INTEGER 0, which means version 1 (RFC 6960 4.1.1).
@@ -28,8 +29,8 @@ const VERSION_1: [u8; 3] = [0x02, 0x01, 0x00];
 const LONGEST_NONCE: usize = 131;
 
 /// Reads the CertIDs and nonce of an OCSPRequest: DER of at most 65,536 bytes, at least one CertID, no critical extension but the nonce. `Malformed`
-/// exactly for other bytes. Defaults (version v1, `critical` FALSE) may be encoded. Extensions may be empty; OIDs may not. Parameters, if any, are
-/// one value with a tag of one octet. OIDs that are not empty, requestorName, optionalSignature and extnValue may have any contents.
+/// exactly for other bytes. Defaults (version v1, `critical` FALSE) may be encoded, and Extensions may be empty. The parameters of hashAlgorithm, if
+/// any, are one value with a tag of one octet. OIDs (not empty), requestorName, optionalSignature and extnValue may have any contents.
 pub fn read_request(alloc: Global, bytes: &[u8]) -> Result<Asked<'_>, RequestFault>
     ensures found { IfOk result
         (λ a. IsOcspRequest bytes.now (ids_model a.ids.items) (option_copied a.nonce)) }
@@ -47,7 +48,7 @@ fn request(alloc: Global, bytes: &[u8]) -> Result<Asked<'_>, RequestFault>
     ensures { GivesUnlessMemory (λ a. (ids_model a.ids.items, option_copied a.nonce)) result
         (request_at bytes.now) }
 {
-    let Some((list, nonce)) = parts(bytes) else {
+    let Some((list, nonce)) = list_and_nonce(bytes) else {
         return Err(RequestFault::Malformed);
     };
     let ids = ids(alloc, list)?;
@@ -56,16 +57,16 @@ fn request(alloc: Global, bytes: &[u8]) -> Result<Asked<'_>, RequestFault>
 
 /// The contents of requestList, and the nonce to repeat, from an OCSPRequest of at most 65,536 bytes.
 #[tactic(auto, unfolding(crate::specs::RequestReading::parts_at))]
-fn parts(bytes: &[u8]) -> Option<(&[u8], Option<&[u8]>)>
+fn list_and_nonce(bytes: &[u8]) -> Option<(&[u8], Option<&[u8]>)>
     ensures { AgreesWith (λ x. (x.0.now, option_copied x.1)) result (parts_at bytes.now) }
 {
     if bytes.len() > LONGEST_REQUEST {
         return None;
     }
-    signed_parts(to_be_signed(bytes)?)
+    tbs_list_and_nonce(to_be_signed(bytes)?)
 }
 
-/// The contents of the TBSRequest in an OCSPRequest. Of optionalSignature only the tag and the length are checked.
+/// The contents of an OCSPRequest's TBSRequest. Of optionalSignature only the tag and the length are checked.
 #[tactic(auto, unfolding(crate::specs::RequestReading::tbs_at))]
 fn to_be_signed(bytes: &[u8]) -> Option<&[u8]>
     ensures { AgreesWith (λ x. x.now) result (tbs_at bytes.now) }
@@ -75,9 +76,9 @@ fn to_be_signed(bytes: &[u8]) -> Option<&[u8]>
     Some(signed.contents)
 }
 
-/// The contents of requestList, and the nonce to repeat, from the contents of a TBSRequest.
+/// As `list_and_nonce`, from the contents of a TBSRequest. `nonce_under` checks the extensions under the tag [2], and gives their first nonce.
 #[tactic(auto, unfolding(crate::specs::RequestReading::signed_at))]
-fn signed_parts(bytes: &[u8]) -> Option<(&[u8], Option<&[u8]>)>
+fn tbs_list_and_nonce(bytes: &[u8]) -> Option<(&[u8], Option<&[u8]>)>
     ensures { AgreesWith (λ x. (x.0.now, option_copied x.1)) result (signed_at bytes.now) }
 {
     let (list, rest) = list(bytes)?;
@@ -85,7 +86,7 @@ fn signed_parts(bytes: &[u8]) -> Option<(&[u8], Option<&[u8]>)>
     Some((list, echoed_nonce(nonce)))
 }
 
-/// The contents of requestList in the contents of a TBSRequest, and the bytes after it. Of requestorName only the tag and the length are checked.
+/// From the contents of a TBSRequest: the contents of requestList, and the bytes after that field. Of requestorName only tag and length are checked.
 #[tactic(auto, unfolding(crate::specs::RequestReading::list_at))]
 fn list(bytes: &[u8]) -> Option<(&[u8], &[u8])>
     ensures { AgreesWith (λ x. (x.0.now, x.1.now)) result (list_at bytes.now) }
@@ -95,7 +96,6 @@ fn list(bytes: &[u8]) -> Option<(&[u8], &[u8])>
     Some((list.contents, rest))
 }
 
-/// The bytes after the version, which is 0 or left out.
 #[tactic(auto, unfolding(crate::specs::RequestReading::version_at))]
 fn after_version(bytes: &[u8]) -> Option<&[u8]>
     ensures { AgreesWith (λ x. x.now) result (version_at bytes.now) }
@@ -107,14 +107,12 @@ fn after_version(bytes: &[u8]) -> Option<&[u8]>
     }
 }
 
-/// The contents of the nonce's extnValue if they have 1 to 131 bytes: then the response repeats them.
 fn echoed_nonce(nonce: Option<&[u8]>) -> Option<&[u8]>
     ensures { option_copied result ≡ grammar.echoed_nonce (option_copied nonce.entry) }
 {
     nonce.filter(|value| !value.is_empty() && value.len() <= LONGEST_NONCE)
 }
 
-/// The CertIDs in the contents of requestList; `Malformed` if there is none.
 #[tactic(auto, unfolding(crate::specs::RequestReading::ids_at))]
 fn ids(alloc: Global, bytes: &[u8]) -> Result<Vec<CertId<'_>>, RequestFault>
     ensures { GivesUnlessMemory (λ ids. ids_model ids.items) result (ids_at bytes.now) }
@@ -146,7 +144,6 @@ fn single(bytes: &[u8]) -> Option<(CertId<'_>, &[u8])>
     Some((id, rest))
 }
 
-/// The CertID at the front, and the bytes after it.
 #[tactic(auto, unfolding(crate::specs::RequestReading::cert_id_at))]
 fn cert_id(bytes: &[u8]) -> Option<(CertId<'_>, &[u8])>
     ensures { AgreesWith (λ x. (id_model x.0, x.1.now)) result (cert_id_at bytes.now) }
@@ -164,7 +161,6 @@ fn cert_id(bytes: &[u8]) -> Option<(CertId<'_>, &[u8])>
     Some((id, rest))
 }
 
-/// issuerNameHash, issuerKeyHash, and the contents octets of serialNumber.
 #[tactic(auto, unfolding(crate::specs::RequestReading::hashes_and_serial_at))]
 fn hashes_and_serial(bytes: &[u8]) -> Option<(&[u8], &[u8], &[u8])>
     ensures { AgreesWith (λ x. (x.0.now, x.1.now, x.2.now)) result (hashes_and_serial_at bytes.now) }
@@ -187,7 +183,6 @@ fn serial(bytes: &[u8]) -> Option<&[u8]>
     }
 }
 
-/// The whole DER value of the AlgorithmIdentifier at the front, and the bytes after it.
 #[tactic(auto, unfolding(crate::specs::RequestReading::algorithm_at))]
 fn algorithm(bytes: &[u8]) -> Option<(&[u8], &[u8])>
     ensures { AgreesWith (λ x. (x.0.now, x.1.now)) result (algorithm_at bytes.now) }
@@ -200,7 +195,6 @@ fn algorithm(bytes: &[u8]) -> Option<(&[u8], &[u8])>
     Some((outer.raw, rest))
 }
 
-/// Whether the bytes are one value, or none.
 fn is_at_most_one(bytes: &[u8]) -> bool
     ensures { result ≡ read_all bytes.now (value_at bytes.now) }
 {

@@ -1,4 +1,4 @@
-//! Writes OCSP responses in DER (RFC 6960 4.2.1). Clauses `length_at_most` bound the bytes of all fields, with their tags and lengths.
+//! Writes OCSP responses in DER (RFC 6960 4.2.1). Clauses `length_at_most` bound the DER that a function gives or appends.
 
 ghost use Rattle.std.specs.Prelude.{◌≡◌, ◌+◌, ◌*◌, ◌^◌, ◌<◌, ◌≤◌, ◌%◌, length, None, IfOk, OnOk, IfSome, option_copied, sum_by};
 ghost use Rattle.std.specs.List.{flat_map};
@@ -24,14 +24,11 @@ use std::alloc::Global;
 /// id-pkix-ocsp-basic, 1.3.6.1.5.5.7.48.1.1 (RFC 6960 4.2.1).
 const BASIC: [u8; 9] = [0x2B, 0x06, 0x01, 0x05, 0x05, 0x07, 0x30, 0x01, 0x01];
 
-/// Why a response has no responseBytes (OCSPResponseStatus, RFC 6960 4.2.1).
+/// Why a response has no responseBytes (OCSPResponseStatus, RFC 6960 4.2.1): malformedRequest, internalError, or tryLater.
 #[derive(Clone, Copy, PartialEq, Eq)]
 pub enum RefusalStatus {
-    /// malformedRequest (1): the bytes are not a request.
     Malformed,
-    /// internalError (2): the responder failed.
     Internal,
-    /// tryLater (3): the responder can't answer at this time.
     TryLater,
 }
 
@@ -49,10 +46,9 @@ pub fn refusal(status: RefusalStatus) -> [u8; 5]
 }
 
 /// The ResponseData, which is to be signed (RFC 6960 4.2.1), of an issuer that is its own responder: responderID is the SHA-1 of the issuer's key.
-///
 /// producedAt and each thisUpdate are `now`, each nextUpdate is `next`. Each CertID is repeated byte for byte, in the order of `answers`. An expired
-/// certificate that isn't revoked is `good`, and the reason 0 (unspecified) is left out. There are at most 65,536 CertIDs with 65,536 bytes in all.
-/// `nonce`, the contents of its extnValue, has at most 131. `read_request` gives no more. [`Memory`] if out of memory.
+/// certificate that isn't revoked is `good`, and the reason 0 (unspecified) is left out. There are at most 65,536 CertIDs with 65,536 bytes in all;
+/// `nonce`, the contents of its extnValue, has at most 131 bytes. [`crate::read_request`] gives no more. [`Memory`] if out of memory.
 pub fn response_data(
     alloc: Global,
     issuer: &Issuer,
@@ -114,9 +110,8 @@ fn put_data_fields(
     put_nonce(alloc, out, nonce)
 }
 
-/// The whole OCSPResponse of status successful, with a BasicOCSPResponse (RFC 6960 4.2.1). `signed` is the DER of the ResponseData (at most
-/// 2^27 bytes), `algorithm` that of the signature's AlgorithmIdentifier (at most 1,024 bytes). `signature`, the contents of the BIT STRING without
-/// the octet that counts unused bits, has at most 65,536 bytes. [`Memory`] if out of memory.
+/// The whole OCSPResponse of status successful, with a BasicOCSPResponse (RFC 6960 4.2.1). `signed` is the DER of the ResponseData, `algorithm` the
+/// signature's AlgorithmIdentifier, `signature` the contents of the BIT STRING without their first octet. [`Memory`] if out of memory.
 pub fn basic(
     alloc: Global,
     signed: &[u8],
@@ -133,7 +128,7 @@ pub fn basic(
     basic_with(alloc, signed, algorithm, signature, None)
 }
 
-/// As [`basic`], with a certificate in `certs`, if there is one: its DER, at most 65,536 bytes (RFC 6960 4.2.1, 4.2.2.2).
+/// As [`basic`], with a certificate in `certs`, if there is one: its DER (RFC 6960 4.2.1, 4.2.2.2).
 #[tactic(auto, unfolding(crate::specs::Response::ocsp_response))]
 pub fn basic_with(
     alloc: Global,
@@ -169,7 +164,6 @@ fn successful_value(alloc: Global, bytes: &[u8]) -> Result<Vec<u8>, Memory>
     enclosed(alloc, SEQUENCE, &fields)
 }
 
-/// The ResponseBytes around the DER of a BasicOCSPResponse.
 fn response_bytes(alloc: Global, basic: &[u8]) -> Result<Vec<u8>, Memory>
     requires { length basic.now < 2 ^ 28 }
     ensures value { ItemsOnOk result (spec.response_bytes basic.now) }
@@ -237,7 +231,6 @@ fn put_basic_fields(
     put_certificate(alloc, out, certificate)
 }
 
-/// Appends the field `certs` with the certificate, if there is one.
 fn put_certificate(
     alloc: Global,
     out: &mut Vec<u8>,
@@ -264,7 +257,6 @@ fn put_responder(alloc: Global, out: &mut Vec<u8>, key: &[u8]) -> Result<(), Mem
     put(out, TAGGED_2, &hash)
 }
 
-/// Appends the field `responses`: a SingleResponse for each answer.
 fn put_answers(
     alloc: Global,
     out: &mut Vec<u8>,
@@ -354,7 +346,6 @@ fn put_revoked(alloc: Global, out: &mut Vec<u8>, at: Moment, reason: u8) -> Resu
     put(out, TAGGED_1, &info)
 }
 
-/// Appends the reason of a revocation, unless it is 0, unspecified (RFC 5280 5.3.1).
 fn put_reason(alloc: Global, out: &mut Vec<u8>, reason: u8) -> Result<(), Memory>
     ensures ok { AppendsOnOk out.old out.new result (reason_part reason) }
     ensures length_at_most { OnOk result (length out.new.items ≤ length out.old.items + 13) }
@@ -366,7 +357,6 @@ fn put_reason(alloc: Global, out: &mut Vec<u8>, reason: u8) -> Result<(), Memory
     put(out, TAGGED_0, &code)
 }
 
-/// Appends responseExtensions with the nonce, if there is one.
 fn put_nonce(alloc: Global, out: &mut Vec<u8>, nonce: Option<&[u8]>) -> Result<(), Memory>
     requires { IfSome (option_copied nonce) (λ value. length value ≤ 131) }
     ensures ok { AppendsOnOk out.old out.new result (spec.nonce_part (option_copied nonce.entry)) }

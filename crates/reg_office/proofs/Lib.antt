@@ -19,7 +19,7 @@ pub mod OpenedAgain
 pub mod Paging
 pub mod Responding
 pub mod Setting
-pub mod RowsTold
+pub mod ListedRows
 pub mod RegisterSummary
 pub mod Stopping
 pub mod ShowingNothingElse

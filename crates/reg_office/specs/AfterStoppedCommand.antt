@@ -14,6 +14,7 @@ use Rattle.reg_crl.specs.Signing.{Identity, signed_by}
 use Rattle.reg_office_api.specs.Signers.{Signs}
 use Rattle.reg_der.specs.Issuers.{with_key_identifier}
 use Rattle.reg_store_tables.specs.Kept.{ShowsKept}
+use Rattle.reg_store_tables.specs.Shows.{Shows}
 use Rattle.reg_store_tables.specs.AfterStop.{HaveRegisterSchema, ShowsDerivedAfterStop}
 use Rattle.reg_core_laws.specs.Run.{Happens, Run}
 use Rattle.reg_office.specs.Stands.{SoundFor, Stands, HasOutcome}
@@ -140,3 +141,8 @@ pub record LeavesReported {C : Type 0} (g : Ghosts C) (signs : Signs) (held : He
       → HaveRegisterSchema trees
       → ShowsDerivedAfterStop records trees
       ⊎ IsSomeAnd interrupted (λ call. IsCallDone signs identity records call trees)
+
+-- this holds of the records that the tables showed before look-ups, if the disk returned what was written
+abbrev pub HoldsOfShown : {C : Type 0} → Ghosts C → Held C → Held C → (Records → Type 0) → Type 0
+HoldsOfShown g old new IsSo =
+    (records : Records) → Shows g old records → HasCleanDisk (state g new) → IsSo records

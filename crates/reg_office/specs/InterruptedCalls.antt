@@ -92,7 +92,7 @@ InterruptsOnlyItself {C = C} g signs =
     × IfSome last (λ it. (changing call ≡ Some it) × HasNotChanged call)
 
 -- An office gets these calls, before which none was interrupted; the machine may stop in the last of them, or after it. The calls lead to the
--- records `after`. A stop leaves these, or those after the interrupted call, which is one of the calls: it failed, and so did each later one.
+-- records `after`. A stop leaves these, or those after the interrupted call. That is one of the calls, and failed; no later one changed records.
 abbrev pub InterruptsOneOfThem : {C : Type 0} → Ghosts C → Signs → Type 0
 InterruptsOneOfThem {C = C} g signs =
     (first last : Held C × OfficeSigners) (signers : OfficeSigners) (before : Records) (calls : List OfficeCall)

@@ -64,8 +64,8 @@ ShowsCallDone g signs held identity records (schedule_call steps) =
 ShowsCallDone g signs held identity records (identifier_call octets) =
     ShowsKept g held (with_key_identifier records octets)
 
--- if the machine stops, and a register is opened again from the rows that the disk kept, it shows these records, or those after the interrupted
--- call
+-- if the machine stops, and the rows that the disk kept are opened again, with a register's schema, the store shows these records, or those after
+-- the interrupted call
 abbrev pub OpensReported
     : {C : Type 0} → Ghosts C → Signs → Held C → Identity → Records → Option ChangingCall → Type 0
 OpensReported {C = C} g signs held identity records interrupted =

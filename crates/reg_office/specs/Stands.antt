@@ -22,7 +22,7 @@ pub record SoundFor (signs : Signs) (identity : Identity) (records : Records) : 
   pub rows : SoundRows records
   pub signatures : CrlsSigned (signed_since since signs identity) records
 
--- the tables show the records, the derived tables match them, and the records are sound for the office's signer
+-- while the connection is open, the tables show the records, and the derived tables match them; the records are sound for the office's signer
 pub record Stands {C : Type 0} (g : Ghosts C) (signs : Signs) (held : Held C) (identity : Identity)
     (records : Records) : Type 0 where
   pub shown : ShowsKept g held records

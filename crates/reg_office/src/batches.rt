@@ -1,4 +1,4 @@
-//! Runs commands in one transaction.
+//! Runs the commands of a batch inside one transaction, which `Office::run_batch` begins and ends.
 
 ghost use Rattle.std.specs.Prelude.{IfErr, IfOk};
 ghost use Rattle.reg_office.specs.Batches.{HappensWithin, RunsWithin, StopsBatch};
@@ -13,8 +13,8 @@ use sqlite::Alter;
 use std::alloc::Global;
 
 impl<C: Alter, S: Signer> Office<C, S> {
-    /// Runs commands inside the transaction that is under way, and returns one outcome for each. Errors, after which the transaction must be rolled
-    /// back: `Memory`; `Store`; `Signer` for a CRL, as no batch signs.
+    /// Runs the commands, each at its moment, and returns one outcome for each. Errors, after which the caller must roll the transaction back:
+    /// `Memory`; `Store`; `Signer` for the command `crl`, because a batch signs nothing.
     pub(crate) fn run_each(
         &mut self,
         alloc: Global,
@@ -41,8 +41,7 @@ impl<C: Alter, S: Signer> Office<C, S> {
         Ok(outcomes)
     }
 
-    /// Runs a command inside the transaction that is under way. A refusal is an outcome too, and so is a fault that leaves the transaction under
-    /// way. The errors are those of [`Office::run_each`].
+    /// Runs one command. `Ok` has its outcome: a reply, a refusal, or a failed look-up that leaves the transaction under way. `Err` ends the batch.
     fn run_within(&mut self, now: Moment, command: &Command) -> Result<Outcome, Fault>
         ensures ran { IfOk result (HappensWithin C.Store S.signs (S.identity self.old.signer)
             self.old.store self.new.store now command.now) }
@@ -58,11 +57,11 @@ impl<C: Alter, S: Signer> Office<C, S> {
             _ => match decide(&mut self.store, now, command) {
                 Ok((reply, change)) => match self.store.enter(now, &change) {
                     Ok(()) => Ok(Ok(reply)),
-                    // Also if out of memory: after any error of `enter` the batch stops, and the caller rolls it back.
+                    // `enter` writes the change. `Store` stands for its error `Memory` too: after either, the caller rolls back.
                     Err(_) => Err(Fault::Store),
                 },
                 Err(fault) => {
-                    // A failure of the database has ended the transaction.
+                    // If no transaction is under way now, a failure of the database has ended it.
                     if self.store.is_idle() {
                         return Err(Fault::Store);
                     }

@@ -1,5 +1,3 @@
-//! Decides the command `register`.
-
 ghost use Rattle.reg_core_laws.specs.Import.{register};
 ghost use Rattle.reg_office.specs.Looking.{DecidesCommand};
 
@@ -8,6 +6,8 @@ use reg_core::{CertRow, Change, Fault, Moment, Reply, decide_register};
 use reg_store::{Table, Tables};
 use sqlite::Alter;
 
+/// Decides the command `register` for the certificate `wanted`. `head`: now, the last accepted moment, the policy, the number of certificates.
+/// `by_order`: the registered certificate of the order, if any. `by_serial`: the registered one with the serial number, if any.
 pub(crate) fn register<C: Alter>(
     tables: &mut Tables<C>,
     now: Moment,

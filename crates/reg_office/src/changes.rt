@@ -1,5 +1,5 @@
-//! Pages of the changes feed: the rows after positions (how far a client's copy has got), at most `MOST_ROWS` in all. A table comes after those that
-//! it refers to, and has rows on a page only if all rows of the tables before it fit. If a page has no rows, it has the next CRL, if any.
+//! Pages of the changes feed: the rows after positions (how far a client's copy has got), at most `MOST_ROWS` (1,000) in all. A table comes after
+//! those that it refers to, and has rows on a page only if all rows of the tables before it fit. If a page has no rows, it has the next CRL, if any.
 
 ghost use Rattle.std.specs.Prelude.{◌≡◌, ◌-◌, length, option_map, IfErr, Some};
 ghost use Rattle.std.specs.List.{slice_get};
@@ -13,8 +13,8 @@ ghost use Rattle.reg_store_tables.specs.LookUps.{Learns, LooksUp};
 
 use reg_core::{CertRow, CrlRow, Fault, OrderRow, RequestRow, RevocationRow, SubscriberRow};
 use reg_core_lists::{
-    Declines, FeedCrl, FeedPage, FeedRows, MOST_ROWS, Positions, RowCounts, WINDOW, before_later,
-    digest_of, no_declines, put_head, zero_counts,
+    Declines, FeedCrl, FeedPage, FeedRows, MOST_ROWS, Positions, RowCounts, WINDOW, digest_of,
+    no_declines, put_head, revocations_until_next_crl, zero_counts,
 };
 use reg_der::Issuer;
 use reg_office_api::Changes;
@@ -23,7 +23,7 @@ use reg_store_tables::Entered;
 use sqlite::Alter;
 use std::alloc::Global;
 
-/// The page of the changes feed after the positions `after`; from the first row on for `None`.
+/// The page of the changes feed after the positions `after`; `None`: from the first row on.
 #[tactic(auto, using(crate::proofs::Composing::answer_of_fault))]
 pub(crate) fn changes_in<C: Alter>(
     tables: &mut Tables<C>,
@@ -73,7 +73,7 @@ fn changes_after<C: Alter>(
     Ok(Changes::Page(text))
 }
 
-/// The text of the page for a copy that has the first `counts` rows of the tables, and `declines` as declined requests.
+/// The text of the page for a copy with the first `counts` rows of the tables. `declines`: how many declined requests it has, and the last one's id.
 fn page_after<C: Alter>(
     tables: &mut Tables<C>,
     alloc: Global,
@@ -92,7 +92,7 @@ fn page_after<C: Alter>(
     Ok(text)
 }
 
-/// The lines before the rows: the issuer, the policy, and the last accepted moment.
+/// The lines before the rows: the feed's version, the issuer (`stored_name`: its Name, any key identifiers), the policy, the last accepted moment.
 fn head_in<C: Alter>(
     tables: &mut Tables<C>,
     alloc: Global,
@@ -115,9 +115,7 @@ fn head_in<C: Alter>(
     Ok(text)
 }
 
-// ---- the rows
-
-/// The rows of the page, or the next CRL. `Store` if a count would be above 2^64 - 1, which no register reaches.
+/// The rows of the page, or the next CRL if there are none. `Store` if a count would be above 2^64 - 1, which no register reaches.
 fn page_in<C: Alter>(
     tables: &mut Tables<C>,
     counts: &RowCounts,
@@ -135,7 +133,7 @@ fn page_in<C: Alter>(
     }
 }
 
-/// The declines that a page continues: these. If a request with an id up to their last one was declined since: none, and the feed has all again.
+/// The declined requests that the page omits, because the copy has them: `declines`; or none, if another up to `declines.last` was declined later.
 fn declines_in<C: Alter>(
     tables: &mut Tables<C>,
     declines: &Declines,
@@ -147,7 +145,6 @@ fn declines_in<C: Alter>(
     Ok(declines.if_counted(count))
 }
 
-/// The rows of a page, each table after those that it refers to, as many as fit.
 fn rows_in<C: Alter>(
     tables: &mut Tables<C>,
     counts: &RowCounts,
@@ -167,8 +164,8 @@ fn rows_in<C: Alter>(
     let declined = tables.declined_after(from.last, room)?;
     let room = left(room, &declined);
     let entered = tables.entered_after::<RevocationRow>(counts.revocations, room)?;
-    // A revocation that only a later CRL than the next one can list waits for a later page.
-    let revocations = before_later(entered, counts.crls);
+    // A revocation waits for a later page if the first CRL to list it comes after the copy's next one (`counts.crls` + 1).
+    let revocations = revocations_until_next_crl(entered, counts.crls);
     Ok(FeedRows {
         subscribers,
         orders,
@@ -179,14 +176,13 @@ fn rows_in<C: Alter>(
     })
 }
 
-/// How many rows more fit, after these, into a page with room for `room` rows.
 fn left<T>(room: u64, rows: &Vec<T>) -> u64
     ensures { result ≡ room - length rows.now.items }
 {
     room.saturating_sub(rows.len() as u64)
 }
 
-/// The CRL after the first `crls` ones, if there is one: CRLs have the numbers from 1 on.
+/// The CRL after the first `crls` ones, if any: CRLs are numbered from 1 on. `crls_after(crls, 1)` reads at most one row.
 fn next_crl<C: Alter>(tables: &mut Tables<C>, crls: u64) -> Result<Option<FeedCrl>, DatabaseFault>
     ensures { Learns C.Store tables.old tables.new result (λ records next.
         option_map feed_crl_of next ≡ slice_get records.crls crls) }
@@ -219,9 +215,7 @@ fn der_of<C: Alter>(tables: &mut Tables<C>, number: u64) -> Result<Vec<u8>, Data
     }
 }
 
-// ---- the digest of positions
-
-/// The digest of the positions with these counts (`digest_of`), by which a register recognizes its own history.
+/// The digest of positions with these counts: of issuer, counts, last rows and the last CRL's end. `changes_after` compares the copy's to it.
 fn digest_at<C: Alter>(
     tables: &mut Tables<C>,
     alloc: Global,
@@ -238,7 +232,7 @@ fn digest_at<C: Alter>(
     Ok(digest)
 }
 
-/// The last rows of each table up to the counts, at most `WINDOW` of each. `declined` is empty: the digest doesn't cover which requests are declined.
+/// The last rows of each table up to the counts, at most `WINDOW` (32) of each. `declined` is empty: no digest covers which requests are declined.
 fn windows_in<C: Alter>(
     tables: &mut Tables<C>,
     alloc: Global,
@@ -263,7 +257,7 @@ fn windows_in<C: Alter>(
     })
 }
 
-/// The last of the first `count` rows of the table with the rows `T`, at most `WINDOW`.
+/// The last of the first `count` rows of the table with the rows `T`, at most `WINDOW`. `entered_after` takes how many to skip, and the most to read.
 fn window_in<C: Alter, T: Entered>(
     tables: &mut Tables<C>,
     count: u64,

@@ -1,5 +1,3 @@
-//! Dispatches the commands that issue no CRL.
-
 ghost use Rattle.std.specs.Prelude.{◌≢◌, ◌<◌};
 ghost use Rattle.reg_core.specs.Calendar.{clock_end};
 ghost use Rattle.reg_core.specs.declared.command.Command.TheVariants.{Crl as IssueCrl};
@@ -14,7 +12,7 @@ use reg_core::{CertRow, Command, Fault, Moment};
 use reg_store::Tables;
 use sqlite::Alter;
 
-/// Decides a command of the moment `now` that issues no CRL: its refusal, or its reply and the change to make. No table changes.
+/// Decides a command at the moment `now`: its refusal, or its reply and the change to make. No table changes. (Not `crl`, which needs the signer.)
 pub(crate) fn decide<C: Alter>(
     tables: &mut Tables<C>,
     now: Moment,

@@ -1,4 +1,4 @@
-//! Makes and issues CRLs, and looks up issued ones.
+//! Makes, signs and stores CRLs, and looks up their DER. `row` has a CRL's number and thisUpdate. `crl_tbs` writes the TBSCertList (RFC 5280 5.1).
 
 ghost use Rattle.std.specs.Prelude.{◌≡◌, ◌≤◌, ◌<◌, ◌+◌, length, IsErrOf, IfOk, IfErr};
 ghost use Rattle.reg_office_api.specs.Items.{items_of};
@@ -61,7 +61,7 @@ fn signed_crl<S: Signer>(
     Ok(crl_whole(alloc, &tbs, signer.algorithm(), &signature)?)
 }
 
-// Requests the signature even during the signer's back-off, because the signer may just have been repaired.
+// Requests the signature even during the signer's back-off (the time after a timeout), because the signer may just have been repaired.
 fn signature_of<S: Signer>(
     alloc: Global,
     signer: &mut S,
@@ -76,7 +76,7 @@ fn signature_of<S: Signer>(
     signer.sign(alloc, message)
 }
 
-/// The row of the next CRL, and its nextUpdate; or the refusal of the command `crl`. `head` has the moments, the policy and the number of CRLs.
+/// The row of the next CRL, and its nextUpdate; or the refusal of `crl`. `head`: now, the last accepted moment, the policy, the number of CRLs.
 fn next_row<C: Alter>(tables: &mut Tables<C>, now: Moment) -> Result<(CrlRow, Moment), Fault>
     requires { now < clock_end }
     ensures { LooksAndDecides C.Store tables.old tables.new (λ records. refusal records now IssueCrl)
@@ -89,7 +89,7 @@ fn next_row<C: Alter>(tables: &mut Tables<C>, now: Moment) -> Result<(CrlRow, Mo
     Ok((row, next_update))
 }
 
-/// The issuer, and the entries of the CRL with a number.
+/// The issuer, and the entries of the CRL with this number. The CRL may be an issued one, or the next one.
 fn listed<C: Alter>(
     tables: &mut Tables<C>,
     number: u64,
@@ -104,7 +104,7 @@ fn listed<C: Alter>(
     Ok((issuer, entries))
 }
 
-/// The DER of the signed CRL with the number and the thisUpdate of a row, and how many entries it has.
+/// The DER of the signed CRL of a row, and how many entries it has.
 fn made_crl<C: Alter, S: Signer>(
     tables: &mut Tables<C>,
     signer: &mut S,
@@ -123,11 +123,11 @@ fn made_crl<C: Alter, S: Signer>(
 {
     let (issuer, entries) = listed(tables, row.number)?;
     let der = signed_crl(alloc, signer, &issuer, row, next_update, &entries)?;
-    let listed = entries.len() as u64;
-    Ok((der, listed))
+    let count = entries.len() as u64;
+    Ok((der, count))
 }
 
-/// The DER of the TBSCertList (RFC 5280 5.1.2) of the next CRL, for a signature that is requested before the command `crl` runs; or its refusal.
+/// The TBSCertList of the next CRL, whose signature is requested before `crl` runs; or the refusal of `crl`. `algorithm`: the signer's, in DER.
 pub(crate) fn next_message<C: Alter>(
     tables: &mut Tables<C>,
     alloc: Global,
@@ -151,7 +151,6 @@ pub(crate) fn next_message<C: Alter>(
     )?)
 }
 
-/// Issues a CRL. The CRL is made and signed before the store changes.
 pub(crate) fn issue_crl<C: Alter, S: Signer>(
     store: &mut Store<C>,
     signer: &mut S,
@@ -168,8 +167,7 @@ pub(crate) fn issue_crl<C: Alter, S: Signer>(
     Ok(Reply::Crl { number, entries })
 }
 
-/// The bytes of the CRL with a number; `NoCrl` if there is none.
-pub(crate) fn numbered<C: Alter>(tables: &mut Tables<C>, number: u64) -> Result<Vec<u8>, Fault>
+pub(crate) fn numbered_der<C: Alter>(tables: &mut Tables<C>, number: u64) -> Result<Vec<u8>, Fault>
     ensures looks { LooksUp C.Store tables.old tables.new (λ records.
         IsGiven records (Some number) (items_of result)) }
     ensures faults { IfErr result IsTableFault }
@@ -180,8 +178,7 @@ pub(crate) fn numbered<C: Alter>(tables: &mut Tables<C>, number: u64) -> Result<
     }
 }
 
-/// The bytes of the CRL that was issued last; `NoCrl` if there is none.
-pub(crate) fn latest<C: Alter>(tables: &mut Tables<C>) -> Result<Vec<u8>, Fault>
+pub(crate) fn latest_der<C: Alter>(tables: &mut Tables<C>) -> Result<Vec<u8>, Fault>
     ensures looks { LooksUp C.Store tables.old tables.new (λ records.
         IsGiven records None (items_of result)) }
     ensures faults { IfErr result IsTableFault }
@@ -189,7 +186,7 @@ pub(crate) fn latest<C: Alter>(tables: &mut Tables<C>) -> Result<Vec<u8>, Fault>
     match tables.latest_crl()? {
         Some(latest) => {
             let number = latest.number;
-            numbered(tables, number)
+            numbered_der(tables, number)
         }
         None => Err(Fault::Refused(Refusal::NoCrl)),
     }

@@ -15,7 +15,7 @@ use sqlite::Alter;
 /// The reply to a command that is accepted, and the one change that it makes.
 pub(crate) type Decided = (Reply, Change<'static>);
 
-/// The input of a decision besides its rows: the moments, the policy, and the number of rows of `table`, to which it would add one.
+/// The input of a decision besides its rows: `now`, the last accepted moment, the policy, and `held`, how many rows `table` has (one is to be added).
 pub(crate) fn head_at<C: Alter>(
     tables: &mut Tables<C>,
     now: Moment,
@@ -35,8 +35,7 @@ pub(crate) fn head_at<C: Alter>(
     })
 }
 
-/// The input for `decline` and `revoke`, which add no row to a table with a cap. These decisions use only the moments, so the policy and the row
-/// count are placeholders: neither is read from the tables.
+/// The input for `decline` and `revoke`, which use only its moments, as they add no row to a capped table. Its policy and `held` are placeholders.
 pub(crate) fn clock_head<C: Alter>(
     tables: &mut Tables<C>,
     now: Moment,
@@ -53,7 +52,6 @@ pub(crate) fn clock_head<C: Alter>(
     })
 }
 
-/// The certificate with a serial number, and its revocation; `None` for each that does not exist.
 pub(crate) fn certificate_of<C: Alter>(
     tables: &mut Tables<C>,
     serial: Serial,
@@ -67,7 +65,7 @@ pub(crate) fn certificate_of<C: Alter>(
     Ok((certificate, revocation))
 }
 
-/// Whether the number is below 10^18 and thisUpdate before `CLOCK_END` (in the year 9999), as reg_core requires. A register writes no others.
+/// Whether the number is below 10^18 (18 digits) and thisUpdate before `CLOCK_END` (9999-12-22), as reg_core requires. A register writes no others.
 fn can_be_written(crl: &CrlRow) -> bool
     ensures { IsTrue result → (crl.now.number < 10 ^ 18) × (crl.now.this_update < clock_end) }
 {

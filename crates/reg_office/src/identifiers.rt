@@ -1,5 +1,3 @@
-//! Sets the authority key identifier of CRLs (RFC 5280 5.2.1), from the next CRL on.
-
 ghost use Rattle.std.specs.Prelude.{◌≡◌, IfOk, IfSome, OnOk};
 ghost use Rattle.sqlite.specs.Held.{state};
 ghost use Rattle.sqlite.specs.State.{HasCleanDisk};
@@ -8,9 +6,8 @@ ghost use Rattle.reg_core.specs.Records.{Records};
 ghost use Rattle.reg_der.specs.Authority.{with_identifier, HasIdentifier};
 ghost use Rattle.reg_der.specs.Issuers.{with_key_identifier};
 ghost use Rattle.reg_store_tables.specs.Kept.{ShowsKept};
-ghost use Rattle.reg_store_tables.specs.Shows.{Shows};
 ghost use Rattle.reg_store_tables.specs.Stays.{Changed, Looked};
-ghost use Rattle.reg_office.specs.AfterStoppedCommand.{IsIdentified};
+ghost use Rattle.reg_office.specs.AfterStoppedCommand.{HoldsOfShown, IsIdentified};
 
 use reg_core::{CrlRow, Label};
 use reg_der::Issuer;
@@ -19,16 +16,14 @@ use sqlite::Alter;
 use std::alloc::Global;
 
 fn next_crl_number<C: Alter>(tables: &mut Tables<C>) -> Result<u64, DatabaseFault>
-    ensures found { (records : Records) → Shows C.Store tables.old records
-        → HasCleanDisk (state C.Store tables.new)
-        → IfOk result (λ number. number ≡ next_number records.crls) }
+    ensures found { HoldsOfShown C.Store tables.old tables.new
+        (λ records. IfOk result (λ number. number ≡ next_number records.crls)) }
     ensures looked { Looked C.Store tables.old tables.new }
 {
     let latest = tables.latest_crl()?;
     next_number_after(latest).ok_or(DatabaseFault::Store)
 }
 
-/// The number of the next CRL: 1 if there is no CRL yet; `None` if the latest one has the number `u64::MAX`.
 fn next_number_after(latest: Option<CrlRow>) -> Option<u64>
     ensures { IfSome result (λ number. number ≡ number_after latest) }
 {
@@ -38,18 +33,16 @@ fn next_number_after(latest: Option<CrlRow>) -> Option<u64>
     }
 }
 
-/// The issuer with a key identifier of these octets (1 to 64), which CRLs have from the next one, number `first`, on.
+/// The issuer with these octets (1 to 64) as the key identifier of CRLs from number `first` on; `first` is the next CRL's number.
 fn identified<C: Alter>(
     tables: &mut Tables<C>,
     alloc: Global,
     octets: Label,
 ) -> Result<Issuer, DatabaseFault>
-    ensures found { (records : Records) → Shows C.Store tables.old records
-        → HasCleanDisk (state C.Store tables.new)
-        → IfOk result (λ issuer. issuer ≡ with_identifier records.issuer (next_number records.crls) octets) }
-    ensures follows { (records : Records) → Shows C.Store tables.old records
-        → HasCleanDisk (state C.Store tables.new)
-        → OnOk result (HasIdentifier records.issuer (next_number records.crls) octets) }
+    ensures found { HoldsOfShown C.Store tables.old tables.new (λ records. IfOk result
+        (λ issuer. issuer ≡ with_identifier records.issuer (next_number records.crls) octets)) }
+    ensures follows { HoldsOfShown C.Store tables.old tables.new
+        (λ records. OnOk result (HasIdentifier records.issuer (next_number records.crls) octets)) }
     ensures looked { Looked C.Store tables.old tables.new }
 {
     let first = next_crl_number(tables)?;
@@ -60,7 +53,7 @@ fn identified<C: Alter>(
     }
 }
 
-/// Sets the key identifier that the issuer's CRLs have from the next one on. It replaces the one set before, or else the SHA-1 of the issuer's key.
+/// Sets the authority key identifier of CRLs (RFC 5280 5.2.1) from the next one on. It replaces the one set before, or the SHA-1 of the issuer's key.
 pub(crate) fn set_key_identifier<C: Alter>(
     store: &mut Store<C>,
     alloc: Global,

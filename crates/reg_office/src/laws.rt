@@ -12,9 +12,9 @@ ghost use Rattle.reg_office.specs.Shown.{SoundRun, AcceptedRevocation, IsShownEv
 use reg_crl::{CrlSigner, Signer};
 use sqlite::Alter;
 
-/// The main theorem, for any signer (RFC 5280 3.3, RFC 6960 2.2). A new register is sound (its rows fit together: reg_core `Sound`), and runs
-/// (lists of commands) keep it sound. The other clauses are about sound registers and runs. CRLs below some number may have the placeholder digest,
-/// made while there was no key. Clause `since`: the other clauses hold for a later run that signs each new CRL.
+/// The main theorem, for any signer (RFC 5280 3.3, RFC 6960 2.2). A new register is sound (its rows fit together: reg_core `Sound`), and runs (lists
+/// of commands) keep it sound. The other clauses are about sound registers and runs. In both, CRLs below some number may have the placeholder digest,
+/// made without a key. `parts`: a run can be cut in two. `since`: the clauses apply to a run from a sound register if the signer signs its new CRLs.
 pub fn headline<S: Signer>()
     ensures created { SignedOrDigest S.Signer CreatedSound }
     ensures since { (signer : S) → RunsSince S.signs (S.identity signer) }
@@ -53,8 +53,8 @@ pub fn decisions_are_steps<S: Signer>()
     ensures crls { Signed S.Signer CrlsAreSteps }
 {}
 
-/// A revoked certificate is shown as revoked everywhere from its revocation on: by its status, by OCSP (RFC 6960 2.2), and by each later CRL up
-/// to and including the first one past its notAfter (RFC 5280 3.3).
+/// A revoked certificate is shown as revoked from its revocation on: by its status, by OCSP (RFC 6960 2.2), and by each later CRL up to and
+/// including the first one past its notAfter (RFC 5280 3.3).
 pub fn a_revoked_certificate_is_shown_as_revoked_everywhere<S: Signer>()
     ensures { (signer : S) (run : SoundRun S.signs (S.identity signer)) (its : AcceptedRevocation run)
         → IsShownEverywhere its }
@@ -76,7 +76,7 @@ pub fn a_register_opened_after_a_stop_stands_before_or_after<C: Alter, S: Signer
     ensures { OpensBeforeOrAfter C.Store S.signs }
 {}
 
-/// A register opened after a stop in a run shows the records after a prefix of the commands. This prefix has each command reported as accepted.
+/// A register opened after a stop in a run shows the records after a prefix of the commands. Each command reported as accepted is in this prefix.
 pub fn a_register_opened_after_a_stop_stands_after_a_prefix<C: Alter, S: Signer>()
     ensures { OpensAfterAPrefix C.Store S.signs }
 {}

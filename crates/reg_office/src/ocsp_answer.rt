@@ -1,5 +1,4 @@
-//! The response to an OCSP request: its ResponseData is made from the register's tables. It is signed here, or left as a draft: an event
-//! loop can request a draft's signature, and answer other requests meanwhile.
+//! Makes the response to an OCSP request, or a draft, which lacks the signature. An event loop requests that, and answers other requests meanwhile.
 
 ghost use Rattle.std.specs.Prelude.{◌≡◌, ◌^◌, ◌≤◌, ◌↔◌, None, length, IfOk, IfSome, option_copied, unwrap_or};
 ghost use Rattle.reg_ocsp.specs.Request.{CanBeAnswered};
@@ -27,9 +26,8 @@ use reg_store::Tables;
 use sqlite::Alter;
 use std::alloc::Global;
 
-/// The response (RFC 6960 4.2.1) to the bytes of a request at a moment. If it needs a signature, and `Signer::public_key` is `Some`, it is a draft:
-/// the caller requests the signature from the signer's device. A delegate's own signer signs, not `signer`. No table changes.
-/// [`Memory`] if out of memory.
+/// The response (RFC 6960 4.2.1) to the bytes of a request. The signer of CRLs (`signer`) or the delegate's own signs it. If that signer has a
+/// `public_key`, it is a separate process: then a response to be signed is a draft, and the caller requests the signature. No table changes.
 pub(crate) fn begin_ocsp<C: Alter, S: Signer>(
     alloc: Global,
     tables: &mut Tables<C>,
@@ -57,7 +55,7 @@ pub(crate) fn begin_ocsp<C: Alter, S: Signer>(
     }
 }
 
-/// Signs a draft at once with the signer of OCSP responses, and returns the bytes of the response: internalError if the signer fails.
+/// Signs a draft at once with the signer of OCSP responses, and returns the response's bytes: internalError if the signer fails.
 pub(crate) fn sign_draft<S: Signer>(
     alloc: Global,
     signer: &mut S,
@@ -77,7 +75,7 @@ pub(crate) fn sign_draft<S: Signer>(
     draft.response(alloc, slice_of(&signature))
 }
 
-/// [`begin_ocsp`] with this signer of the response, and the responder's fields in the response.
+/// [`begin_ocsp`] with the signer of the response. `responder_fields` has the responder's key, if that isn't the issuer's, and its certificate.
 fn begin<C: Alter, S: Signer>(
     alloc: Global,
     tables: &mut Tables<C>,
@@ -115,6 +113,7 @@ fn begin<C: Alter, S: Signer>(
     }
 }
 
+/// A response without responseBytes, only with this status. For internalError, `kind` also says which failed, the store or the signer.
 fn refused(
     alloc: Global,
     status: RefusalStatus,
@@ -126,7 +125,7 @@ fn refused(
     Ok(ReadyOrUnsigned::Ready(OcspResponse { bytes, kind }))
 }
 
-/// The ResponseData for a request. Its ResponderID has the hash of the responder's own key, or else of the issuer's.
+/// The ResponseData for a request. Its ResponderID has the hash of the responder's key: `own_key`, or for `None` the issuer's key.
 fn ocsp_data<C: Alter>(
     alloc: Global,
     tables: &mut Tables<C>,
@@ -155,8 +154,7 @@ fn key_of<'a>(own: Option<&'a [u8]>, issuer: &'a Issuer) -> &'a [u8]
     }
 }
 
-/// The issuer, and the nextUpdate of an answer at this moment: the moment plus the life of OCSP answers. `Clock` if the clock checks refuse the
-/// moment, as when it is before the last accepted one.
+/// The issuer, and an answer's nextUpdate: `now` plus the policy's `life`. `Clock` if `now` is before the last accepted moment, or after 9999-12-21.
 fn issuer_and_next_update<C: Alter>(
     tables: &mut Tables<C>,
     now: Moment,
@@ -168,7 +166,7 @@ fn issuer_and_next_update<C: Alter>(
     Ok((issuer, now.plus(life)))
 }
 
-/// The response with a ResponseData: a draft if the signer's `public_key` is `Some`; else signed, or internalError if the signer fails.
+/// The response with a ResponseData (`message`): a draft if the signer's `public_key` is `Some`; else signed, or internalError if the signer fails.
 fn respond<S: Signer>(
     alloc: Global,
     signer: &mut S,

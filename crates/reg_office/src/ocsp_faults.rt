@@ -1,5 +1,3 @@
-//! The faults after which no ResponseData is made for a request that was read.
-
 ghost use Rattle.std.specs.Prelude.{◌≡◌, ◌⊎◌};
 ghost use Rattle.reg_office.specs.declared.ocsp_faults.ResponseFault.TheVariants as to;
 
@@ -7,7 +5,7 @@ use reg_core::{Memory, Refusal};
 use reg_store_tables::DatabaseFault;
 use std::alloc::AllocError;
 
-/// Why there is no ResponseData. `Clock`: the moment is before the last accepted one, or not before `Moment::CLOCK_END` (in the year 9999).
+/// Why a request gets no ResponseData. `Clock`: now is before the last accepted moment, or nextUpdate may pass 9999. `Store`: the database failed.
 #[derive(Clone, Copy, PartialEq, Eq)]
 pub(crate) enum ResponseFault {
     Clock,

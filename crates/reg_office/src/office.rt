@@ -1,11 +1,9 @@
-//! The office over a store: a register's tables, and the signers of its CRLs and OCSP answers.
-
 ghost use Rattle.std.specs.Prelude.{◌≡◌, None};
 ghost use Rattle.reg_office.specs.declared.responder.Responder.TheVariants.{Issuer};
 
 use crate::changes::changes_in;
 use crate::commands::decide;
-use crate::crls::{issue_crl, latest, next_message, numbered};
+use crate::crls::{issue_crl, latest_der, next_message, numbered_der};
 use crate::identifiers::set_key_identifier;
 use crate::ocsp_answer::{begin_ocsp, sign_draft};
 use crate::pages::page;
@@ -22,14 +20,11 @@ use reg_store::{DatabaseFault, Store};
 use sqlite::Alter;
 use std::alloc::Global;
 
-/// A register in a store, the signer of its CRLs, and the responder to OCSP requests. The office keeps its records only in the store's tables.
+/// A register's tables (`store`), the signer of its CRLs, and the responder to OCSP requests: that signer, or a delegate with its own signer.
 #[derive(Drop)]
 pub struct Office<C: Alter, S: Signer> {
-    /// The register's tables.
     pub store: Store<C>,
-    /// The signer of the CRLs.
     pub signer: S,
-    /// The responder to OCSP requests: the signer of the CRLs, or another one.
     pub responder: Responder<S>,
 }
 
@@ -112,8 +107,8 @@ impl<C: Alter, S: Signer> reg_office_api::Office for Office<C, S> {
 
     ghost answer_failures = { λ office. answer_failures_in S.Signer office };
 
-    /// If a disk failure during the commit closes the connection, the register has all of the change or none of it when it is opened again
-    /// (clause `ran`, in its `changed`). Until then no later call changes the records (`stops`).
+    /// If a disk failure during the commit closes the database connection, the register has all of the change or none of it when it is opened again
+    /// (clause `ran`: the field `changed` of `IsCommandRun`). Until then no later call changes the records (`stops`).
     fn run_one(&mut self, alloc: Global, now: Moment, command: &Command) -> Outcome
         ensures runs { OfficeLeads C.Store S.Signer
             (CommandStep S.signs now command.now result) self.old self.new }
@@ -141,8 +136,7 @@ impl<C: Alter, S: Signer> reg_office_api::Office for Office<C, S> {
         }
     }
 
-    /// If a disk failure during the commit closes the connection, the register has all of the batch or none of it when it is opened again
-    /// (`stops`). Until then no later call changes the records.
+    /// After a disk failure during the commit: as for `run_one`, with all of the batch or none of it (`stops`).
     fn run_batch(
         &mut self,
         alloc: Global,
@@ -162,7 +156,7 @@ impl<C: Alter, S: Signer> reg_office_api::Office for Office<C, S> {
                 Err(fault) => Err(Fault::from(fault)),
             },
             Err(fault) => {
-                // Rolls back. `end` returns only the error passed to it, which stands in for `fault`.
+                // Rolls back. `end` takes a `DatabaseFault`, which `fault` may not be, and returns it; that result is dropped.
                 let _ = self.store.end(Err(DatabaseFault::Store));
                 Err(fault)
             }
@@ -185,8 +179,7 @@ impl<C: Alter, S: Signer> reg_office_api::Office for Office<C, S> {
         Err(Fault::Refused(Refusal::ClockEnd))
     }
 
-    /// The OCSPResponse (RFC 6960 4.2.1): malformedRequest exactly if `IsOcspRequest` does not accept the bytes; else internalError if the store
-    /// or the signer fails, tryLater if the clock checks refuse the moment, or a signed response. [`Memory`] if out of memory.
+    /// As in the trait, with malformedRequest exactly for bytes with `IsNoOcspRequest` (clause `malformed`).
     fn ocsp(&mut self, alloc: Global, now: Moment, request: &[u8]) -> Result<Vec<u8>, Memory>
         ensures answers { OfficeLeads C.Store S.Signer
             (OcspStep S.signs now request.now (items_of result)) self.old self.new }
@@ -241,8 +234,8 @@ impl<C: Alter, S: Signer> reg_office_api::Office for Office<C, S> {
         ensures faults { IfErr result IsTableFault }
     {
         match number {
-            Some(number) => numbered(&mut self.store, number),
-            None => latest(&mut self.store),
+            Some(number) => numbered_der(&mut self.store, number),
+            None => latest_der(&mut self.store),
         }
     }
 
@@ -252,6 +245,7 @@ impl<C: Alter, S: Signer> reg_office_api::Office for Office<C, S> {
         ensures looks { OfficeLooks C.Store S.Signer (λ records. Unit {0}) self.old self.new }
         ensures untouched { SignsNothing self.old self.new }
     {
+        // Without a public key there is no signer process, from which a caller could request the signature first.
         if self.signer.public_key().is_none() || now >= Moment::CLOCK_END {
             return None;
         }
@@ -283,24 +277,30 @@ impl<C: Alter, S: Signer> reg_office_api::Office for Office<C, S> {
     }
 
     fn summary(&mut self) -> Result<RegisterSummary, Fault>
-        ensures looks { OfficeTells C.Store S.Signer (λ records. HasSummary records result) self.old self.new }
-        ensures looked { OfficeLooks C.Store S.Signer (λ records. HasSummary records result) self.old self.new }
+        ensures looks { OfficeTells C.Store S.Signer
+            (λ records. HasSummary records result) self.old self.new }
+        ensures looked { OfficeLooks C.Store S.Signer
+            (λ records. HasSummary records result) self.old self.new }
         ensures faults { IfErr result IsOfStore }
     {
         summary_in(&mut self.store)
     }
 
     fn last(&mut self) -> Result<Moment, Fault>
-        ensures looks { OfficeTells C.Store S.Signer (λ records. HasLastMoment records result) self.old self.new }
-        ensures looked { OfficeLooks C.Store S.Signer (λ records. HasLastMoment records result) self.old self.new }
+        ensures looks { OfficeTells C.Store S.Signer
+            (λ records. HasLastMoment records result) self.old self.new }
+        ensures looked { OfficeLooks C.Store S.Signer
+            (λ records. HasLastMoment records result) self.old self.new }
         ensures faults { IfErr result IsOfStore }
     {
         last_in(&mut self.store)
     }
 
     fn open_count(&mut self, now: Moment) -> Result<u64, Fault>
-        ensures looks { OfficeTells C.Store S.Signer (λ records. HasOpen records now result) self.old self.new }
-        ensures looked { OfficeLooks C.Store S.Signer (λ records. HasOpen records now result) self.old self.new }
+        ensures looks { OfficeTells C.Store S.Signer
+            (λ records. HasOpen records now result) self.old self.new }
+        ensures looked { OfficeLooks C.Store S.Signer
+            (λ records. HasOpen records now result) self.old self.new }
         ensures faults { IfErr result IsOfStore }
     {
         open_count_in(&mut self.store, now)

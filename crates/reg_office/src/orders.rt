@@ -1,5 +1,3 @@
-//! Decides the command `order`.
-
 ghost use Rattle.reg_core.specs.declared.command.Command.TheVariants.{Order as EnterOrder};
 ghost use Rattle.reg_office.specs.Looking.{DecidesCommand};
 
@@ -8,6 +6,7 @@ use reg_core::{Change, Fault, Moment, Reply, decide_order};
 use reg_store::{Table, Tables};
 use sqlite::Alter;
 
+/// Decides the command `order`. `head`: now, the last accepted moment, the policy, the number of orders. `known`: the subscriber, if there is one.
 pub(crate) fn enter_order<C: Alter>(
     tables: &mut Tables<C>,
     now: Moment,

@@ -1,5 +1,5 @@
-//! Pages of lists. A page reads the first rows after a key, at most as many as the caller allows, and returns those of them that the
-//! list selects. So the cost of a page is bounded, even if the list selects few rows.
+//! Pages of lists. A page reads the first rows past the key `after` (serial number, id or CRL number), at most `most`, and has those that the list
+//! selects. So its cost is bounded, even if the list selects few. `next`: the next page's cursor; `None` if this page read fewer than `most` rows.
 
 ghost use Rattle.std.specs.Prelude.{◌≡◌, ℕ, ◌+◌, ◌++◌, ◌∷◌, ◌-◌, ◌==◌, ◌&&◌, nat_lt, [], Some, None, cond, filter_map, min, option_map, IfOk, OnOk};
 ghost use Rattle.reg_core_lists.specs.Lists.{revoked_row};
@@ -30,7 +30,7 @@ pub(crate) enum ListById {
     Orders,
 }
 
-/// A page of a list from a cursor on, at a moment, over at most `most` rows of its table.
+/// A page of a list at the moment `now`; or `clock` refuses this moment. The cursor `from` has the list, and the key after which the page begins.
 pub(crate) fn page<C: Alter>(
     tables: &mut Tables<C>,
     alloc: Global,
@@ -46,7 +46,6 @@ pub(crate) fn page<C: Alter>(
     Ok(page_of(tables, alloc, now, from, most)?)
 }
 
-/// The page, without the clock checks.
 fn page_of<C: Alter>(
     tables: &mut Tables<C>,
     alloc: Global,
@@ -89,9 +88,7 @@ fn put(rows: &mut Vec<Row>, row: Option<Row>) -> Result<(), DatabaseFault>
     }
 }
 
-// ---- the lists by serial numbers
-
-/// A page of the certificates, or of the good ones whose notAfter is before a moment.
+/// A page of all certificates; with `before`, of the good ones whose notAfter is before it.
 fn certificates<C: Alter>(
     tables: &mut Tables<C>,
     alloc: Global,
@@ -156,7 +153,7 @@ fn certificate_listed<C: Alter>(
     }
 }
 
-/// The serial number of the last of these certificates, if there are `most` of them; else `None`: there are no more pages.
+/// The serial number of the last of these certificates, if there are `most` of them; else `None`, as there are no more pages.
 fn last_certificate(found: &[CertRow], most: u64) -> Option<Serial>
     ensures { result ≡ last_of_full (λ row. row.serial) most found.now }
 {
@@ -221,8 +218,6 @@ fn last_revocation(found: &[RevocationRow], most: u64) -> Option<Serial>
     }
 }
 
-// ---- the CRLs
-
 fn crls<C: Alter>(
     tables: &mut Tables<C>,
     alloc: Global,
@@ -267,9 +262,7 @@ fn last_crl(found: &[CrlRow], most: u64) -> Option<u64>
     }
 }
 
-// ---- the lists by ids
-
-/// A page of a list by ids: it reads the next `most` ids, up to the last one of the table.
+/// A page of a list by ids: it reads the ids `after + 1` to `end` (in the loop, `before + 1`). `held`: how many rows the table has, so its last id.
 fn page_by_ids<C: Alter>(
     tables: &mut Tables<C>,
     alloc: Global,
@@ -302,7 +295,6 @@ fn next_of(list: ListById, after: u64, end: u64, most: u64) -> Option<Cursor>
     None
 }
 
-/// The last id that a page reads, of a table with `held` rows.
 fn end_of(held: u64, after: u64, most: u64) -> u64
     ensures { result ≡ min held (after + most) }
 {
@@ -348,12 +340,12 @@ fn row_at<C: Alter>(
 {
     match list {
         ListById::OpenRequests => {
-            let open = request_at(tables, id)?;
-            open_row(tables, now, open)
+            let maybe_open = request_at(tables, id)?;
+            open_row(tables, now, maybe_open)
         }
         ListById::Overdue => {
-            let late = request_at(tables, id)?;
-            overdue_row(tables, now, late)
+            let maybe_overdue = request_at(tables, id)?;
+            overdue_row(tables, now, maybe_overdue)
         }
         ListById::Requests => {
             let request = request_at(tables, id)?;

@@ -1,4 +1,4 @@
-//! Answers queries. `clock` refuses one whose moment is before the last accepted one, or not before `Moment::CLOCK_END` (in the year 9999).
+//! Answers queries. `clock` refuses a query before the last accepted moment, and from `Moment::CLOCK_END` (9999-12-22) on.
 
 ghost use Rattle.std.specs.Prelude.{◌≡◌, ◌≤◌, ◌<◌, None, IfOk, IfSome, IsSome};
 ghost use Rattle.reg_core.specs.Calendar.{clock_end};
@@ -28,7 +28,6 @@ pub(crate) fn answer<C: Alter>(
     reply_to(tables, now, query)
 }
 
-/// The reply to a query at a moment that passed `clock`.
 fn reply_to<C: Alter>(tables: &mut Tables<C>, now: Moment, query: &Query) -> Result<Reply, Fault>
     ensures { LooksAndDecides C.Store tables.old tables.new
         (λ records. first_refusal (query_checks records query.now))
@@ -44,7 +43,7 @@ fn reply_to<C: Alter>(tables: &mut Tables<C>, now: Moment, query: &Query) -> Res
     }
 }
 
-/// The numbers of the first CRL that lists a serial number, issued or not, and of the last, if issued; `None` if the serial number is not revoked.
+/// Which CRL lists a serial number first (an issued one, or the next one), and which lists it last, if that is issued. `None` if it is not revoked.
 fn listing<C: Alter>(tables: &mut Tables<C>, serial: Serial) -> Result<Option<Listing>, Fault>
     ensures { LooksAndDecides C.Store tables.old tables.new
         (λ records. first_refusal (query_checks records (AskListing serial))) (λ records found.
@@ -56,7 +55,7 @@ fn listing<C: Alter>(tables: &mut Tables<C>, serial: Serial) -> Result<Option<Li
     }
 }
 
-/// The moment of the earliest revocation that no CRL lists yet, if any; `Store` from `CLOCK_END` on, which no register writes.
+/// The moment of the earliest revocation that no CRL lists yet, if any. `Store` if it is not before `CLOCK_END`: no register has such a row.
 fn earliest_unlisted<C: Alter>(tables: &mut Tables<C>) -> Result<Option<Moment>, DatabaseFault>
     ensures looks { Learns C.Store tables.old tables.new result (λ records at.
         at ≡ earliest (unlisted records)) }
@@ -69,7 +68,7 @@ fn earliest_unlisted<C: Alter>(tables: &mut Tables<C>) -> Result<Option<Moment>,
     }
 }
 
-/// The moment at which the next CRL is due; `None` if there is no CRL yet: then at once.
+/// The moment at which the next CRL is due; `None` if there is no CRL yet, because the first CRL is due at once.
 fn next_crl<C: Alter>(tables: &mut Tables<C>) -> Result<Option<Moment>, DatabaseFault>
     ensures { Learns C.Store tables.old tables.new result (λ records at. at ≡ due records) }
 {

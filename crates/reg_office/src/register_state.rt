@@ -1,11 +1,11 @@
-//! Look-ups for the front ends: the summary of a register, its open requests, and the longest validity for an order.
+//! Look-ups for front ends: a register's summary, open requests, longest validity for an order. `cap`: most rows of a table; `held`: how many it has.
 
 ghost use Rattle.std.specs.Prelude.{◌≡◌, ◌<◌, ◌^◌, IfErr};
 ghost use Rattle.reg_office_api.specs.LookUps.{HasLastMoment, HasRequestLoad, HasLongest, HasOpen, HasSummary, IsOfStore, rows_in};
 ghost use Rattle.reg_store_tables.specs.LookUps.{Learns, LooksUp};
 
 use reg_core::{Fault, Moment, Serial};
-use reg_office_api::{RegisterSummary, RequestLoad, Rows};
+use reg_office_api::{RegisterSummary, RequestLoad, TableSizes};
 use reg_store::{DatabaseFault, Table, Tables};
 use sqlite::Alter;
 
@@ -18,7 +18,6 @@ pub(crate) fn last_in<C: Alter>(tables: &mut Tables<C>) -> Result<Moment, Fault>
     Ok(last)
 }
 
-/// The summary of the register that the tables show.
 #[tactic(auto, using(crate::proofs::Composing::answer_of_fault))]
 pub(crate) fn summary_in<C: Alter>(tables: &mut Tables<C>) -> Result<RegisterSummary, Fault>
     ensures looks { LooksUp C.Store tables.old tables.new (λ records. HasSummary records result) }
@@ -37,8 +36,7 @@ pub(crate) fn summary_in<C: Alter>(tables: &mut Tables<C>) -> Result<RegisterSum
     })
 }
 
-/// How many rows each table has.
-fn table_rows<C: Alter>(tables: &mut Tables<C>) -> Result<Rows, DatabaseFault>
+fn table_rows<C: Alter>(tables: &mut Tables<C>) -> Result<TableSizes, DatabaseFault>
     ensures { Learns C.Store tables.old tables.new result (λ records rows. rows ≡ rows_in records) }
 {
     let subscribers = tables.held(Table::Subscribers)?;
@@ -46,7 +44,7 @@ fn table_rows<C: Alter>(tables: &mut Tables<C>) -> Result<Rows, DatabaseFault>
     let certificates = tables.held(Table::Certs)?;
     let requests = tables.held(Table::Requests)?;
     let crls = tables.held(Table::Crls)?;
-    Ok(Rows {
+    Ok(TableSizes {
         subscribers,
         orders,
         certificates,
@@ -55,7 +53,7 @@ fn table_rows<C: Alter>(tables: &mut Tables<C>) -> Result<Rows, DatabaseFault>
     })
 }
 
-/// The last accepted moment, the cap, how many requests there are, and how many for a serial number are open, counted up to `most`.
+/// The last accepted moment, the cap, how many requests there are, and how many for a serial number are open (`waiting`), counted up to `most`.
 #[tactic(auto, using(crate::proofs::Composing::answer_of_fault))]
 pub(crate) fn request_load_in<C: Alter>(
     tables: &mut Tables<C>,
@@ -89,6 +87,7 @@ pub(crate) fn open_count_in<C: Alter>(tables: &mut Tables<C>, now: Moment) -> Re
     Ok(count)
 }
 
+/// The longest validity in days that an order and the policy's schedule allow for a certificate with this notBefore; `None` for no such order.
 pub(crate) fn longest_in<C: Alter>(
     tables: &mut Tables<C>,
     order: u64,

@@ -1,4 +1,4 @@
-//! Decides the commands `request`, `decline` and `revoke`. `id` is the id of a request for revocation; `late`: after its deadline.
+//! Decides `request`, `decline`, `revoke` by rows and a `head` (moments, policy, row count). `id` is a request's. `late`: revoked after its deadline.
 
 ghost use Rattle.std.specs.Prelude.{◌<◌};
 ghost use Rattle.reg_core.specs.Calendar.{clock_end};
@@ -82,6 +82,7 @@ pub(crate) fn revoke<C: Alter>(
 {
     let head = clock_head(tables, now)?;
     let found = case_of(tables, id)?;
+    // The revocation's row has the number of the first CRL to list it: the next one, after `latest`.
     let latest = latest_crl(tables)?;
     let (row, late) = decide_revoke(
         &head,
@@ -90,7 +91,7 @@ pub(crate) fn revoke<C: Alter>(
         found.revocation,
         latest,
     )?;
-    // `decide_revoke` does not check that there is a certificate. Without one, the rows are not a register's, which has one for each request.
+    // `decide_revoke` does not check that there is a certificate. A register has one for each request, so a missing one is the fault `Store`.
     let not_after = found.certificate.ok_or(DatabaseFault::Store)?.not_after;
     Ok((Reply::Revoked { late }, Change::Revocation(row, not_after)))
 }

@@ -1,5 +1,3 @@
-//! The responder to OCSP requests for an office.
-
 ghost use Rattle.std.specs.Prelude.{◌≡◌, ◌≤◌, None, Some, IfSome, length, option_copied, option_map};
 ghost use Rattle.reg_office.specs.Answering.{failures_of};
 
@@ -11,20 +9,18 @@ use reg_ocsp::Certificate;
 pub enum Responder<S> {
     /// The signer of the office's CRLs. Each response includes the certificate, if there is one.
     Issuer(Option<Certificate>),
-    /// Another signer, with its own certificate, which each response includes.
+    /// Another signer, whose certificate each response includes.
     Delegate(S, Certificate),
 }
 
-/// The fields of a response that depend on its responder (RFC 6960 4.2.1).
+/// The fields of a response that depend on its responder (RFC 6960 4.2.1). `certificate`: the only one in the field `certs`, if any.
 #[derive(Clone, Copy)]
 pub(crate) struct ResponderFields<'a> {
     /// The bits of the subjectPublicKey whose SHA-1 is the ResponderID; `None` if the key is the issuer's.
     pub(crate) own_key: Option<&'a [u8]>,
-    /// The certificate that the response includes, if any.
     pub(crate) certificate: Option<&'a [u8]>,
 }
 
-/// The fields for the issuer as responder: named by its key, with the certificate, if there is one.
 pub(crate) fn of_issuer(certificate: &Option<Certificate>) -> ResponderFields<'_>
     ensures own { option_copied result.own_key ≡ None }
     ensures certificate { option_copied result.certificate ≡ option_map (λ it. it.der) certificate.now }
@@ -43,7 +39,6 @@ fn der_of(certificate: &Option<Certificate>) -> Option<&[u8]>
     Some(certificate.as_ref()?.der())
 }
 
-/// The fields for a responder with its own certificate: named by the key in it, with the certificate.
 pub(crate) fn of_delegate(certificate: &Certificate) -> ResponderFields<'_>
     ensures own { option_copied result.own_key ≡ Some certificate.now.key }
     ensures certificate { option_copied result.certificate ≡ Some certificate.now.der }
@@ -55,7 +50,7 @@ pub(crate) fn of_delegate(certificate: &Certificate) -> ResponderFields<'_>
     }
 }
 
-/// How many of its failures the signer of OCSP responses has counted; `crls` is the count of the signer of CRLs, which may be the same.
+/// How many failures the signer of OCSP responses has counted. `crls`: how many the signer of CRLs has counted. For `Issuer`, one signer signs both.
 pub(crate) fn failures_in<S: Signer>(responder: &Responder<S>, crls: u64) -> u64
     ensures { result ≡ failures_of S.failure_count crls responder.now }
 {

@@ -1,4 +1,4 @@
-//! The rows of lists: the fields of one record, and of the records that are looked up for it.
+//! The rows of lists. A `Listing` has the numbers of the first and the last CRL that list a serial number.
 
 ghost use Rattle.std.specs.Prelude.{◌≡◌, ◌-◌, Some, None, cond, nat_lt, option_map, IfOk};
 ghost use Rattle.reg_core.specs.Due.{deadline};
@@ -19,7 +19,7 @@ use reg_core_lists::{
 use reg_store::{DatabaseFault, Tables};
 use sqlite::Alter;
 
-// ---- records to which other records refer, or whose ids a page reads: a register has them all, so a missing one is the fault `Store`
+// Functions `.._at` look up a record that a register has, because another record refers to it or a page reads its id. If it is missing: `Store`.
 
 pub(crate) fn subscriber_at<C: Alter>(
     tables: &mut Tables<C>,
@@ -62,6 +62,7 @@ pub(crate) fn request_at<C: Alter>(
     request.ok_or(DatabaseFault::Store)
 }
 
+/// The subscriber of the order with this id.
 fn subscriber_of<C: Alter>(tables: &mut Tables<C>, id: u64) -> Result<SubscriberRow, DatabaseFault>
     ensures { Learns C.Store tables.old tables.new result (λ records subscriber.
         Some subscriber ≡ subscriber_of_order records id) }
@@ -69,8 +70,6 @@ fn subscriber_of<C: Alter>(tables: &mut Tables<C>, id: u64) -> Result<Subscriber
     let order = order_at(tables, id)?;
     subscriber_at(tables, order.subscriber)
 }
-
-// ---- certificates
 
 fn listing_of<C: Alter>(
     tables: &mut Tables<C>,
@@ -115,8 +114,8 @@ fn listed_certificate<C: Alter>(
     now: Moment,
     certificate: CertRow,
 ) -> Result<ListedCertificate, DatabaseFault>
-    ensures { Learns C.Store tables.old tables.new result (λ records line.
-        Some line ≡ listed_certificate records now certificate) }
+    ensures { Learns C.Store tables.old tables.new result (λ records listed.
+        Some listed ≡ listed_certificate records now certificate) }
 {
     let revocation = tables.revocation(certificate.serial)?;
     let subscriber = subscriber_of(tables, certificate.order)?;
@@ -124,7 +123,6 @@ fn listed_certificate<C: Alter>(
     Ok(listed_certificate_from(now, &certificate, revocation, subscriber, listing))
 }
 
-/// The row of a certificate in the list of all.
 pub(crate) fn certificate_row<C: Alter>(
     tables: &mut Tables<C>,
     now: Moment,
@@ -133,8 +131,8 @@ pub(crate) fn certificate_row<C: Alter>(
     ensures { Learns C.Store tables.old tables.new result (λ records row.
         row ≡ certificate_row records now certificate) }
 {
-    let line = listed_certificate(tables, now, certificate)?;
-    Ok(Some(Row::Certificate(line)))
+    let listed = listed_certificate(tables, now, certificate)?;
+    Ok(Some(Row::Certificate(listed)))
 }
 
 /// The row of a certificate in the list of good ones whose notAfter is before a moment; `None` if the list does not select it.
@@ -169,15 +167,15 @@ fn good_row<C: Alter>(
         row ≡ cond (is_good (status_at records now certificate))
         (certificate_row records now certificate) None) }
 {
-    let line = listed_certificate(tables, now, certificate)?;
-    Ok(row_if_good(line))
+    let listed = listed_certificate(tables, now, certificate)?;
+    Ok(row_if_good(listed))
 }
 
-fn row_if_good(line: ListedCertificate) -> Option<Row>
-    ensures { result ≡ cond (is_good line.status) (Some (kind.Certificate line)) None }
+fn row_if_good(listed: ListedCertificate) -> Option<Row>
+    ensures { result ≡ cond (is_good listed.status) (Some (kind.Certificate listed)) None }
 {
-    match line.status {
-        Status::Good => Some(Row::Certificate(line)),
+    match listed.status {
+        Status::Good => Some(Row::Certificate(listed)),
         _ => None,
     }
 }
@@ -203,8 +201,6 @@ pub(crate) fn revoked_row<C: Alter>(
     })))
 }
 
-// ---- requests
-
 /// The row of a request in the list of open ones; `None` if it is declined, or its certificate is not good.
 pub(crate) fn open_row<C: Alter>(
     tables: &mut Tables<C>,
@@ -220,8 +216,8 @@ pub(crate) fn open_row<C: Alter>(
     let certificate = certificate_at(tables, request.serial)?;
     let revocation = tables.revocation(request.serial)?;
     if is_good(now, &certificate, revocation) {
-        let line = listed_request(tables, &request, &certificate)?;
-        Ok(Some(Row::Request(line)))
+        let listed = listed_request(tables, &request, &certificate)?;
+        Ok(Some(Row::Request(listed)))
     } else {
         Ok(None)
     }
@@ -240,7 +236,7 @@ fn listed_request<C: Alter>(
 ) -> Result<ListedRequest, DatabaseFault>
     ensures { LooksUp C.Store tables.old tables.new (λ records.
         Some certificate.now ≡ certificate_in records.certificates request.now.serial
-        → IfOk result (λ line. Some line ≡ listed_request records request.now)) }
+        → IfOk result (λ listed. Some listed ≡ listed_request records request.now)) }
 {
     let due = due_of(request)?;
     let subscriber = subscriber_of(tables, certificate.order)?;
@@ -252,7 +248,7 @@ fn listed_request<C: Alter>(
     })
 }
 
-/// The deadline of a request. `Store` if it was received at `CLOCK_END` or later: a register has no such request.
+/// The deadline of a request. `Store` if it was received at `CLOCK_END` (9999-12-22) or later: a register has no such request.
 fn due_of(request: &RequestRow) -> Result<Moment, DatabaseFault>
     ensures due { IfOk result (λ due. due ≡ deadline request.now) }
 {
@@ -285,7 +281,7 @@ fn is_past(due: Moment, now: Moment) -> bool
     due < now
 }
 
-/// The row of a request in the list of all.
+/// The row of a request in the list of all requests.
 pub(crate) fn history_row<C: Alter>(
     tables: &mut Tables<C>,
     now: Moment,
@@ -296,11 +292,11 @@ pub(crate) fn history_row<C: Alter>(
 {
     let certificate = certificate_at(tables, request.serial)?;
     let revocation = tables.revocation(request.serial)?;
-    let line = listed_request(tables, &request, &certificate)?;
+    let listed = listed_request(tables, &request, &certificate)?;
     let status = status_of(now, Some(certificate), revocation);
-    let lateness = lateness_of(now, &request, &line.certificate, &status)?;
-    Ok(Some(Row::History(RequestWithState {
-        request: line,
+    let lateness = lateness_of(now, &request, &listed.certificate, &status)?;
+    Ok(Some(Row::AnyRequest(RequestWithState {
+        request: listed,
         status,
         lateness,
     })))
@@ -323,7 +319,7 @@ fn lateness_of(
     Ok(Some(until.secs().saturating_sub(due.secs())))
 }
 
-/// Until when a request that was not declined was open; `now` if it still is. `Unknown` does not occur: a request is for a registered certificate.
+/// The moment until which an undeclined request was open (`now` if it still is). `Unknown` does not occur, because its certificate is registered.
 fn open_until(now: Moment, certificate: &CertRow, status: &Status) -> Moment
     ensures { result ≡ open_until now certificate.now status.now }
 {
@@ -333,8 +329,6 @@ fn open_until(now: Moment, certificate: &CertRow, status: &Status) -> Moment
         Status::Good | Status::Unknown => now,
     }
 }
-
-// ---- orders
 
 pub(crate) fn order_row<C: Alter>(
     tables: &mut Tables<C>,

@@ -1,5 +1,3 @@
-//! Runs lists of commands.
-
 ghost use Rattle.std.specs.Prelude.{◌≡◌, ◌≤◌, length, OnErr, IsTrue};
 ghost use Rattle.sqlite.specs.Held.{state};
 ghost use Rattle.sqlite.specs.State.{HasCleanDisk, IsLive};
@@ -18,8 +16,8 @@ use sqlite::Alter;
 use std::alloc::Global;
 
 impl<C: Alter, S: Signer> Office<C, S> {
-    /// Runs commands in their order, each at its moment, and goes on after refusals and faults. Appends one outcome (the reply, refusal or fault) for
-    /// each command to `outcomes`. [`Memory`] if out of memory for the outcomes: then no command ran.
+    /// Runs commands in their order, each at its moment, and goes on after refusals and faults. Appends an outcome (reply, refusal or fault) for each
+    /// to `outcomes`. [`Memory`] if out of memory for the outcomes: then no command ran.
     pub fn run(
         &mut self,
         alloc: Global,
@@ -49,7 +47,7 @@ impl<C: Alter, S: Signer> Office<C, S> {
         };
         for (now, command) in commands {
             let outcome = self.run_one(alloc, *now, command);
-            // Can't fail: the capacity is reserved.
+            // Does not fail: the capacity is reserved.
             let Ok(()) = outcomes.push(outcome) else {
                 return Err(Memory);
             };

@@ -1,5 +1,3 @@
-//! The statuses of CertIDs and of serial numbers.
-
 ghost use Rattle.std.specs.Prelude.{◌≡◌, ◌⊎◌, map, IfOk, IfErr};
 ghost use Rattle.std.specs.List.{AllByRecursion};
 ghost use Rattle.reg_core.specs.Status as spec;
@@ -15,7 +13,7 @@ use reg_store::{DatabaseFault, Tables};
 use sqlite::Alter;
 use std::alloc::Global;
 
-/// Each CertID with its status at a moment, in their order.
+/// Each CertID with its status at the moment `now`, in their order.
 pub(crate) fn answers<'a, C: Alter>(
     alloc: Global,
     tables: &mut Tables<C>,
@@ -37,7 +35,7 @@ pub(crate) fn answers<'a, C: Alter>(
     Ok(answers)
 }
 
-/// The status for a CertID at a moment: that of its serial number, if the CertID identifies a certificate of the issuer; else `Unknown`.
+/// The status of the serial number, if the CertID identifies a certificate of the issuer; else `Unknown`.
 fn status_for_id<C: Alter>(
     tables: &mut Tables<C>,
     issuer: &Issuer,

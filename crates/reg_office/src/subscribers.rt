@@ -1,5 +1,3 @@
-//! Decides the command `subscriber`.
-
 ghost use Rattle.reg_core.specs.declared.command.Command.TheVariants.{Subscriber as EnterSubscriber};
 ghost use Rattle.reg_office.specs.Looking.{DecidesCommand};
 
@@ -8,6 +6,7 @@ use reg_core::{Change, Fault, Label, Moment, Reply, decide_subscriber};
 use reg_store::{Table, Tables};
 use sqlite::Alter;
 
+/// Decides the command `subscriber`. `head`: now, last accepted moment, policy, subscriber count. `by_name`: the subscriber with the name, if any.
 pub(crate) fn enter_subscriber<C: Alter>(
     tables: &mut Tables<C>,
     now: Moment,

@@ -16,7 +16,7 @@ use Rattle.reg_office_api.specs.Signers.{OfficeSigners}
 use Rattle.reg_office_api.specs.declared.changes.Changes.{Changes}
 use Rattle.reg_office_api.specs.declared.changes.Changes.TheVariants.{Page as PageOfChanges, Diverged}
 use Rattle.reg_office_api.specs.declared.register_summary.RequestLoad.{RequestLoad}
-use Rattle.reg_office_api.specs.declared.register_summary.Rows.{Rows}
+use Rattle.reg_office_api.specs.declared.register_summary.TableSizes.{TableSizes}
 use Rattle.reg_office_api.specs.declared.register_summary.RegisterSummary.{RegisterSummary}
 
 -- out of memory, or a failure of the store
@@ -26,7 +26,7 @@ IsOfStore Store = Unit {0}
 IsOfStore other = ⊥
 
 -- how many rows each table with a cap has
-abbrev pub rows_in : Records → Rows
+abbrev pub rows_in : Records → TableSizes
 rows_in records = record {
   subscribers = length records.subscribers;
   orders = length records.orders;

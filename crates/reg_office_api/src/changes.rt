@@ -1,9 +1,8 @@
-//! The answer to a request for the changes of a register after some positions, which say how far a copy of the register has got.
+//! The changes feed's answer to a client's positions (how far its copy of the register has got): the text of the page after the positions,
+//! or `Diverged` if the positions are not in the history of this register, as after it was restored from a backup.
 
 #[derive(Drop)]
 pub enum Changes {
-    /// The text of a page of the changes feed.
     Page(Vec<u8>),
-    /// The positions are not in the history of this register, as after the register was restored from a backup.
     Diverged,
 }

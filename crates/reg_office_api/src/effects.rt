@@ -34,7 +34,7 @@ impl StoreEffect {
     }
 }
 
-/// The kind of the reply to a line. `Accepted` also has answers to queries and OCSP requests; `Refused` also has words such as `bad-clock`.
+/// The kind of the reply to a line. `Accepted`: also if a query or an OCSP request is answered. `Refused`: also a failure without a code like `E01`.
 #[derive(Clone, Copy, PartialEq, Eq)]
 pub enum LineReply {
     Accepted,
@@ -43,13 +43,11 @@ pub enum LineReply {
     Fault,
 }
 
-/// The effects of a line, as the metrics count them.
+/// The kind of the reply to a line; whether the line requested a CRL's signature (`crl`) or an OCSP response's (`ocsp`); its effect on the store.
 #[derive(Clone, Copy, PartialEq, Eq)]
 pub struct LineEffects {
     pub reply: LineReply,
-    /// The signature of a CRL.
     pub crl: SignatureOutcome,
-    /// The signature of an OCSP response.
     pub ocsp: SignatureOutcome,
     pub store: StoreEffect,
 }

@@ -10,5 +10,5 @@ mod response;
 pub use changes::Changes;
 pub use effects::{LineEffects, LineReply, SignatureOutcome, StoreEffect};
 pub use office::Office;
-pub use register_summary::{RegisterSummary, RequestLoad, Rows};
+pub use register_summary::{RegisterSummary, RequestLoad, TableSizes};
 pub use response::{OcspResponse, ResponseKind};

@@ -1,4 +1,4 @@
-//! An office that keeps the records of a register.
+//! The trait `Office`, of types that keep a register's records and sign for it. `now` is the moment of a call, an `Outcome` its reply or `Fault`.
 
 use crate::changes::Changes;
 use crate::register_summary::{RegisterSummary, RequestLoad};
@@ -33,20 +33,19 @@ pub trait Office {
     /// `signs identity message signature`: the signer with this identity gave the signature for the message.
     ghost signs: { Identity → List ℕ → List ℕ → Type 0 };
 
-    /// How many failures the signer of the office's CRLs has counted.
+    /// How many failures the signer of the office's CRLs has counted; `answer_failures`: the signer of its OCSP answers.
     ghost failures: { Self → ℕ };
 
-    /// How many failures the signer of the office's OCSP answers has counted.
     ghost answer_failures: { Self → ℕ };
 
-    /// Runs a command at its moment. Errors, after which the office keeps its records: the first refusal that applies; `Memory`; `Store`;
-    /// `Signer`, only for a CRL, and only if the signer of CRLs counted a failure.
+    /// Runs a command. Errors, after which the records are as before: the first refusal that applies; `Memory`; `Store`; `Signer`, only for
+    /// the command `crl`, and only if the signer of CRLs counted a failure.
     fn run_one(&mut self, alloc: Global, now: Moment, command: &Command) -> Outcome
         ensures runs { Leads is_clean stands (CommandStep signs now command.now result) self.old self.new }
         ensures counts { IsErrOf result Signer → failures self.old < failures self.new };
 
     /// Runs commands in their order, each at its moment, in one transaction. A refused command changes nothing, and the next ones run. Errors, after
-    /// which no command has run: `Memory`; `Store`; `Signer` if a command issues a CRL, since a batch signs nothing.
+    /// which the records are as before: `Memory`; `Store`; `Signer` if a command issues a CRL, because a batch signs nothing.
     fn run_batch(
         &mut self,
         alloc: Global,
@@ -54,20 +53,18 @@ pub trait Office {
     ) -> Result<Vec<Outcome>, Fault>
         ensures { Leads is_clean stands (BatchStep signs commands.now result) self.old self.new };
 
-    /// Answers a query at its moment. Errors: the first refusal that applies; `Memory`; `Store`.
+    /// Answers a query. Errors: the first refusal that applies; `Memory`; `Store`.
     fn ask(&mut self, alloc: Global, now: Moment, query: &Query) -> Outcome
         ensures asks { Leads is_clean stands (QueryStep now query.now result) self.old self.new }
         ensures unsigned { ¬ (IsErrOf result Signer) };
 
-    /// The whole OCSPResponse (RFC 6960 4.2.1) to the bytes of a request at a moment: signed, or malformedRequest, internalError or tryLater
-    /// (RFC 6960 2.3), each when [`ResponseKind`](crate::ResponseKind) says. [`Memory`] if out of memory.
+    /// The OCSPResponse to the bytes of a request: signed, malformedRequest, internalError or tryLater ([`ResponseKind`](crate::ResponseKind)).
     fn ocsp(&mut self, alloc: Global, now: Moment, request: &[u8]) -> Result<Vec<u8>, Memory>
         ensures { Leads is_clean stands (OcspStep signs now request.now (items_of result))
             self.old self.new };
 
-    /// Begins the response of [`Office::ocsp`]: if the signer of OCSP answers has a public key, a response to sign is a draft, and the caller
-    /// requests its signature. A response with the placeholder digest is ready, and so is one without responseBytes, such as internalError if
-    /// there is no signer, which counts as a failure of the signer. [`Memory`] if out of memory.
+    /// Begins the response of [`Office::ocsp`]. `Unsigned`: a draft, for which the caller requests the signature. `Ready`: a response with the
+    /// placeholder digest or without responseBytes. If a signature is needed and there is no signer: internalError, and a failure is counted.
     fn begin_ocsp(
         &mut self,
         alloc: Global,
@@ -83,17 +80,16 @@ pub trait Office {
     fn crl_bytes(&mut self, alloc: Global, number: Option<u64>) -> Result<Vec<u8>, Fault>
         ensures { Leads is_clean stands (CrlStep number (items_of result)) self.old self.new };
 
-    /// The DER of the TBSCertList (RFC 5280 5.1.2) of the CRL that would be issued at a moment. `None` if none would be issued then, if the signer
-    /// of CRLs has no public key (as with the placeholder digest), if out of memory, or if the store fails. A caller can request its signature
-    /// before the command `crl` runs.
+    /// The DER of the TBSCertList (RFC 5280 5.1.2) that the command `crl` would sign, for a caller that requests the signature first. `None` if the
+    /// command would be refused, if the signer of CRLs has no public key (as with the placeholder digest), if out of memory, or if the store fails.
     fn crl_message(&mut self, alloc: Global, now: Moment) -> Option<Vec<u8>>
         ensures { Leads is_clean stands (λ signers before after. after ≡ before) self.old self.new };
 
-    /// A page of a list from a cursor on, at a moment. Reads at most `most` rows of its table. Errors: `ClockEnd`, `ClockBack`; `Memory`, `Store`.
+    /// The page at the cursor `from`: of the next `most` rows, those that its list selects. Errors: `ClockEnd`, `ClockBack`; `Memory`, `Store`.
     fn page(&mut self, alloc: Global, now: Moment, from: Cursor, most: u64) -> Result<Page, Fault>
         ensures { Leads is_clean stands (PageStep now most from result) self.old self.new };
 
-    /// The page of the changes feed after some positions, or from the first row on. Errors: `Memory`, `Store`.
+    /// The page of the changes feed after the positions of a client's copy; for `None` from the first row on. Errors: `Memory`, `Store`.
     fn changes(&mut self, alloc: Global, after: &Option<Positions>) -> Result<Changes, Fault>
         ensures looks { Looks is_clean stands (λ records. HasChanges records after.now result)
             self.old self.new }
@@ -109,13 +105,13 @@ pub trait Office {
         ensures looks { Looks is_clean stands (λ records. HasLastMoment records result) self.old self.new }
         ensures faults { IfErr result IsOfStore };
 
-    /// How many requests are open at a moment: not declined, and their certificates good. Goes through all requests. Errors: `Memory`, `Store`.
+    /// How many requests for revocation are open: not declined, and their certificates good. Scans all requests. Errors: `Memory`, `Store`.
     fn open_count(&mut self, now: Moment) -> Result<u64, Fault>
         ensures looks { Looks is_clean stands (λ records. HasOpen records now result) self.old self.new }
         ensures faults { IfErr result IsOfStore };
 
-    /// The last accepted moment, how full the requests table is, and how many requests for a serial number are open at a moment, counted up
-    /// to `most` (below 2^63, as SQL has no larger number). The call may go through all requests. Errors: `Memory`, `Store`.
+    /// The last accepted moment, how full the requests table is, and how many requests for a serial number are open, counted up to `most` (below
+    /// 2^63, as SQL has no larger number). The call may go through all requests. Errors: `Memory`, `Store`.
     fn request_load(&mut self, now: Moment, serial: Serial, most: u64) -> Result<RequestLoad, Fault>
         requires { most < 2 ^ 63 }
         ensures looks { Looks is_clean stands (λ records. HasRequestLoad records now serial most result)
@@ -127,15 +123,15 @@ pub trait Office {
         ensures looks { Looks is_clean stands
             (λ records. HasLongest records order not_before result) self.old self.new };
 
-    /// Sets the schedule of the longest validities, in days by notBefore. This is no command: nothing else changes, and at an error
-    /// nothing does. Errors: `Memory`, `Store`.
+    /// Sets the schedule of the longest validities, in days by notBefore. This is no command: no other record changes, not even the last accepted
+    /// moment. After an error, the records are as before. Errors: `Memory`, `Store`.
     fn set_schedule(&mut self, alloc: Global, schedule: Schedule) -> Result<(), Fault>
         ensures sets { Leads is_clean stands (λ signers. ReplacesSchedule schedule result)
             self.old self.new }
         ensures faults { IfErr result IsOfStore };
 
-    /// Sets the key identifier (1 to 64 octets) that the issuer's CRLs have from the next one on (RFC 5280 5.2.1). This is no command: nothing else
-    /// changes, and at an error nothing does. Errors: `Memory`, `Store`.
+    /// Sets the key identifier (1 to 64 octets) that the issuer's CRLs have from the next one on (RFC 5280 5.2.1). As for
+    /// [`Office::set_schedule`], no other record changes, and after an error the records are as before. Errors: `Memory`, `Store`.
     fn set_key_identifier(&mut self, alloc: Global, octets: Label) -> Result<(), Fault>
         ensures sets { Leads is_clean stands (λ signers. SetsKeyIdentifier octets result)
             self.old self.new }

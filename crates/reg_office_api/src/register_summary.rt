@@ -1,23 +1,21 @@
-//! Summaries of a register for the front ends.
+//! Summaries of a register for the front ends: `RegisterSummary` of all of it, `RequestLoad` of its requests for revocation.
 
 use reg_core::{CrlRow, Moment};
 
+/// `last`: the moment of the last accepted command, or [`Moment::EPOCH`] if there is none. `latest`: the CRL that was issued last, without its bytes.
+/// `crl_life`: the seconds from thisUpdate to nextUpdate of a CRL. `cap`: the most rows that each table of [`TableSizes`] may have.
 #[derive(Clone, Copy, PartialEq, Eq)]
 pub struct RegisterSummary {
-    /// The moment of the last accepted command; [`Moment::EPOCH`] if there is none.
     pub last: Moment,
-    /// The CRL that was issued last, without its bytes; `None` if there is none.
     pub latest: Option<CrlRow>,
-    /// The seconds from thisUpdate to nextUpdate of a CRL.
     pub crl_life: u64,
-    /// The most rows of each table that [`Rows`] counts.
     pub cap: u64,
-    pub rows: Rows,
+    pub rows: TableSizes,
 }
 
 /// How many rows each table with a cap has.
 #[derive(Clone, Copy, PartialEq, Eq)]
-pub struct Rows {
+pub struct TableSizes {
     pub subscribers: u64,
     pub orders: u64,
     pub certificates: u64,
@@ -25,15 +23,12 @@ pub struct Rows {
     pub crls: u64,
 }
 
-/// How full the requests table is, and how many requests for one serial number are open.
+/// `requests`: how many requests the requests table has, open or not. `waiting`: how many of them are open and for one serial number, counted up to
+/// the caller's limit. `last` and `cap` are as in [`RegisterSummary`].
 #[derive(Clone, Copy, PartialEq, Eq)]
 pub struct RequestLoad {
-    /// As in [`RegisterSummary`].
     pub last: Moment,
-    /// The most rows of the requests table.
     pub cap: u64,
-    /// How many requests the table has, open or not.
     pub requests: u64,
-    /// How many requests for the serial number are open, counted up to the caller's limit.
     pub waiting: u64,
 }

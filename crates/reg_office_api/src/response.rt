@@ -1,22 +1,18 @@
-//! An OCSP response and its kind.
-
 ghost use Rattle.std.specs.Prelude.{◌≡◌};
 ghost use Rattle.reg_office_api.specs.Responses.{signature_of as signature_by, store_of as store_by};
 
 use crate::effects::{SignatureOutcome, StoreEffect};
 
-/// The kind of an OCSP response (OCSPResponseStatus, RFC 6960 4.2.1). The two causes of internalError are kept apart.
+/// The kind of an OCSP response (OCSPResponseStatus, RFC 6960 4.2.1). internalError has two kinds: the store failed, or the signer did.
 #[derive(Clone, Copy, PartialEq, Eq)]
 pub enum ResponseKind {
     /// successful: signed, or, in a register without a key, with the placeholder digest.
     Signed,
-    /// malformedRequest: the bytes are no OCSP request that `IsOcspRequest` accepts (RFC 6960 4.1.1).
+    /// malformedRequest: the bytes are no OCSP request (RFC 6960 4.1.1) that reg_ocsp reads.
     Malformed,
     /// tryLater: the moment is before the last accepted one, or not before `Moment::CLOCK_END` (in the year 9999).
     TryLater,
-    /// internalError: the store failed.
     StoreFailure,
-    /// internalError: the signer failed.
     SignerFailure,
 }
 

@@ -1,3 +1,3 @@
 pub mod OpenedAgain
-pub mod Resting
+pub mod StopsOfOpenStores
 pub mod PublicLaws

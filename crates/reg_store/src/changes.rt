@@ -1,4 +1,4 @@
-//! The changes of a register, made by the functions of reg_store_changes. `now` is the moment of a change.
+//! The changes of a register. Each has the errors of the reg_store_changes function that it calls. The moment `now` becomes the last accepted one.
 
 ghost use Rattle.std.specs.Prelude.{◌≡◌, OnOk, not, true};
 ghost use Rattle.reg_core.specs.declared.change.Change.TheVariants.{Touch, Subscriber, Order, Certificate, Request, Decline, Revocation, Crl};
@@ -15,14 +15,14 @@ use reg_store_tables::DatabaseFault;
 use sqlite::Alter;
 
 impl<S: Alter> Store<S> {
-    /// Begins a transaction, whose changes [`Store::enter`] makes and [`Store::end`] commits. Errors: those of [`reg_store_changes::begin`].
+    /// Begins a transaction, whose changes [`Store::enter`] makes and [`Store::end`] commits.
     pub fn begin(&mut self) -> Result<(), DatabaseFault>
         ensures { BeginsTransaction S.Store self.old self.new result }
     {
         reg_store_changes::begin(&mut self.tables.connection)
     }
 
-    /// As [`Store::apply`], but inside the transaction that is under way. Errors: those of [`reg_store_changes::enter`].
+    /// As [`Store::apply`], but inside the transaction that is under way.
     pub fn enter(&mut self, now: Moment, change: &Change<'_>) -> Result<(), DatabaseFault>
         ensures made { MakesWithin S.Store self.old self.new result (Enters now change.now) }
         ensures stepped { StepsWithin S.Store self.old self.new }
@@ -38,24 +38,21 @@ impl<S: Alter> Store<S> {
         self.tables.connection.is_autocommit()
     }
 
-    /// Ends the transaction that is under way: commits it if `made`, the result of its changes, is `Ok`, or rolls it back and returns the error of
-    /// `made`. Errors of the commit: those of [`reg_store_changes::end`].
+    /// Ends the transaction that is under way: commits it if `made`, the result of its changes, is `Ok`; else rolls it back and returns that error.
     pub fn end(&mut self, made: Result<(), DatabaseFault>) -> Result<(), DatabaseFault>
         ensures { EndsTransaction S.Store self.old self.new made result }
     {
         reg_store_changes::end(&mut self.tables.connection, made)
     }
 
-    /// Makes a change at a moment, which becomes the last accepted one, in one transaction. Errors, here and of the methods up to
-    /// [`Store::add_crl`]: those of [`reg_store_changes::apply`].
+    /// Makes a change in a transaction of its own, by [`reg_store_changes::apply`], as do the methods below, down to [`Store::add_crl`].
     pub fn apply(&mut self, now: Moment, change: &Change<'_>) -> Result<(), DatabaseFault>
         ensures { MakesChange S.Store self.old self.new now change.now result }
     {
         reg_store_changes::apply(&mut self.tables.connection, now, change)
     }
 
-    /// Sets the last accepted moment; no other record changes. As after each change, the tables derived from the records match them at that moment:
-    /// certificates with an earlier notAfter have expired.
+    /// Changes only the last accepted moment. In tables derived from the records, good certificates whose notAfter is before `now` become expired.
     pub fn touch(&mut self, now: Moment) -> Result<(), DatabaseFault>
         ensures { MakesChange S.Store self.old self.new now Touch result }
     {
@@ -74,7 +71,6 @@ impl<S: Alter> Store<S> {
         self.apply(now, &Change::Order(row))
     }
 
-    /// Adds a certificate, with the status good.
     pub fn add_cert(&mut self, now: Moment, row: CertRow) -> Result<(), DatabaseFault>
         ensures { MakesChange S.Store self.old self.new now (Certificate row) result }
     {
@@ -94,7 +90,7 @@ impl<S: Alter> Store<S> {
         self.apply(now, &Change::Decline(id))
     }
 
-    /// Adds the revocation of a certificate, whose notAfter the caller gives. `Store` also if the certificate is not good.
+    /// Adds the revocation of a certificate, whose notAfter the caller gives. [`DatabaseFault::Store`] also if the certificate is not good.
     pub fn add_revocation(
         &mut self,
         now: Moment,
@@ -106,23 +102,21 @@ impl<S: Alter> Store<S> {
         self.apply(now, &Change::Revocation(row, not_after))
     }
 
-    /// Adds a CRL, with its DER, and records it as the last one to list each revocation that has no last CRL yet and whose certificate's notAfter
-    /// is before the CRL's thisUpdate.
+    /// Adds a CRL. If a revocation has no last CRL yet and its certificate's notAfter is before thisUpdate, records this CRL as its last one.
     pub fn add_crl(&mut self, now: Moment, row: CrlRow, der: &[u8]) -> Result<(), DatabaseFault>
         ensures { MakesChange S.Store self.old self.new now (Crl row der.entry) result }
     {
         self.apply(now, &Change::Crl(row, der))
     }
 
-    /// Sets the schedule of longest validities. The last accepted moment doesn't change. Errors: those of [`reg_store_changes::set_schedule`].
+    /// Sets the schedule of longest validities. The last accepted moment doesn't change.
     pub fn set_schedule(&mut self, schedule: Schedule) -> Result<(), DatabaseFault>
         ensures { SetsSchedule S.Store self.old self.new schedule result }
     {
         reg_store_changes::set_schedule(&mut self.tables.connection, &schedule)
     }
 
-    /// Sets the issuer's Name and key identifiers. The issuer must have the same key as before; the call doesn't check it. Nothing else changes,
-    /// not even the last accepted moment. Errors: those of [`reg_store_changes::set_issuer`].
+    /// Sets the issuer's Name and key identifiers, and nothing else. The issuer must have the same key as before; the call doesn't check the key.
     pub fn set_issuer(&mut self, issuer: &Issuer) -> Result<(), DatabaseFault>
         ensures { SetsIssuer S.Store self.old self.new issuer.now result }
     {

@@ -10,8 +10,7 @@ use reg_store_tables::{StoreFault, Tables};
 use sqlite::{Alter, Connection};
 use std::alloc::Global;
 
-/// The connection over which no store was created or opened, and why. The connection is in no transaction. Unless the disk failed, its
-/// tables are as they were.
+/// Why no store was created or opened, and the caller's connection, which is in no transaction. Unless the disk failed, the tables are as they were.
 #[derive(Drop)]
 pub struct Unopened<S: Alter> {
     pub fault: StoreFault,
@@ -40,8 +39,7 @@ impl<S: Alter> Store<S> {
         }
     }
 
-    /// Opens the register in a database. Tables of version 1 or 2 are migrated to version 3, the program's, in one transaction, and then
-    /// show the same records. Errors: those of [`reg_store_opening::open`].
+    /// Opens the register in a database. Version 1 or 2 is migrated to 3 in one transaction; the records stay. Errors as [`reg_store_opening::open`].
     pub fn open(alloc: Global, connection: Connection<S>) -> Result<Store<S>, Unopened<S>>
         requires { connection.in_transaction ≡ false }
         ensures opens { IfOk result (λ store. Opens S.Store connection store) }

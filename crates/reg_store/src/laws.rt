@@ -1,7 +1,5 @@
-//! Laws. Each function here does nothing: its contract is the law, which `rt check` proves.
-//!
-//! In the laws, `IsOpenedAgain` says that the machine stopped and the database was opened again; `restart` in reg_desk_files ensures it (`again`)
-//! over any disk that may lose unsynced writes. `IsLive` says that open databases are well-formed; sqlite's `Connection::schema` ensures it (`live`).
+//! Theorems about a machine that stops in a call: each is the contract of a function that does nothing. In the definitions, `IsOpenedAgain`: after a
+//! stop, the database was opened again (as reg_desk_files `restart` ensures); `IsLive`: if it is open, it obeys its schema (`Connection::schema`).
 
 ghost use Rattle.reg_store.specs.OpenedAgain.{OpensEmptyOrMade, OpensWithAnIssuer, OpensWithASchedule, OpensWithTheSame};
 
@@ -17,12 +15,12 @@ pub fn a_register_opened_after_a_stop_during_a_migration_shows_the_same_records<
     ensures { OpensWithTheSame S.Store }
 {}
 
-/// A register that is opened after a stop in `set_schedule` has the schedule before the call or the new one.
+/// A register that is opened after a stop in `set_schedule` has the schedule from before the call, or the new one.
 pub fn a_register_opened_after_a_stop_has_the_schedule_before_or_after<S: Alter>()
     ensures { OpensWithASchedule S.Store }
 {}
 
-/// A register that is opened after a stop in `set_issuer` has the issuer before the call or the new one.
+/// A register that is opened after a stop in `set_issuer` has the issuer from before the call, or the new one.
 pub fn a_register_opened_after_a_stop_has_the_issuer_before_or_after<S: Alter>()
     ensures { OpensWithAnIssuer S.Store }
 {}

@@ -7,9 +7,7 @@ use sqlite::{Alter, Connection};
 use std::marker::Model;
 use std::ops::{Deref, DerefMut};
 
-/// A register in an SQL database that `S` keeps, as in a file. Look-ups are the methods of [`Tables`], to which it dereferences; changes are its own.
-///
-/// Contracts see a store as its connection. So `Shows`, `ShowsKept` and other definitions for a connection apply to a store.
+/// A register in an SQL database that `S` stores, such as in a file. It derefs to [`Tables`] for look-ups. In contracts a `Store` is its connection.
 #[derive(Drop)]
 pub struct Store<S: Alter> {
     pub(crate) tables: Tables<S>,
@@ -55,7 +53,7 @@ impl<S: Alter> DerefMut for Store<S> {
 }
 
 impl<S: Alter> Store<S> {
-    /// Closes the store and returns its connection. The tables don't change.
+    /// Returns the store's connection as it is. The call closes and writes nothing.
     pub fn into_connection(self) -> Connection<S>
         ensures { result ≡ self }
     {

@@ -23,7 +23,7 @@ pub clears : (old new : State) (count : ℕ) → Ran CLEAR_STEPS.now [] old new 
 unfolding register_schema
 clears old new count ran base steps was =
     let gone = empties_rows CLEAR_STEPS.now [] old new count ran was.schema 10 longest refl clear_steps_means refl
-    (subst (AllByRecursion Rattle.reg_store_tables.proofs.Turning.IsKeyed) (sym was.rows) (stored_keyed stored_step (λ (step : ℕ × ℕ). step.0) (λ step. refl) steps)) in
+    (subst (AllByRecursion Rattle.reg_store_tables.proofs.Updates.IsKeyed) (sym was.rows) (stored_keyed stored_step (λ (step : ℕ × ℕ). step.0) (λ step. refl) steps)) in
     let spares = empties_spares longest old.now.trees new.now gone in
     record { schema = gone.keeps_schema; others = λ n known apart. spares.same n known apart ∙ was.others n known apart; rows = gone.rows }
 

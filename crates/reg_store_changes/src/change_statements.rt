@@ -1,5 +1,5 @@
 //! The steps of a change, inside a transaction. Three tables are derived from the records: `standing` has a state letter for each certificate (`G`
-//! good, `R` revoked, `X` expired), `kept` the counts of these letters, and `listed` the CRL entry of each revocation.
+//! good, `R` revoked, `X` expired), `kept` has the counts of these letters, `listed` each revocation's CRL entry. `last`: last accepted moment.
 
 ghost use Rattle.std.specs.Prelude.{◌≡◌, ◌+◌, length, IfOk, OnOk, true};
 ghost use Rattle.reg_core.specs.Changes.{touched, with_certificate, with_crl};
@@ -18,9 +18,10 @@ use reg_core::{CertRow, Change, Counts, CrlRow, Moment, RevocationRow};
 use reg_store_tables::{DatabaseFault, stored_counts_at_last};
 use sqlite::{Alter, Connection};
 
-/// The counts of good, revoked and expired certificates after `ended` good ones expired and the change was made. `Store` if one leaves 0..2^64 - 1.
+/// `counts` as they are once `ended` good certificates expire and the change is made. `Store` if a count would be below 0 or above 2^64 - 1.
 fn counts_after(counts: Counts, ended: usize, change: &Change<'_>) -> Result<Counts, DatabaseFault>
-    ensures shifted { IfOk result (λ next. next ≡ shifted counts ended (newly_revoked change.now) (added change.now)) }
+    ensures shifted { IfOk result (λ next. next
+        ≡ shifted counts ended (newly_revoked change.now) (added change.now)) }
 {
     let (newly_revoked, added) = revoked_and_added(change);
     let ended = ended as u64;
@@ -43,7 +44,6 @@ fn counts_after(counts: Counts, ended: usize, change: &Change<'_>) -> Result<Cou
     })
 }
 
-/// How many good certificates the change revokes, and how many it adds.
 fn revoked_and_added(change: &Change<'_>) -> (u64, u64)
     ensures { result ≡ (newly_revoked change.now, added change.now) }
 {
@@ -67,7 +67,6 @@ fn set_counts_and_last<S: Alter>(
     set_last(conn, now)
 }
 
-/// Adds a certificate, with the state letter `G` (good).
 fn register<S: Alter>(conn: &mut Connection<S>, row: CertRow) -> Result<(), DatabaseFault>
     ensures made { MakesWithin S.Store conn.old conn.new result
         (Turns (λ records. with_certificate records records.last row) (with_good row.serial row.not_after)) }
@@ -78,7 +77,7 @@ fn register<S: Alter>(conn: &mut Connection<S>, row: CertRow) -> Result<(), Data
     put_letter(conn, serial, not_after)
 }
 
-/// Adds a revocation and its row of `listed`, and sets the certificate's state letter to `R`. `Store` also if the letter was not `G`.
+/// Adds a revocation and its row of `listed`. Changes the certificate's letter from `G` to `R`; `Store` if it is not `G`. `not_after`: its notAfter.
 fn revoke<S: Alter>(
     conn: &mut Connection<S>,
     row: RevocationRow,
@@ -96,8 +95,7 @@ fn revoke<S: Alter>(
     }
 }
 
-/// Adds a CRL, and records it as the last one to list each revocation that has no last CRL yet and whose certificate's notAfter is before the
-/// CRL's thisUpdate (RFC 5280 3.3: an entry stays until a CRL after the certificate expired has it).
+/// Adds a CRL. It becomes the last CRL of each revocation that has none yet, if the certificate's notAfter is before thisUpdate (RFC 5280 3.3).
 fn issue<S: Alter>(conn: &mut Connection<S>, row: CrlRow, der: &[u8]) -> Result<(), DatabaseFault>
     ensures made { MakesWithin S.Store conn.old conn.new result
         (TurnsWhere (λ records. row.number ≡ length records.crls + 1)
@@ -110,8 +108,7 @@ fn issue<S: Alter>(conn: &mut Connection<S>, row: CrlRow, der: &[u8]) -> Result<
     set_last_listed(conn, number, this_update)
 }
 
-/// Writes the rows of a change (`Touch` has none), and those of `standing` and `listed`, in the transaction that is under way.
-fn put<S: Alter>(conn: &mut Connection<S>, change: &Change<'_>) -> Result<(), DatabaseFault>
+fn write_rows<S: Alter>(conn: &mut Connection<S>, change: &Change<'_>) -> Result<(), DatabaseFault>
     ensures made { ContinuesWithin S.Store conn.old conn.new result (Puts change.now) }
     ensures stepped { StepsWithin S.Store conn.old conn.new }
 {
@@ -127,10 +124,9 @@ fn put<S: Alter>(conn: &mut Connection<S>, change: &Change<'_>) -> Result<(), Da
     }
 }
 
-/// Makes a change at a moment, which becomes the last accepted one, inside the transaction that is under way. It sets the letters of good
-/// certificates whose notAfter is before that moment to expired, and writes the rows of the change. Then it sets the counts and the last accepted
-/// moment. Errors: `Memory`; `Store` if the database fails or refuses a row, a number is above 2^63 - 1, a count is missing or too small, the
-/// certificate to revoke is not good, or no transaction is under way. After an error, the transaction must be rolled back.
+/// Makes a change inside the transaction that is under way. Its moment, `now`, becomes the last accepted one. First, good certificates whose notAfter
+/// is before `now` get the letter `X`. Errors: `Memory`; `Store` if the database fails or refuses a row, a number is above 2^63 - 1, a count is
+/// missing or too small, the certificate to revoke is not good, or no transaction is under way. After an error, the caller must roll back.
 pub fn enter<S: Alter>(
     conn: &mut Connection<S>,
     now: Moment,
@@ -142,7 +138,7 @@ pub fn enter<S: Alter>(
 {
     let counts = stored_counts_at_last(conn)?;
     let ended = expire_ended(conn, now)?;
-    put(conn, change)?;
+    write_rows(conn, change)?;
     let next = counts_after(counts, ended, change)?;
     set_counts_and_last(conn, now, next)
 }

@@ -1,4 +1,4 @@
-//! Replaces the issuer's stored Name and the key identifiers after it, which its CRLs have instead of the SHA-1 of its key (RFC 5280 5.2.1).
+//! Replaces the column `name` of the table `office`: the issuer's Name, and after it the authority key identifiers that were set (RFC 5280 5.2.1).
 
 ghost use Rattle.reg_store_tables.specs.Stays.{Stepped};
 ghost use Rattle.reg_store_changes.specs.ChangeSteps.{ReplacesIssuer};
@@ -12,7 +12,6 @@ use reg_store_tables::write_statements::{commit, write};
 use sqlite::types::ValueRef;
 use sqlite::{Alter, Connection, Transaction};
 
-/// Writes the Name and the key identifiers into the column `name`.
 fn set_name<S: Alter>(tx: &mut Transaction<'_, S>, issuer: &Issuer) -> Result<(), DatabaseFault>
     ensures made { MakesRows S.Store tx.old tx.new result (ReplacesIssuer issuer.now) }
     ensures stepped { Stepped S.Store tx.old tx.new }
@@ -21,9 +20,8 @@ fn set_name<S: Alter>(tx: &mut Transaction<'_, S>, issuer: &Issuer) -> Result<()
     Ok(())
 }
 
-/// Replaces the issuer's Name and key identifiers, in a transaction of its own. The issuer must have the same key as before; the call doesn't check
-/// it. The call is no command: other records, the derived tables and the last accepted moment don't change. Errors: `Memory`; `Store` if the
-/// database fails, or if a transaction is under way. An error changes nothing, unless the disk failed in the commit.
+/// Replaces the issuer's Name and key identifiers, and nothing else, in a transaction of its own. The call does not check that the key is as before.
+/// Errors: `Memory`; `Store` if the database fails or a transaction is under way. An error changes nothing, unless the disk failed in the commit.
 pub fn set_issuer<S: Alter>(conn: &mut Connection<S>, issuer: &Issuer) -> Result<(), DatabaseFault>
     ensures { SetsIssuer S.Store conn.old conn.new issuer.now result }
 {

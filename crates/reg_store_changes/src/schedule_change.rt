@@ -30,9 +30,8 @@ fn write_schedule<S: Alter>(
     put_schedule_steps(tx, schedule.steps())
 }
 
-/// Sets the schedule, in a transaction of its own. The call is no command: other records, the derived tables, the last accepted moment and the
-/// column `days` of `office` (the longest validity at the register's creation) don't change. Errors: `Memory`; `Store` if the database fails, or
-/// if a transaction is under way. An error changes nothing, unless the disk failed in the commit.
+/// Sets the schedule in a transaction of its own. Nothing else changes, not even the column `days` of `office` (the longest validity at creation).
+/// Errors: `Memory`; `Store` if the database fails or a transaction is under way. An error changes nothing, unless the disk failed in the commit.
 pub fn set_schedule<S: Alter>(
     conn: &mut Connection<S>,
     schedule: &Schedule,

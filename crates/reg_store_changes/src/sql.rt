@@ -1,5 +1,5 @@
-//! The SQL of the statements of a change, over the tables of reg_store_tables `schema.rt`. An UPDATE without a WHERE is of a table with one row. One
-//! with a WHERE finds its rows by a key or an index, except `SET_LAST_LISTED`, which scans the table `listed`.
+//! The SQL of the statements of a change; reg_store_tables `schema.rt` has the tables, of which `office` and `kept` have one row. State letters:
+//! `G` good, `R` revoked, `X` expired. An UPDATE with a WHERE finds its rows by a key or an index, but `SET_LAST_LISTED` scans `listed`.
 
 pub(crate) const BEGIN: &str = "BEGIN";
 

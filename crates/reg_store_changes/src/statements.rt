@@ -1,5 +1,5 @@
-//! The statements of the changes, inside a transaction. Errors: `Memory`; `Store` if the database fails or refuses a row, if no transaction is under
-//! way, or for a number above 2^63 - 1 (SQL has no larger one).
+//! The statements of the changes, inside a transaction: `put_..` adds a row; `set_last` sets the last accepted moment. Errors: `Memory`; `Store` if
+//! the database fails or refuses a row, no transaction is under way, or a number is above 2^63 - 1.
 
 ghost use Rattle.std.specs.Prelude.{◌≡◌, ◌+◌, OnOk, length, true};
 ghost use Rattle.reg_core.specs.Changes.{touched, with_subscriber, with_order, with_certificate, with_request, with_declined, with_revocation, with_crl};
@@ -21,7 +21,7 @@ use reg_store_tables::write_statements::{
 use sqlite::types::ValueRef;
 use sqlite::{Alter, Connection};
 
-/// Sets the state letter of each certificate whose letter is `G` (good) and whose notAfter is before now to `X` (expired). Returns their number.
+/// Changes state letters from `G` (good) to `X` (expired), where the certificate's notAfter is before `now`. Returns how many it changed.
 pub fn expire_ended<S: Alter>(conn: &mut Connection<S>, now: Moment) -> Result<usize, DatabaseFault>
     ensures made { YieldsWithin S.Store conn.old conn.new result (TurnsCounted (with_expired now) (count_ended_before now)) }
     ensures stepped { StepsWithin S.Store conn.old conn.new }
@@ -30,7 +30,7 @@ pub fn expire_ended<S: Alter>(conn: &mut Connection<S>, now: Moment) -> Result<u
     write(conn, sql::EXPIRE_ENDED, &[sql_moment(now)])
 }
 
-/// Sets the state letter of the certificate with this serial number to `R` (revoked) if it is `G`. Returns how many were set: 0 or 1.
+/// Changes the state letter of the certificate with this serial number from `G` to `R` (revoked). Returns how many it changed: 0 or 1.
 pub fn mark_revoked<S: Alter>(
     conn: &mut Connection<S>,
     serial: Serial,
@@ -43,7 +43,7 @@ pub fn mark_revoked<S: Alter>(
     write(conn, sql::MARK_REVOKED, &[ValueRef::Blob(&bytes)])
 }
 
-/// Records this CRL as the last one to list each revocation that has no last CRL yet and whose certificate's notAfter is before `this_update`.
+/// Records the CRL `number` as the last CRL of each revocation that has none yet, if the certificate's notAfter is before `this_update`.
 pub(crate) fn set_last_listed<S: Alter>(
     conn: &mut Connection<S>,
     number: u64,
@@ -59,7 +59,6 @@ pub(crate) fn set_last_listed<S: Alter>(
     Ok(())
 }
 
-/// Sets the counts of good, revoked and expired certificates (the table `kept`).
 pub(crate) fn set_counts<S: Alter>(
     conn: &mut Connection<S>,
     counts: Counts,
@@ -75,7 +74,8 @@ pub(crate) fn set_counts<S: Alter>(
 }
 
 pub(crate) fn set_last<S: Alter>(conn: &mut Connection<S>, now: Moment) -> Result<(), DatabaseFault>
-    ensures made { MakesRowsWithin S.Store conn.old conn.new result (TurnsRecords (λ records. touched records now)) }
+    ensures made { MakesRowsWithin S.Store conn.old conn.new result (TurnsRecords
+        (λ records. touched records now)) }
     ensures stepped { StepsWithin S.Store conn.old conn.new }
 {
     write(conn, sql::SET_LAST, &[sql_moment(now)])?;
@@ -143,7 +143,6 @@ pub(crate) fn put_cert<S: Alter>(
     Ok(())
 }
 
-/// Adds the state letter `G` (good) of a certificate.
 pub(crate) fn put_letter<S: Alter>(
     conn: &mut Connection<S>,
     serial: Serial,
@@ -192,16 +191,16 @@ pub(crate) fn put_revocation<S: Alter>(
     let at = sql_moment(row.at);
     let reason = sql_reason(row.reason);
     let request = sql_number(row.request)?;
-    let first = sql_number(row.first)?;
+    let first_crl = sql_number(row.first)?;
     write(
         conn,
         sql::PUT_REVOCATION,
-        &[ValueRef::Blob(&serial), at, reason, request, first],
+        &[ValueRef::Blob(&serial), at, reason, request, first_crl],
     )?;
     Ok(())
 }
 
-/// Adds a revocation's row to the table `listed`, without a last CRL.
+/// Adds a revocation's CRL entry to the table `listed`, without a last CRL (`last_listed` is NULL). `not_after` is that of the certificate.
 pub(crate) fn put_listed<S: Alter>(
     conn: &mut Connection<S>,
     row: RevocationRow,
@@ -213,12 +212,12 @@ pub(crate) fn put_listed<S: Alter>(
     let serial = row.serial.bytes20();
     let at = sql_moment(row.at);
     let reason = sql_reason(row.reason);
-    let first = sql_number(row.first)?;
+    let first_crl = sql_number(row.first)?;
     let not_after = sql_moment(not_after);
     write(
         conn,
         sql::PUT_LISTED,
-        &[ValueRef::Blob(&serial), at, reason, first, not_after],
+        &[ValueRef::Blob(&serial), at, reason, first_crl, not_after],
     )?;
     Ok(())
 }

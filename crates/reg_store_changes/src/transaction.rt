@@ -1,5 +1,5 @@
-//! The call that makes a change, of any kind. Its contract says what the tables show afterwards only if the records are sound, the change fits
-//! them (`Fits`: a new row has the next id, say), and the moment is not before the last accepted one.
+//! The call that makes a change of any kind. Its contract says what the tables show afterwards, on three conditions: the records are sound; the
+//! change fits them (`Fits`; for example, a new row has the next id); the change's moment is not before the last accepted one.
 
 ghost use Rattle.reg_store_changes.specs.MadeChanges.{MakesChange};
 
@@ -9,8 +9,8 @@ use reg_core::{Change, Moment};
 use reg_store_tables::DatabaseFault;
 use sqlite::{Alter, Connection};
 
-/// Makes a change in a transaction of its own ([`enter`]). Errors: `Memory`; `Store`, also if a transaction is under way already. An error changes
-/// nothing, unless the disk failed in the commit.
+/// Makes a change at the moment `now`, in a transaction of its own. Errors: those of [`enter`]; `Store` also if a transaction is under way already.
+/// An error changes nothing, unless the disk failed in the commit.
 pub fn apply<S: Alter>(
     conn: &mut Connection<S>,
     now: Moment,

@@ -1,5 +1,4 @@
-//! Statements that write inside a transaction, on a connection that look-ups use as well. (A `Transaction` of the crate `sqlite` keeps its connection
-//! to itself, so they don't use one.)
+//! Begins and ends a transaction, and writes in it, by SQL. (`sqlite::Transaction` would borrow the connection, which look-ups between writes use.)
 
 ghost use Rattle.std.specs.Prelude.{◌≡◌, IfOk, OnOk, true};
 ghost use Rattle.sqlite.specs.Held.{state};
@@ -13,14 +12,14 @@ use reg_store_tables::DatabaseFault;
 use sqlite::types::ValueRef;
 use sqlite::{Alter, Connection};
 
-/// Runs a statement inside the transaction, and returns how many rows it wrote. Errors: `Memory`; `Store` if the database fails or refuses a row, or
-/// if a failure has ended the transaction.
+/// Runs a statement inside the transaction, and returns how many rows it wrote. `Store` also if a failure has ended the transaction.
 pub(crate) fn write<S: Alter>(
     conn: &mut Connection<S>,
     sql: &str,
     params: &[ValueRef<'_>],
 ) -> Result<usize, DatabaseFault>
-    ensures ran { IsWritingText sql.now → IsInTransaction (state S.Store conn.old) → HasCleanDisk (state S.Store conn.new)
+    ensures ran { IsWritingText sql.now → IsInTransaction (state S.Store conn.old)
+        → HasCleanDisk (state S.Store conn.new)
         → IfOk result (Ran sql.now (bound params.now) (state S.Store conn.old) (state S.Store conn.new)) }
     ensures stepped { IsWritingText sql.now → StepsWithin S.Store conn.old conn.new }
     ensures under_way { OnOk result (conn.old.in_transaction ≡ true) }
@@ -42,9 +41,8 @@ pub fn begin<S: Alter>(conn: &mut Connection<S>) -> Result<(), DatabaseFault>
     Ok(())
 }
 
-/// Ends the transaction that is under way: commits it if `made`, the result of its changes, is `Ok`, or rolls it back and returns that error. If the
-/// commit fails, the transaction is rolled back, unless the disk failed. Errors of the commit: `Memory`; `Store` if the database fails, or if
-/// an earlier failure has ended the transaction.
+/// Ends the transaction. `made` is the result of its changes. `Ok`: commits it. `Err`: rolls it back and returns this error. A failed commit is
+/// rolled back, unless the disk failed. Errors of the commit: `Memory`; `Store` if the database fails, or an earlier failure ended the transaction.
 pub fn end<S: Alter>(
     conn: &mut Connection<S>,
     made: Result<(), DatabaseFault>,
@@ -75,7 +73,7 @@ fn commit<S: Alter>(conn: &mut Connection<S>) -> Result<(), DatabaseFault>
     }
 }
 
-/// Rolls back the transaction that is under way, if one is. It drops an error, because its callers return the one that made them roll back.
+/// Rolls back the transaction, if one is under way. Ignores a failure to do so: each caller returns the error because of which it rolls back.
 fn roll_back<S: Alter>(conn: &mut Connection<S>)
     ensures { RollsBack S.Store conn.old conn.new }
 {

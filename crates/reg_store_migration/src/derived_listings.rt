@@ -17,19 +17,18 @@ use reg_store_tables::write_statements::{sql_moment, sql_number, sql_reason, wri
 use sqlite::types::ValueRef;
 use sqlite::{Alter, Transaction};
 
-/// Whether the CRL is not before number `first`, a revocation's first CRL, and is issued after its certificate's notAfter: no later CRL lists it.
-fn can_be_last_listing(crl: &CrlRow, first: u64, not_after: Moment) -> bool
-    ensures { result ≡ (nat_le first crl.now.number && nat_lt not_after crl.now.this_update) }
+fn can_be_last_listing(crl: &CrlRow, first_crl: u64, not_after: Moment) -> bool
+    ensures { result ≡ (nat_le first_crl crl.now.number && nat_lt not_after crl.now.this_update) }
 {
-    first <= crl.number && not_after < crl.this_update
+    first_crl <= crl.number && not_after < crl.this_update
 }
 
-/// The number of the last CRL that lists a revocation: the earliest, numbered `first` or more, with a thisUpdate after `not_after` (RFC 5280 3.3).
-/// `None` if it is not issued yet. Right only if, over `crls`, the numbers rise and the thisUpdates do not fall, because it is a binary search.
-fn last_listing(crls: &[CrlRow], first: u64, not_after: Moment) -> Option<u64>
-    ensures { AreIssued crls.now → result ≡ last_in crls.now first not_after }
+/// The number of the last CRL that lists a revocation (RFC 5280 3.3); `None` if this CRL is not issued yet. It is the first one, from number
+/// `first_crl` on, whose thisUpdate is after `not_after`. The binary search needs `crls` sorted by number and by thisUpdate.
+fn last_listing(crls: &[CrlRow], first_crl: u64, not_after: Moment) -> Option<u64>
+    ensures { AreIssued crls.now → result ≡ last_in crls.now first_crl not_after }
 {
-    let at = crls.partition_point(|crl| !can_be_last_listing(crl, first, not_after));
+    let at = crls.partition_point(|crl| !can_be_last_listing(crl, first_crl, not_after));
     match crls.get(at) {
         Some(crl) => Some(crl.number),
         None => None,
@@ -94,7 +93,6 @@ fn rebuild_listed_rows<S: Alter>(
     Ok(())
 }
 
-/// Inserts each revocation's row into `listed`, which has no rows so far.
 pub(crate) fn rebuild_listed<S: Alter>(tx: &mut Transaction<'_, S>) -> Result<(), DatabaseFault>
     ensures made { ContinuesRows S.Store tx.old tx.new result Relists }
     ensures stepped { Stepped S.Store tx.old tx.new }

@@ -1,4 +1,4 @@
-//! Rebuilds the derived tables from the records.
+//! Rebuilds the derived tables from the records: `standing` (each certificate's state letter), `kept` (the letters' counts), `listed` (CRL entries).
 
 ghost use Rattle.reg_store_tables.specs.Stays.{Stepped};
 ghost use Rattle.reg_store_tables.specs.Steps.{Makes, MakesRows};
@@ -20,7 +20,7 @@ fn fill_letters<S: Alter>(tx: &mut Transaction<'_, S>, last: Moment) -> Result<(
     Ok(())
 }
 
-/// Fills the derived tables, which have only counts of 0 so far, as of the last accepted moment, `last`.
+/// Fills the derived tables as of the last accepted moment, `last`. Before the call, their only row is that of `kept`, with counts of 0.
 pub(crate) fn rebuild_derived_tables<S: Alter>(
     tx: &mut Transaction<'_, S>,
     last: Moment,

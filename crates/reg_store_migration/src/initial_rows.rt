@@ -1,4 +1,4 @@
-//! Makes the tables of version 3 from those of an older version; `derived_tables` then fills the derived ones.
+//! Adds to an older version the tables of version 3 that it lacks, with their first rows. `derived_tables.rt` then fills the derived tables.
 
 ghost use Rattle.reg_store_tables.specs.Stays.{Stepped};
 ghost use Rattle.reg_store_tables.specs.Steps.{Makes, MakesRows};
@@ -30,7 +30,7 @@ pub fn put_counts<S: Alter>(tx: &mut Transaction<'_, S>) -> Result<(), DatabaseF
 }
 
 /// Makes the tables of version 3. The schedule has one step, a longest validity of `days` from 1970 on. Of the derived tables, only `kept` has a row.
-pub(crate) fn begin<S: Alter>(
+pub(crate) fn make_tables<S: Alter>(
     tx: &mut Transaction<'_, S>,
     version: OlderVersion,
     days: u64,

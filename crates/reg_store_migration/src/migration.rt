@@ -1,4 +1,4 @@
-//! The migration of a register of an older version to the program's version.
+//! The migration of a register of version 1 or 2 to version 3, the program's.
 
 ghost use Rattle.std.specs.Prelude.{◌≡◌, false};
 ghost use Rattle.reg_store_tables.specs.Stays.{Stepped};
@@ -7,7 +7,7 @@ ghost use Rattle.reg_store_tables.specs.Steps.{Makes};
 ghost use Rattle.reg_store_migration.specs.Rebuilds.{MigratesTables};
 
 use crate::derived_tables::rebuild_derived_tables;
-use crate::initial_rows::begin;
+use crate::initial_rows::make_tables;
 use crate::version::OlderVersion;
 use reg_core::Moment;
 use reg_store_tables::DatabaseFault;
@@ -23,13 +23,13 @@ fn migrate_tables<S: Alter>(
     ensures made { Makes S.Store tx.old tx.new result (MigratesTables version days last) }
     ensures stepped { Stepped S.Store tx.old tx.new }
 {
-    begin(tx, version, days)?;
+    make_tables(tx, version, days)?;
     rebuild_derived_tables(tx, last)
 }
 
-/// Migrates a register of an older version to the program's version, in one transaction: the records stay, and the derived tables are rebuilt.
-/// `days` is its longest validity in days, `last` its last accepted moment; the caller has checked both. Errors: `Memory`; `Store` if the database
-/// fails or already has newer tables or indexes, or if a row is missing or invalid. An error changes nothing, unless the disk failed in the commit.
+/// Migrates a register of an older version to version 3, in one transaction: the records stay, and the derived tables are rebuilt from them.
+/// `days` is the register's longest validity, `last` its last accepted moment; the caller checks both. Errors: `Memory`; `Store` if the database
+/// fails or already has a table or index to be added, or a row is missing or invalid. An error changes nothing, unless the disk failed in the commit.
 pub fn migrate<S: Alter>(
     conn: &mut Connection<S>,
     version: OlderVersion,

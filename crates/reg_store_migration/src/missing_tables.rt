@@ -1,4 +1,4 @@
-//! Makes the tables and indexes that an older version lacks. Errors: those of [`define`].
+//! Makes the tables and indexes that an older version lacks; empties the derived tables that it has. Errors: those of [`define`].
 
 ghost use Rattle.reg_store_tables.specs.Schema.{register_schema};
 ghost use Rattle.reg_store_tables.specs.Stays.{Stepped};
@@ -12,7 +12,7 @@ use reg_store_tables::write_statements::write;
 use reg_store_tables::{DatabaseFault, schema};
 use sqlite::{Alter, Transaction};
 
-/// Makes one table or index. Errors: `Memory`; `Store` if the database fails or already has that name.
+/// Runs one CREATE TABLE or CREATE INDEX. Errors: `Memory`; `Store` if the database fails or already has a table or index of that name.
 pub fn define<S: Alter>(tx: &mut Transaction<'_, S>, sql: &str) -> Result<(), DatabaseFault>
     ensures made { Makes S.Store tx.old tx.new result (Defines sql.now) }
     ensures stepped { Stepped S.Store tx.old tx.new }
@@ -41,7 +41,6 @@ fn clear_derived_tables<S: Alter>(tx: &mut Transaction<'_, S>) -> Result<(), Dat
     Ok(())
 }
 
-/// Makes the derived tables (version 1), or deletes their rows (version 2). Later steps of the migration fill them from the records.
 fn make_or_clear_derived_tables<S: Alter>(
     tx: &mut Transaction<'_, S>,
     version: OlderVersion,
@@ -55,7 +54,7 @@ fn make_or_clear_derived_tables<S: Alter>(
     }
 }
 
-/// Makes the table of the schedule (`longest`), without rows, and the indexes `crl_at` and `standing_due`.
+/// Makes the table of the schedule (`longest`), without rows, and indexes that find CRLs (`crl_at`) and certificates past notAfter (`standing_due`).
 pub fn make_schedule_and_indexes<S: Alter>(tx: &mut Transaction<'_, S>) -> Result<(), DatabaseFault>
     ensures made { Makes S.Store tx.old tx.new result AddsSchedule }
     ensures stepped { Stepped S.Store tx.old tx.new }
@@ -65,7 +64,6 @@ pub fn make_schedule_and_indexes<S: Alter>(tx: &mut Transaction<'_, S>) -> Resul
     define(tx, schema::STANDING_DUE)
 }
 
-/// Makes all tables and indexes that the version lacks. Afterwards the derived tables have no rows.
 pub(crate) fn make_missing<S: Alter>(
     tx: &mut Transaction<'_, S>,
     version: OlderVersion,

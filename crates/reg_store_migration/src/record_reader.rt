@@ -1,4 +1,4 @@
-//! Reads the records from which the derived tables are rebuilt.
+//! Reads the records from which the derived tables are rebuilt, inside the migration's transaction.
 
 ghost use Rattle.std.specs.Prelude.{◌≡◌, [], ◌∷◌, map, IsSomeAnd, IfOk};
 ghost use Rattle.sqlite_value.specs.Order.{Row as Values};
@@ -52,7 +52,6 @@ pub(crate) fn crls<S: Alter>(tx: &mut Transaction<'_, S>) -> Result<Vec<CrlRow>,
     Ok(rows_in::<CrlRow>(*found.allocator(), &found)?)
 }
 
-/// The notAfter of the certificate in the only row. `Store` for no row, several rows or an invalid one.
 fn not_after_in(rows: &[Row]) -> Result<Moment, DatabaseFault>
     ensures read { IfOk result (λ end. (row : Values) × (rows.now ≡ row ∷ [])
         × ((certificate : CertRow) → IsSerial certificate.serial → row ≡ shown_certificate certificate
@@ -67,7 +66,6 @@ fn not_after_in(rows: &[Row]) -> Result<Moment, DatabaseFault>
     }
 }
 
-/// The notAfter of the certificate with a serial number. `Store` if there is none.
 pub(crate) fn not_after_by_serial<S: Alter>(
     tx: &mut Transaction<'_, S>,
     serial: Serial,

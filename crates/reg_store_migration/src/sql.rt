@@ -1,4 +1,4 @@
-//! The SQL of the statements of a migration. `schema` of reg_store_tables says what each table holds.
+//! The SQL of the statements of a migration. reg_store_tables `schema.rt` says what each table holds; in the only row of `kept`, `one` is 1.
 
 pub const CLEAR_STANDING: &str = "DELETE FROM standing";
 
@@ -11,13 +11,12 @@ pub const SET_VERSION: &str = "UPDATE office SET version = 3";
 pub const PUT_COUNTS: &str =
     "INSERT INTO kept (one, n_good, n_revoked, n_expired) VALUES (1, 0, 0, 0)";
 
-/// Inserts each certificate's state letter at the moment `?1`, in the order of serial numbers, so that the index of serial numbers grows at its end.
+/// Each certificate's letter: `R` revoked, else `X` if notAfter is before `?1` (last accepted moment), else `G`. Sorted: the index grows at its end.
 pub const FILL_LETTERS: &str =
     "INSERT INTO standing (serial, not_after, state) SELECT serial, not_after, CASE WHEN EXISTS (SELECT 1 FROM revocation WHERE revocation.serial = cert.serial) THEN 'R' WHEN not_after < ?1 THEN 'X' ELSE 'G' END FROM cert ORDER BY serial";
 
 pub const COUNT_LETTER: &str = "SELECT count(*) FROM standing WHERE state = ?1";
 
-/// All revocations, in the order of entry.
 pub const REVOCATIONS: &str =
     "SELECT serial, at, reason, request, first_crl FROM revocation ORDER BY rowid";
 

@@ -14,7 +14,6 @@ use reg_store_tables::DatabaseFault;
 use sqlite::types::ValueRef;
 use sqlite::{Alter, Row, Transaction};
 
-/// The number in the first column of the only row. `Store` for no row or several, and if the column has no number from 0 on.
 fn count_in(rows: &[Row]) -> Result<u64, DatabaseFault>
     ensures read { (n : ℕ) → rows.now ≡ (number n ∷ []) ∷ [] → IfOk result (λ count. count ≡ n) }
 {

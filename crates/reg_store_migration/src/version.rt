@@ -1,8 +1,8 @@
-/// A version of the tables that is older than the program's.
+/// A version of a register's tables before version 3, the program's.
 #[derive(Clone, Copy, PartialEq, Eq)]
 pub enum OlderVersion {
-    /// Version 1: only the tables of the office and the records.
+    /// Version 1: only the table `office` (issuer, policy, last accepted moment) and those of the other records.
     First,
-    /// Version 2: also the derived tables (state letters, counts, entries of CRLs).
+    /// Version 2: also the tables derived from these (state letters of certificates, the counts of these letters, entries of CRLs).
     Second,
 }

@@ -1,4 +1,4 @@
-//! Creates a register's tables.
+//! Creates a register in an empty database.
 
 ghost use Rattle.std.specs.Prelude.{◌≡◌, ◌↔◌, false, IsTrue, OnOk, IfErr};
 ghost use Rattle.reg_store_tables.specs.Schema.{no_schema};
@@ -35,8 +35,7 @@ fn make_register<S: Alter>(
     fill(tx, issuer, policy)
 }
 
-/// Makes (founds) a register: its tables and their first rows, in one transaction.
-fn found<S: Alter>(
+fn create_in_transaction<S: Alter>(
     conn: &mut Connection<S>,
     issuer: &Issuer,
     policy: &Policy,
@@ -65,5 +64,5 @@ pub fn create<S: Alter>(
     if !is_empty(conn) {
         return Err(StoreFault::NotEmpty);
     }
-    Ok(found(conn, issuer, policy)?)
+    Ok(create_in_transaction(conn, issuer, policy)?)
 }

@@ -1,4 +1,4 @@
-//! Makes the tables and indexes of a register, without rows. `schema` of reg_store_tables says what each has; `office` has the version and issuer.
+//! Makes the tables and indexes of a register, without rows. reg_store_tables `schema.rt` has their SQL, and says what each table holds.
 
 ghost use Rattle.reg_store_tables.specs.Schema.{no_schema, record_tables, register_schema};
 ghost use Rattle.reg_store_tables.specs.Stays.{Stepped};

@@ -14,7 +14,7 @@ use reg_store_tables::{DatabaseFault, put_schedule_steps};
 use sqlite::types::ValueRef;
 use sqlite::{Alter, Transaction};
 
-/// Inserts the one row of `office`: version 3, issuer, policy; of its schedule only `days`, the greatest longest validity. Lives are in seconds.
+/// Inserts the row of `office`: version 3, the issuer, the policy (`days`: the schedule's greatest; lives in seconds; `cap`: most rows of a table).
 fn put_office<S: Alter>(
     tx: &mut Transaction<'_, S>,
     issuer: &Issuer,

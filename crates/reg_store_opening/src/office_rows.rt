@@ -1,4 +1,6 @@
-//! Checks the row of the table `office` (issuer, policy, last accepted moment; columns as in `sql::OLDER_OFFICE`) and the steps of the schedule.
+//! Checks the row of the table `office`, and the schedule's steps: each has a notBefore, and the longest validity in days from it on. Columns
+//! of `sql::OFFICE`: 0 the issuer's Name, followed by its key identifiers; 1 the issuer's key; 2 and 3 the lives of CRLs and OCSP responses
+//! in seconds; 4 the cap (the most rows of a table); 5 the last accepted moment; in `sql::OLDER_OFFICE` also 6, the longest validity in days.
 
 ghost use Rattle.std.specs.Prelude.{◌≡◌, ◌≢◌, ◌⊎◌, ◌<◌, ◌≤◌, ℕ, List, [], ◌∷◌, IfOk, IfErr, Err, MatchOption, MatchResult};
 ghost use Rattle.sqlite_value.specs.Order.{Row as Cells, column};
@@ -31,7 +33,7 @@ fn version_in(rows: &[Row]) -> Option<u64>
     number_at(only(rows)?, 0)
 }
 
-/// The version in the only row if it is older than the program's; `None` for 3. `NewVersion` above 3; `NotARegister` for 0 and other rows.
+/// The version in `rows` if it is 1 or 2; `None` for 3, the program's. `NewVersion` above 3; `NotARegister` for 0, or if not one row with a number.
 pub(crate) fn version_in_rows(rows: &[Row]) -> Result<Option<OlderVersion>, StoreFault>
     ensures ok { IfOk result (λ found. AreVersionRows (version_of found) rows.now) }
     ensures newer { result ≡ Err StoreFault.NewVersion → (n : ℕ) × (3 < n) × AreVersionRows n rows.now }
@@ -90,14 +92,12 @@ fn policy_in(row: &Row, schedule: Schedule) -> Option<Policy>
     Policy::with(schedule, crl_life, ocsp_life, cap)
 }
 
-/// The last accepted moment; `None` if the column has no moment before [`Moment::CLOCK_END`].
 fn last_in(row: &Row) -> Option<Moment>
     ensures { MatchOption result ((last : ℕ) → ¬ HasLast row.now last) (HasLast row.now) }
 {
     clock_moment_at(row, 5)
 }
 
-/// Checks the columns of the issuer's name (the Name, and after it the key identifiers that were set) and key.
 fn check_issuer(alloc: Global, row: &Row) -> Result<(), StoreFault>
     ensures { MatchResult result (λ _. (issuer : core.Issuer) × HasIssuer row.now issuer)
         (Refuses ((issuer : core.Issuer) → ¬ HasIssuer row.now issuer)) }
@@ -128,7 +128,7 @@ fn check_office_row(alloc: Global, row: &Row, schedule: Schedule) -> Result<(), 
     }
 }
 
-/// Checks that the table `office` has one row, with values in their ranges, and that the steps make a schedule.
+/// Checks that `rows` has the one row of `office`, with values in their ranges, and that the rows `steps` make a schedule.
 pub(crate) fn check_office_rows(rows: &Vec<Row>, steps: &Vec<Row>) -> Result<(), StoreFault>
     ensures { MatchResult result (λ _. AreOfficeRows rows.now.items steps.now.items)
         (Refuses (¬ AreOfficeRows rows.now.items steps.now.items)) }
@@ -140,7 +140,7 @@ pub(crate) fn check_office_rows(rows: &Vec<Row>, steps: &Vec<Row>) -> Result<(),
     }
 }
 
-/// The longest validity in an older version (its column `days`), and the schedule of one step that allows these days from 1970 on.
+/// The longest validity in days in an older version (column 6), and its schedule, which has one step: this longest validity from 1970 on.
 fn days_and_schedule(row: &Row) -> Option<(u64, Schedule)>
     ensures { MatchOption result ((days : ℕ) → IsSchedule (one_step days) → column row.now 6 ≢ number days)
         (λ found. (column row.now 6 ≡ number found.0) × (found.1 ≡ one_step found.0)) }
@@ -150,7 +150,6 @@ fn days_and_schedule(row: &Row) -> Option<(u64, Schedule)>
     Some((days, schedule))
 }
 
-/// The days and the last accepted moment in the row of `office` of an older version.
 fn older_in(alloc: Global, row: &Row) -> Result<(u64, Moment), StoreFault>
     ensures { MatchResult result (λ found. IsOlderRow found.0 found.1 row.now)
         (Refuses ((days : ℕ) → (last : ℕ) → ¬ IsOlderRow days last row.now)) }
@@ -167,7 +166,7 @@ fn older_in(alloc: Global, row: &Row) -> Result<(u64, Moment), StoreFault>
     }
 }
 
-/// The days and the last accepted moment in the rows of `office` of an older version; `NotARegister` if they are not such rows.
+/// The longest validity in days and the last accepted moment in the row of `office` of an older version; `NotARegister` if `rows` are not such a row.
 pub(crate) fn older_office_in(rows: &Vec<Row>) -> Result<(u64, Moment), StoreFault>
     ensures { MatchResult result (λ found. AreOlderOffice found.0 found.1 rows.now.items)
         (Refuses ((days : ℕ) → (last : ℕ) → ¬ AreOlderOffice days last rows.now.items)) }

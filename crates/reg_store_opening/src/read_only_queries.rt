@@ -1,4 +1,4 @@
-//! Runs statements that only read, over any tables: those of a database that may not be a register.
+//! Runs statements that only read. The database may not be a register: it may have other tables, or none.
 
 ghost use Rattle.std.specs.Prelude.{◌≡◌, ◌⊎◌, false, IsTrue, IfErr};
 ghost use Rattle.sqlite.specs.Held.{state};
@@ -12,9 +12,8 @@ ghost use Rattle.reg_store_tables.specs.Steps.{Asks, WhileOpen};
 use reg_store_tables::StoreFault;
 use sqlite::{Alter, Error, ErrorCode, Row, Transaction};
 
-/// The fault for a failed statement: `Memory`; `Store` if the disk failed, the file is corrupt, the connection is closed, or the statement reached
-/// the limit on steps of the crate `sqlite`; else `NotARegister`, as for a table that does not exist.
-fn unread(error: Error) -> StoreFault
+/// An error not listed here, such as a missing table, means no register. `OperationInterrupted`: over the limit of `sqlite` on a statement's steps.
+fn query_fault(error: Error) -> StoreFault
     ensures call { IsTrue (is_call_error error) → IsDatabaseFault result }
     ensures other { is_call_error error ≡ false → result ≡ StoreFault.NotARegister }
 {
@@ -46,6 +45,6 @@ pub(crate) fn read_rows<S: Alter>(
 {
     match tx.query_all(sql, &[]) {
         Ok(rows) => Ok(rows),
-        Err(error) => Err(unread(error)),
+        Err(error) => Err(query_fault(error)),
     }
 }

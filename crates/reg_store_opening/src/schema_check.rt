@@ -9,14 +9,14 @@ use reg_store_schema::{Version, version_of};
 use sqlite::{Alter, Connection};
 use std::alloc::{AllocError, Global};
 
-/// Whether `tables`, the version whose schema the database has (`None`: no version has it), is `version` (`None`: the program's version).
-pub(crate) fn is_same(tables: Option<Version>, version: Option<OlderVersion>) -> bool
-    ensures { IsTrue result ↔ (tables ≡ Some (version_or_current version)) }
+/// Whether `of_schema` (the version of the schema; `None` if it has none) is `version` (found in the table `office`; `None` for 3, the program's).
+pub(crate) fn is_same(of_schema: Option<Version>, version: Option<OlderVersion>) -> bool
+    ensures { IsTrue result ↔ (of_schema ≡ Some (version_or_current version)) }
 {
     match version {
-        None => matches!(tables, Some(Version::Third)),
-        Some(OlderVersion::First) => matches!(tables, Some(Version::First)),
-        Some(OlderVersion::Second) => matches!(tables, Some(Version::Second)),
+        None => matches!(of_schema, Some(Version::Third)),
+        Some(OlderVersion::First) => matches!(of_schema, Some(Version::First)),
+        Some(OlderVersion::Second) => matches!(of_schema, Some(Version::Second)),
     }
 }
 
@@ -30,7 +30,7 @@ pub(crate) fn schema_version<S: Alter>(
     ensures settled { IsTrue (state S.Store conn.now).is_open
         → (state S.Store conn.now).now ≡ (state S.Store conn.now).committed }
 {
-    // Rattle's `debug_assert!`, proved before the program runs. The clause `settled` follows from it.
+    // `prove!` is Rattle's `debug_assert!`, proved before the program runs. The clause `settled` follows from it.
     prove!(conn.is_autocommit());
     version_of(alloc, conn.schema())
 }

@@ -1,4 +1,4 @@
-//! Checks an opened database, and migrates an older version. `office` has one row: version, issuer, policy (but its schedule), last accepted moment.
+//! Checks an opened database, and migrates an older version. `office` has one row: version, issuer, policy without schedule, last accepted moment.
 
 ghost use Rattle.std.specs.Prelude.{◌≡◌, ◌≢◌, ◌⊎◌, Option, Some, false, IsTrue, MatchResult, OnOk, IfOk, IfErr};
 ghost use Rattle.sqlite.specs.Held.{state};
@@ -25,7 +25,7 @@ use reg_store_tables::sql::STEPS;
 use sqlite::{Alter, Connection, Transaction};
 use std::alloc::Global;
 
-/// Values of the row of the table `office` in an older version: the version, the longest validity in days, and the last accepted moment.
+/// Values of the row of `office` in an older version: the version, the longest validity in days, and the last accepted moment.
 #[derive(Clone, Copy)]
 pub struct OlderOffice {
     version: OlderVersion,
@@ -33,7 +33,7 @@ pub struct OlderOffice {
     last: Moment,
 }
 
-/// The version in the row of `office` if it is older than the program's; `None` if it is the program's.
+/// The version in the row of `office`, if it is older than the program's; `None` if it is the program's, 3.
 fn check_version<S: Alter>(tx: &mut Transaction<'_, S>) -> Result<Option<OlderVersion>, StoreFault>
     ensures asked { Asks S.Store tx.old tx.new result (λ found db. HasVersion db (version_of found)) }
     ensures newer { ReportsNewer S.Store tx.old.conn.now tx.new.conn.now result }
@@ -74,8 +74,7 @@ fn check_older_office<S: Alter>(tx: &mut Transaction<'_, S>) -> Result<(u64, Mom
     older_office_in(&rows)
 }
 
-/// Checks the version, then the rest of the row of `office` and the schedule. Returns the values of an older version; `None` for the program's.
-fn check_tables<S: Alter>(tx: &mut Transaction<'_, S>) -> Result<Option<OlderOffice>, StoreFault>
+fn check_rows<S: Alter>(tx: &mut Transaction<'_, S>) -> Result<Option<OlderOffice>, StoreFault>
     ensures told { ReportsState S.Store tx.old.conn.now tx.new.conn.now result
         (λ found db. HasVersionAndOffice db found) }
     ensures newer { ReportsNewer S.Store tx.old.conn.now tx.new.conn.now result }
@@ -103,9 +102,9 @@ fn check_tables<S: Alter>(tx: &mut Transaction<'_, S>) -> Result<Option<OlderOff
     }
 }
 
-/// Checks the version, the row of `office` and the steps of the schedule. Returns the values of an older version; `None` for the program's. The call
-/// does not check the schema, and changes nothing. Errors: `NotARegister` if the row of `office` or the schedule can't be read, or a value is out of
-/// range; `NewVersion` if the version is above 3; `Memory`; `Store` if the database fails.
+/// Checks the version, the row of `office` and the schedule, not the schema. Nothing changes. Returns values of an older version; `None` for
+/// version 3, the program's. Errors: `NotARegister` if the row of `office` or the schedule can't be read, or a value is out of range; `NewVersion`
+/// if the version is above 3; `Memory`; `Store` if the database fails.
 pub fn examine<S: Alter>(conn: &mut Connection<S>) -> Result<Option<OlderOffice>, StoreFault>
     requires { conn.old.in_transaction ≡ false }
     ensures ok { HasCleanDisk (state S.Store conn.new)
@@ -125,7 +124,7 @@ pub fn examine<S: Alter>(conn: &mut Connection<S>) -> Result<Option<OlderOffice>
     ensures faults { IfErr result (λ fault. fault ≢ StoreFault.NotEmpty) }
 {
     let mut tx = conn.transaction();
-    let tested = check_tables(&mut tx);
+    let tested = check_rows(&mut tx);
     tx.rollback();
     tested
 }
@@ -139,34 +138,32 @@ fn version_in(found: Option<OlderOffice>) -> Option<OlderVersion>
     }
 }
 
-/// Checks that `tables`, the version whose schema the database has, is the version in the row of `office`, as [`check_tables`] `found` it.
-fn check_schema(tables: Option<Version>, found: Option<OlderOffice>) -> Result<(), StoreFault>
-    ensures ok { OnOk result (tables ≡ Some (version_or_current (found_version found))) }
+/// Checks that `of_schema`, the version of the schema, is the version in `office`. [`examine`] has returned `found`: `None` for version 3.
+fn check_schema(of_schema: Option<Version>, found: Option<OlderOffice>) -> Result<(), StoreFault>
+    ensures ok { OnOk result (of_schema ≡ Some (version_or_current (found_version found))) }
     ensures err { IfErr result (λ fault. (fault ≡ StoreFault.NotARegister)
-        × (tables ≢ Some (version_or_current (found_version found)))) }
+        × (of_schema ≢ Some (version_or_current (found_version found)))) }
 {
-    if is_same(tables, version_in(found)) {
+    if is_same(of_schema, version_in(found)) {
         return Ok(());
     }
     Err(StoreFault::NotARegister)
 }
 
-/// Checks that the schema, the row of `office` and the schedule are a register's. If the version is the program's, the call changes
-/// nothing. Tables of version 1 or 2 are migrated to version 3, the program's, in one transaction: the records stay, and the
-/// derived tables are rebuilt from them. The schema is read before the row of `office`; nothing is written in between, so they belong together.
-/// Errors: those of [`examine`] and, for an older version, of [`migrate`]; `NotARegister` also if the schema (tables with columns and keys, indexes,
-/// views) is not that of the version. An error changes nothing, unless the disk failed in the commit.
+/// Checks that the schema, the row of `office` and the schedule are a register's. Version 3, the program's, stays as it is. Version 1 or 2 is
+/// migrated in one transaction: the records stay, and the derived tables are rebuilt from them. Errors: those of [`examine`] and [`migrate`], and
+/// `NotARegister` if the schema (tables, indexes, views) is not that version's. An error changes nothing, unless the disk failed in the commit.
 pub fn open<S: Alter>(alloc: Global, conn: &mut Connection<S>) -> Result<(), StoreFault>
     requires { conn.old.in_transaction ≡ false }
     ensures opens { OnOk result (Opens S.Store conn.old conn.new) }
     ensures unopened { IfErr result (IsFailedOpen S.Store conn.old conn.new) }
     ensures idle { conn.new.in_transaction ≡ false }
 {
-    let Ok(tables) = schema_version(alloc, conn) else {
+    let Ok(of_schema) = schema_version(alloc, conn) else {
         return Err(StoreFault::Memory);
     };
     let found = examine(conn)?;
-    check_schema(tables, found)?;
+    check_schema(of_schema, found)?;
     match found {
         None => Ok(()),
         Some(older) => Ok(migrate(conn, older.version, older.days, older.last)?),

@@ -1,3 +1,3 @@
 pub mod Steps
 pub mod Texts
-pub mod Told
+pub mod VersionNumbers

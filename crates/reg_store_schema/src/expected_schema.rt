@@ -1,4 +1,5 @@
-//! The schema of each version, made in memory by the same SQL that creates the tables of a register.
+//! The schema of each version, made in memory from the SQL that creates the tables of a register. `made` is the schema so far, `text` a CREATE TABLE
+//! or CREATE INDEX. Only an allocation can fail, because each statement is valid and each name is UTF-8. So each error becomes `AllocError`.
 
 ghost use Rattle.std.specs.Prelude.{◌≡◌, ◌<◌, ◌+◌, [], ◌∷◌, ◌++◌, length, Some, Ok, slice_get, IfOk, OnOk};
 ghost use Rattle.sqlite_resolve.specs.Compile.{table_defined_by, index_defined_by};
@@ -13,9 +14,7 @@ use sqlite_resolve::{define_index, define_table};
 use sqlite_schema::schema::{Index, Schema, Table};
 use std::alloc::{AllocError, Global};
 
-// Here only an allocation can fail, because each statement is valid and each name is UTF-8. So each error becomes `AllocError`.
-
-/// Adds the automatic index of one UNIQUE of a table, the one with index `at`, counted from 0.
+/// Adds the automatic index of the key `table.uniques[at]` (UNIQUE or PRIMARY KEY, not the rowid). Its B-tree's number: `table.tree` + 1 + `at`.
 fn add_key(
     alloc: Global,
     indexes: &mut Items<Index>,
@@ -27,14 +26,13 @@ fn add_key(
     requires name { name.now ≡ table.now.name }
     ensures { OnOk result (indexes.new ≡ indexes.old ++ guard_at table.now at ∷ []) }
 {
-    let key = table.uniques.as_slice()[at].as_slice();
+    let columns = table.uniques.as_slice()[at].as_slice();
     let tree = u32::try_from(u64::from(table.tree) + 1 + at as u64).map_err(|_| AllocError)?;
-    let own = layout::automatic_name(alloc, name, at)?;
-    let index = layout::automatic(alloc, table, own.as_str(), at, key, tree)?;
+    let index_name = layout::automatic_name(alloc, name, at)?;
+    let index = layout::automatic(alloc, table, index_name.as_str(), at, columns, tree)?;
     indexes.push(index)
 }
 
-/// Adds the automatic index of each UNIQUE of a table. The numbers of their B-trees follow the table's.
 fn add_keys(alloc: Global, indexes: &mut Items<Index>, table: &Table) -> Result<(), AllocError>
     ensures { OnOk result
         (indexes.new ≡ indexes.old ++ automatics table.now 0 (table.now.tree + 1) table.now.uniques) }
@@ -48,14 +46,13 @@ fn add_keys(alloc: Global, indexes: &mut Items<Index>, table: &Table) -> Result<
     Ok(())
 }
 
-/// The number of the next B-tree; tables and indexes are numbered in the order in which they are made.
+/// The number of the next B-tree. Each table and index has one. They are numbered in the order in which they are made.
 fn next_tree(made: &Schema) -> Result<u32, AllocError>
     ensures { IfOk result (λ tree. tree ≡ next_tree made.now) }
 {
     u32::try_from(layout::next_tree(made)).map_err(|_| AllocError)
 }
 
-/// Adds the table that a CREATE TABLE defines.
 fn add_table(alloc: Global, made: &mut Schema, text: &str) -> Result<(), AllocError>
     ensures { (table : Table) → table_defined_by text.now ≡ Ok table
         → OnOk result (made.new ≡ created made.old table) }
@@ -69,7 +66,7 @@ fn add_table(alloc: Global, made: &mut Schema, text: &str) -> Result<(), AllocEr
     made.tables.push(table)
 }
 
-/// Adds the index that a CREATE INDEX defines, on the table with index `at`.
+/// Adds an index of the table `made.tables[at]`.
 fn add_index(alloc: Global, made: &mut Schema, at: usize, text: &str) -> Result<(), AllocError>
     ensures { (table : Table) → (index : Index) → slice_get made.old.tables at ≡ Some table
         → index_defined_by table text.now ≡ Ok index
@@ -99,8 +96,7 @@ pub(crate) fn add_records(alloc: Global, made: &mut Schema) -> Result<(), AllocE
     add_table(alloc, made, schema::CRL)
 }
 
-/// Adds the tables derived from the records: each certificate's state letter (`standing`), the counts of the letters (`kept`), the CRL entries
-/// (`listed`).
+/// Adds the derived tables: `standing` (each certificate's state letter), `kept` (the counts of the letters) and `listed` (the CRL entries).
 pub(crate) fn add_derived_tables(alloc: Global, made: &mut Schema) -> Result<(), AllocError>
     ensures { made.old ≡ record_tables → OnOk result (made.new ≡ with_derived_tables) }
 {
@@ -109,7 +105,7 @@ pub(crate) fn add_derived_tables(alloc: Global, made: &mut Schema) -> Result<(),
     add_table(alloc, made, schema::LISTED)
 }
 
-/// Adds `longest`, which has the schedule's steps, an index of table 6 (`crl`) and one of table 7 (`standing`). Tables are counted from 0.
+/// Adds the table `longest` (schedule of longest validities) and two indexes: of the tables made seventh (index 6, `crl`) and eighth (`standing`).
 pub(crate) fn add_schedule_and_indexes(alloc: Global, made: &mut Schema) -> Result<(), AllocError>
     ensures { made.old ≡ with_derived_tables → OnOk result (made.new ≡ register_schema) }
 {

@@ -1,4 +1,4 @@
-//! Compares two schemas, part by part.
+//! Compares two schemas of the crate `sqlite_schema`, part by part.
 
 ghost use Rattle.std.specs.Prelude.{◌≡◌, ◌↔◌, IsTrue};
 
@@ -7,13 +7,11 @@ use sqlite_schema::schema::{Column, Index, Reference, Schema, Stamps, Table, Vie
 use sqlite_value::keys::Order;
 use sqlite_value::value::Bytes;
 
-/// A part of a schema, which can be compared.
 pub(crate) trait Same {
     fn is_same(&self, other: &Self) -> bool
         ensures { IsTrue result ↔ (self.now ≡ other.now) };
 }
 
-/// Whether two lists have the same items, one by one.
 fn are_same<T: Same>(left: &[T], right: &[T]) -> bool
     ensures { IsTrue result ↔ (left.entry.now ≡ right.entry.now) }
 {
@@ -62,7 +60,7 @@ impl Same for Bytes {
     }
 }
 
-// `digits` has three bits for each column: its collation, and whether it descends.
+// The sort order of an index: `digits` has three bits for each column, which give its collation and whether it descends.
 impl Same for Order {
     fn is_same(&self, other: &Order) -> bool {
         self.digits == other.digits
@@ -91,7 +89,7 @@ impl Same for Reference {
     }
 }
 
-// The defaults that read the time, such as CURRENT_TIMESTAMP: the places of their columns, their terms, and the `strftime` formats in these.
+// The defaults that read the time, such as CURRENT_TIMESTAMP: the places of their columns, their expressions (`terms`), and the `strftime` formats.
 impl Same for Stamps {
     fn is_same(&self, other: &Stamps) -> bool {
         self.places.is_same(&other.places)
@@ -100,8 +98,7 @@ impl Same for Stamps {
     }
 }
 
-/// Whether two tables have the same name, number of their B-tree (by the order in which tables and indexes were made), columns, rowid column and
-/// AUTOINCREMENT.
+/// Whether two tables have the same name, `tree` (which B-tree, by order of creation), columns, rowid column (`key`), AUTOINCREMENT (`is_counted`).
 fn have_same_columns(left: &Table, right: &Table) -> bool
     ensures { IsTrue result ↔ ((left.now.name ≡ right.now.name) × (left.now.tree ≡ right.now.tree)
         × (left.now.columns ≡ right.now.columns)
@@ -114,7 +111,6 @@ fn have_same_columns(left: &Table, right: &Table) -> bool
         && left.is_counted == right.is_counted
 }
 
-/// Whether two tables have the same PRIMARY KEY, and the same UNIQUEs with the same sort orders.
 fn have_same_keys(left: &Table, right: &Table) -> bool
     ensures { IsTrue result ↔ ((left.now.primary ≡ right.now.primary)
         × (left.now.uniques ≡ right.now.uniques) × (left.now.orders ≡ right.now.orders)) }
@@ -124,7 +120,7 @@ fn have_same_keys(left: &Table, right: &Table) -> bool
         && left.orders.is_same(&right.orders)
 }
 
-/// Whether two tables have the same CHECKs and references, the same columns whose default is no literal, and the same defaults that read the time.
+/// Whether two tables have the same CHECKs, references, columns whose default is no literal (`computed`), and defaults that read the time (`stamps`).
 fn have_same_rules(left: &Table, right: &Table) -> bool
     ensures { IsTrue result
         ↔ ((left.now.checks ≡ right.now.checks) × (left.now.references ≡ right.now.references)
@@ -155,8 +151,8 @@ impl Same for Index {
     }
 }
 
-// A view, or what the crate `sqlite` only keeps as it is: a trigger or an index that it can't read (`binds`), a table with one of these (`is_bound`),
-// or a table that it can't read, and its indexes. `foreign` is the table's name. A register has none.
+// A `View` is a view. Or it belongs to a table, named `foreign`, that the crate `sqlite` can't use: a trigger or an unreadable index (`binds`),
+// another index, or the table itself (`is_bound`: readable, but one of its objects `binds`). A register has no views and no such tables.
 impl Same for View {
     fn is_same(&self, other: &View) -> bool {
         self.name.is_same(&other.name)

@@ -10,8 +10,8 @@ use crate::versions::Version;
 use sqlite_schema::schema::Schema;
 use std::alloc::{AllocError, Global};
 
-/// The version that has exactly this schema: the same tables, with their columns, keys, CHECKs and references, and the same indexes, all
-/// made in the same order, and no view or trigger. `None` if no version has it. Each version adds to the one before, so `made` grows from 1 to 3.
+/// The version that has exactly this schema: the same tables (columns, keys, CHECKs, references) and the same indexes, made in the same order, and
+/// no view or trigger. `None` if no version has it. `made` is the schema of version 1, then of 2 and 3: each has all of the one before.
 pub fn version_of(alloc: Global, schema: &Schema) -> Result<Option<Version>, AllocError>
     ensures { IfOk result
         (λ found. (version : Version) → (found ≡ Some version) ↔ (schema.now ≡ version_schema version)) }
@@ -41,7 +41,7 @@ fn is_third(version: Option<Version>) -> bool
     }
 }
 
-/// Whether a schema is that of a register of the program's version.
+/// Whether a schema is that of a register of version 3, the program's.
 pub fn is_register(alloc: Global, schema: &Schema) -> Result<bool, AllocError>
     ensures { IfOk result (λ is. IsTrue is ↔ (schema.now ≡ register_schema)) }
 {

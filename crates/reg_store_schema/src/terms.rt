@@ -10,7 +10,7 @@ use sqlite_schema::code::{Op, Terms, lend_value};
 use sqlite_value::order;
 use sqlite_value::value::Value;
 
-/// A term: the nodes, the depth to which they are read, so that a reading ends, and the index `at` of its root among them.
+/// The term with the root `nodes[at]`. A node has its operands' indexes in `nodes`. Nodes below `depth` levels are read as NULL, so recursion ends.
 #[derive(Clone, Copy)]
 struct TermRef<'a> {
     nodes: &'a [Op],
@@ -24,7 +24,7 @@ impl Same for Value {
     }
 }
 
-/// The root of a term, and the depth to which its operands are read; `None` (read as NULL) at depth 0 or without a node.
+/// The root of a term, and the depth to which its operands are read. `None` (the term is read as NULL) if `depth` is 0 or there is no `nodes[at]`.
 fn node_at<'a>(term: TermRef<'a>) -> Option<(&'a Op, usize)>
     ensures falls { IfSome result (λ found. found.1 < term.entry.depth) }
     ensures is { MatchOption result (term_to term.entry.nodes.now term.entry.depth term.entry.at ≡ lit Null)
@@ -37,7 +37,6 @@ fn node_at<'a>(term: TermRef<'a>) -> Option<(&'a Op, usize)>
     Some((&term.nodes[term.at], term.depth - 1))
 }
 
-/// The term with another root among the same nodes, read to a depth.
 fn operand(term: TermRef<'_>, depth: usize, at: usize) -> TermRef<'_>
     ensures { (result.nodes.now ≡ term.entry.nodes.now) × (result.depth ≡ depth) × (result.at ≡ at) }
 {
@@ -58,7 +57,7 @@ fn is_null(term: TermRef<'_>) -> bool
     }
 }
 
-/// Whether two terms are the same. `a`, `b` are operands on the left, `c`, `d` on the right. A column has a slot (a row in a statement) and an index.
+/// Whether two terms are the same. `a`, `b` are operands on the left, `c`, `d` on the right. A `Column` has the index of a row and of its value.
 fn same_term(left: TermRef<'_>, right: TermRef<'_>) -> bool
     ensures { IsTrue result ↔ (term_to left.entry.nodes.now left.entry.depth left.entry.at
         ≡ term_to right.entry.nodes.now right.entry.depth right.entry.at) }
@@ -107,7 +106,7 @@ fn same_term(left: TermRef<'_>, right: TermRef<'_>) -> bool
 }
 
 /// The term with this root, read to a depth that reaches all nodes.
-fn root(nodes: &[Op], at: usize) -> TermRef<'_>
+fn whole_term(nodes: &[Op], at: usize) -> TermRef<'_>
     ensures { term_to result.nodes.now result.depth result.at ≡ term_in nodes.now at }
 {
     TermRef {
@@ -117,23 +116,23 @@ fn root(nodes: &[Op], at: usize) -> TermRef<'_>
     }
 }
 
-/// Whether the terms with the indexes `roots` in `left` are the same, one by one, as those with the indexes `others` in `right`.
-fn are_same(left: &[Op], roots: &[usize], right: &[Op], others: &[usize]) -> bool
-    ensures { IsTrue result ↔ (terms_in left.now roots.entry.now ≡ terms_in right.now others.entry.now) }
+fn are_same(left: &[Op], left_roots: &[usize], right: &[Op], right_roots: &[usize]) -> bool
+    ensures { IsTrue result ↔ (terms_in left.now left_roots.entry.now
+        ≡ terms_in right.now right_roots.entry.now) }
 {
-    let mut roots = roots;
-    let mut others = others;
-    while let [first, rest @ ..] = roots {
-        let [second, more @ ..] = others else {
+    let mut left_roots = left_roots;
+    let mut right_roots = right_roots;
+    while let [first, rest @ ..] = left_roots {
+        let [second, more @ ..] = right_roots else {
             return false;
         };
-        if !same_term(root(left, *first), root(right, *second)) {
+        if !same_term(whole_term(left, *first), whole_term(right, *second)) {
             return false;
         }
-        roots = rest;
-        others = more;
+        left_roots = rest;
+        right_roots = more;
     }
-    others.is_empty()
+    right_roots.is_empty()
 }
 
 impl Same for Terms {

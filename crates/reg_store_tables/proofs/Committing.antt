@@ -18,7 +18,7 @@ use Rattle.reg_store_tables.specs.Stays.{Changed, Looked, Moves, Stays, Stepped}
 use Rattle.reg_store_tables.proofs.Staying.{stays_register, stays_then}
 use Rattle.reg_store_tables.specs.Commits.{AreLed, Commits, Ends, IsMade}
 use Rattle.reg_store_tables.proofs.Moving.{was_clean}
-use Rattle.reg_store_tables.proofs.Resting.{leaves_first, leaves_less}
+use Rattle.reg_store_tables.proofs.StopsAfterTransactions.{leaves_first, leaves_less}
 
 -- what was begun was there before
 module _ {S : Type 0} (g : Ghosts S) (was begun : Held S) (begins : begun ≡ record was { in_transaction = true }) where

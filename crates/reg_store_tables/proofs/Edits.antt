@@ -31,7 +31,7 @@ use Rattle.sqlite.proofs.Callers.{one_step}
 use Rattle.reg_store_tables.proofs.Queries.{selects, no_limit, passes, shows, given}
 use Rattle.reg_store_tables.proofs.Meaning.{updates, inserts, deletes}
 use Rattle.reg_store_tables.specs.DerivedRows.{turned}
-use Rattle.reg_store_tables.proofs.Turning.{IsKeyed, rows_turned, rows_gone}
+use Rattle.reg_store_tables.proofs.Updates.{IsKeyed, rows_turned, rows_gone}
 
 -- a part that gave a value did not stop on the way
 pub went : {B E R : Type 0} {b : B} {Stops : E → Type 0} → ((stop : E) × Stops stop × (Ok b ≡ Err stop)) ⊎ R → R

@@ -40,8 +40,8 @@ pub mod Moving
 pub mod Params
 pub mod Placing
 pub mod Registers
-pub mod Resting
+pub mod StopsAfterTransactions
 pub mod Spared
 pub mod Stages
-pub mod Turning
+pub mod Updates
 pub mod WaitingLemmas

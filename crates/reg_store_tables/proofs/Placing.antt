@@ -8,7 +8,7 @@ use Rattle.sqlite_rules.specs.declared.error.Rowids.TheVariants.{Chosen}
 use Rattle.sqlite_rules.specs.Edit.{id_in, next_rowid, with_rowid}
 use Rattle.reg_core.specs.Sound.{NumberedFrom}
 use Rattle.reg_store_tables.specs.Rows.{number, behind_rowids, counted_rows}
-use Rattle.reg_store_tables.proofs.Turning.{less}
+use Rattle.reg_store_tables.proofs.Updates.{less}
 
 abbrev Below : Row → Row → Type 0
 Below new r = value_cmp (rowid r) (rowid new) ≡ Less

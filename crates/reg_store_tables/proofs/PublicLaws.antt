@@ -21,7 +21,7 @@ pub use Rattle.reg_store_tables.proofs.Params.{moment_is, number_is, ok_then as 
 pub use Rattle.reg_store_tables.proofs.Placing.{counted_put, mapped_push, pushed, stored_put}
 pub use Rattle.reg_store_tables.proofs.Queries.{Given, all_kept, all_of, as_command, given, kept_behind, keyed_given, no_limit, passes, picked, selects, shows, unmapped}
 pub use Rattle.reg_store_tables.proofs.Registers.{at_known, empties_rows, empties_spares, none_acts, puts_row, puts_spares, spares, turns_rows, turns_spares, unequal_trees}
-pub use Rattle.reg_store_tables.proofs.Resting.{at_rest, leaves_first, leaves_less, resting, rests_sound}
+pub use Rattle.reg_store_tables.proofs.StopsAfterTransactions.{at_rest, leaves_first, leaves_less, resting, rests_sound}
 pub use Rattle.reg_store_tables.proofs.Rowids.{behind, rowids_are, rowids_numbered, with_rowids}
 pub use Rattle.reg_store_tables.proofs.ScheduleLemmas.{ascends_rises, moment_of, steps_are}
 pub use Rattle.reg_store_tables.proofs.Selecting.{select_never, select_planned, selected}
@@ -29,7 +29,7 @@ pub use Rattle.reg_store_tables.proofs.Sorting.{Rises, ascending_key, ascends, s
 pub use Rattle.reg_store_tables.proofs.Spared.{Counted, Numbered, both_after, derived_after, rows_after}
 pub use Rattle.reg_store_tables.proofs.Staying.{Remains, not_run_remains, ran_remains, remains_committed, remains_open}
 pub use Rattle.reg_store_tables.proofs.Staying.{both_shows, both_then, fails_remains, fails_stays, looked_both, reads_nothing, remains_opens, rows_same, shown_opens, shown_answers, stays_by, shown_stays, shows_register, some_then, stays_both, stays_holds, stays_kept, stays_register, stays_shows, stays_then, stepped_then, under_before}
-pub use Rattle.reg_store_tables.proofs.Turning.{IsKeyed, behind_keyed, behind_passing, behind_table, behind_turned, stored_keyed, stored_table, stored_turned}
+pub use Rattle.reg_store_tables.proofs.Updates.{IsKeyed, behind_keyed, behind_passing, behind_table, behind_turned, stored_keyed, stored_table, stored_turned}
 pub use Rattle.reg_store_tables.proofs.Written.{received_early, revocations_have, updated_early}
 use Rattle.std.specs.Prelude.{IsErr}
 use Rattle.std.proofs.Common.{◌≤◌, Result, IfOk}

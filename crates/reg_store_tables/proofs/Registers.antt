@@ -23,7 +23,7 @@ use Rattle.reg_store_tables.specs.Schema.{register_schema, table_trees}
 use Rattle.reg_store_tables.proofs.Queries.{passes}
 use Rattle.reg_store_tables.specs.Stays.{Ran}
 use Rattle.reg_store_tables.proofs.Meaning.{updates, inserts, deletes, IsWriting}
-use Rattle.reg_store_tables.proofs.Turning.{IsKeyed}
+use Rattle.reg_store_tables.proofs.Updates.{IsKeyed}
 use Rattle.reg_store_tables.proofs.Edits.{made, Turns, Puts, Empties, does_turn, does_put, does_empty}
 
 trees_are : map (λ (t : Table). t.tree) register_schema.tables ≡ table_trees

@@ -23,7 +23,7 @@ use Rattle.reg_store_tables.proofs.Registers.{puts_row, puts_spares, turns_rows,
 use Rattle.reg_core.specs.declared.command.Counts.{Counts}
 use Rattle.reg_store_tables.specs.DerivedRows.{stored_counts, turned, with_counts}
 use Rattle.reg_store_tables.proofs.Queries.{passes}
-use Rattle.reg_store_tables.proofs.Turning.{IsKeyed}
+use Rattle.reg_store_tables.proofs.Updates.{IsKeyed}
 use Rattle.reg_store_tables.proofs.Spared.{both_after}
 
 pub puts_step : (from days : ℕ) (old new : State) (count : ℕ) → Ran PUT_STEP.now (number from ∷ number days ∷ []) old new count → AddsStep from days old.now new.now

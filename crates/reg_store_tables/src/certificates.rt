@@ -25,7 +25,7 @@ impl<S: Alter> Tables<S> {
         )
     }
 
-    /// The certificate that fills an order. An id above 2^63 - 1 (19 digits; numbers in lines have at most 18) gives `DatabaseFault::Store`.
+    /// The certificate that fills the order with this id. An id above 2^63 - 1 gives `DatabaseFault::Store`; lines of commands have ids below 10^18.
     pub fn cert_of_order(&mut self, order: u64) -> Result<Option<CertRow>, DatabaseFault>
         ensures { FindsIf (λ _. order < 2 ^ 63) S.Store self.old self.new result
             (λ records row. row ≡ certificate_of_order records.certificates order) }

@@ -1,4 +1,4 @@
-//! Look-ups of CRLs.
+//! Look-ups of CRLs. No CRL has a number above 2^63 - 1, the greatest SQL INTEGER: for such a number, `none_above_range` finds none.
 
 ghost use Rattle.std.specs.Prelude.{◌≡◌, option_map};
 ghost use Rattle.reg_core.specs.Crls.{latest, row_of};
@@ -15,7 +15,7 @@ use reg_core::CrlRow;
 use sqlite::{Alter, Connection, params};
 
 impl<S: Alter> Tables<S> {
-    /// The number and thisUpdate of the latest CRL. Its bytes are not read.
+    /// The number and thisUpdate of the CRL that was issued last. Its bytes are not read.
     pub fn latest_crl(&mut self) -> Result<Option<CrlRow>, DatabaseFault>
         ensures { Finds S.Store self.old self.new result (λ records row.
             row ≡ option_map row_of (latest records.crls)) }
@@ -33,7 +33,7 @@ impl<S: Alter> Tables<S> {
     }
 }
 
-/// The DER of a CRL, by its number, read over a connection; `None` if there is no such CRL. Errors: those of the methods of [`Tables`].
+/// [`Tables::crl`], read over a connection. Errors: those of the methods of [`Tables`].
 pub fn crl<S: Alter>(
     conn: &mut Connection<S>,
     number: u64,

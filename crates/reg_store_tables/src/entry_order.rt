@@ -1,5 +1,4 @@
-//! Reads a page of a table in the order of entry: at most `most` rows after the first `after` ones. Looks up declined requests. A number above
-//! 2^63 - 1 gives `DatabaseFault::Store`.
+//! Reads pages of tables in the order of entry, and looks up declined requests. A number above 2^63 - 1 gives `DatabaseFault::Store`.
 
 ghost use Rattle.std.specs.Prelude.{◌≡◌, ◌<◌, ◌^◌, ◌&&◌, drop, filter, length, map, nat_le, nat_lt, take};
 ghost use Rattle.reg_core.specs.Sound.{SoundRows};
@@ -17,16 +16,16 @@ use crate::tables::Tables;
 use reg_core::{CertRow, OrderRow, RequestRow, RevocationRow, SubscriberRow};
 use sqlite::{Alter, params};
 
-/// A row of a table that can be read in the order of entry.
+/// A kind of row whose table is read in the order of entry.
 pub trait Entered: RowKind<Record = Self> {
     ghost use Rattle.std.specs.Prelude.{List};
     ghost use Rattle.reg_core.specs.Records.{Records};
     ghost use Rattle.reg_store_tables.specs.Pages.{ReadsPage, entered_page};
 
-    /// The rows of the records, in the order of entry.
+    /// The rows of this kind in a register's records, in the order of entry.
     ghost entered: { Records → List Self };
 
-    /// The statement for [`Tables::entered_after`].
+    /// The SQL statement of [`Tables::entered_after`].
     fn entered_sql() -> &'static str
         ensures { ReadsPage Self.has_valid_serial Self.has_values Self.shown (entered_page entered) result.now };
 }
@@ -77,7 +76,7 @@ impl Entered for RevocationRow {
 }
 
 impl<S: Alter> Tables<S> {
-    /// The rows of a table after the first `after` ones, whose ids or rowids are 1 to `after`; at most `most` rows.
+    /// At most `most` rows of the table of `T`, after its first `after` rows, whose ids (or rowids) are 1 to `after`.
     pub fn entered_after<T: Entered>(
         &mut self,
         after: u64,

@@ -1,4 +1,4 @@
-//! Why a call on the store fails.
+//! Why a call on the store, or the reading of a row, fails.
 
 ghost use Rattle.std.specs.Prelude.{◌≡◌};
 
@@ -19,9 +19,8 @@ pub enum DatabaseFault {
 #[derive(Clone, Copy, PartialEq, Eq)]
 pub enum StoreFault {
     Memory,
-    /// As [`DatabaseFault::Store`].
     Store,
-    /// The database is not empty: it has a table, an index or a view.
+    /// The database has a table, an index or a view.
     NotEmpty,
     /// The schema, the row of `office` or the schedule is not that of a register of any version up to the program's.
     NotARegister,
@@ -110,10 +109,10 @@ impl From<DatabaseFault> for StoreFault {
     ghost use Rattle.reg_store_tables.specs.Faults.{store_fault_of};
     ghost use Rattle.reg_store_tables.specs.Stays.{IsDatabaseFault};
 
-    ghost from_gives = { λ call fault. (fault ≡ store_fault_of call) × IsDatabaseFault fault };
+    ghost from_gives = { λ database_fault fault. (fault ≡ store_fault_of database_fault) × IsDatabaseFault fault };
 
-    fn from(call: DatabaseFault) -> StoreFault {
-        match call {
+    fn from(database_fault: DatabaseFault) -> StoreFault {
+        match database_fault {
             DatabaseFault::Memory => StoreFault::Memory,
             DatabaseFault::Store => StoreFault::Store,
         }
@@ -144,10 +143,10 @@ impl<T: Drop> From<AllocFailed<T>> for StoreFault {
 impl From<DatabaseFault> for Fault {
     ghost use Rattle.reg_store_tables.specs.Faults.{fault_of};
 
-    ghost from_gives = { λ call fault. fault ≡ fault_of call };
+    ghost from_gives = { λ database_fault fault. fault ≡ fault_of database_fault };
 
-    fn from(call: DatabaseFault) -> Fault {
-        match call {
+    fn from(database_fault: DatabaseFault) -> Fault {
+        match database_fault {
             DatabaseFault::Memory => Fault::Memory,
             DatabaseFault::Store => Fault::Store,
         }

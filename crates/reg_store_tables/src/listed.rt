@@ -1,4 +1,4 @@
-//! Look-ups in the derived table `listed`: the entries of CRLs, and the CRLs that list a serial number.
+//! Look-ups in the table `listed`, which is derived from the records: the entries of CRLs, and the CRLs that list a serial number.
 
 ghost use Rattle.std.specs.Prelude.{◌≡◌, ◌<◌, ◌≤◌, ◌^◌, ◌↔◌, List, map, length, IsTrue, IfOk, IfErr};
 ghost use Rattle.std.specs.List.{AllByRecursion};
@@ -20,7 +20,6 @@ use crate::tables::Tables;
 use reg_core::{Entry, Listing, Serial};
 use sqlite::{Alter, Row, params};
 
-/// The most entries of a CRL, because no table has more rows.
 const MOST_ENTRIES: usize = 1_000_000;
 
 fn ascends(entries: &[Entry]) -> bool
@@ -29,7 +28,7 @@ fn ascends(entries: &[Entry]) -> bool
     entries.is_sorted_by(|earlier, later| earlier.serial < later.serial)
 }
 
-/// The entries in the rows. `Store` for over 1,000,000, or for serial numbers that don't ascend: the rows of a register have neither.
+/// The entries in the rows. `Store` if there are over 1,000,000, the most rows of any table, or if their serial numbers don't ascend.
 fn entries_of(rows: &Vec<Row>) -> Result<Vec<Entry>, DatabaseFault>
     ensures read { (shown : List Entry) → AllByRecursion (λ entry. IsSerial entry.serial) shown
         → rows.now.items ≡ map shown_entry shown → IfOk result (λ found. found.items ≡ shown) }
@@ -51,8 +50,7 @@ fn entries_of(rows: &Vec<Row>) -> Result<Vec<Entry>, DatabaseFault>
 }
 
 impl<S: Alter> Tables<S> {
-    /// The entries of an issued CRL or of the next one, by its number, in ascending order of serial number: at most 1,000,000.
-    /// More entries, or a number above 2^63 - 1, give `DatabaseFault::Store`. The call scans the table `listed`.
+    /// The entries of an issued CRL or the next one, sorted by serial number. `Store` if over 1,000,000, or for a CRL number above 2^63 - 1.
     pub fn entries(&mut self, number: u64) -> Result<Vec<Entry>, DatabaseFault>
         ensures finds { FindsIf (λ _. number < 2 ^ 63) S.Store self.old self.new result (λ records found.
             ShowsKeptNow (state S.Store self.old) records → found.items ≡ entries records number) }
@@ -64,8 +62,7 @@ impl<S: Alter> Tables<S> {
         entries_of(&found)
     }
 
-    /// Which CRLs list a revoked serial number: the number of the first one, which is perhaps not issued yet, and of the last one, if it is issued.
-    /// `None` if the serial number is not revoked.
+    /// The numbers of the first CRL that lists a serial number, issued or not, and of the last one, if issued. `None` if it is not revoked.
     pub fn listing(&mut self, serial: Serial) -> Result<Option<Listing>, DatabaseFault>
         ensures { Finds S.Store self.old self.new result (λ records found.
             ShowsKeptNow (state S.Store self.old) records → found ≡ listing records serial) }

@@ -1,10 +1,10 @@
-//! Look-ups of the issuer, the policy and the last accepted moment.
+//! Looks up issuer, policy and last accepted moment in the table `office` (schedule: in `longest`). A life: seconds from thisUpdate to nextUpdate.
 
 ghost use Rattle.std.specs.Prelude.{◌≡◌, ◌≤◌, ◌<◌, ◌+◌, ℕ, [], ◌∷◌, IfOk, IfErr};
 ghost use Rattle.sqlite_value.specs.declared.value.Value.TheVariants.{Blob};
 ghost use Rattle.sqlite_value.specs.Order.{column};
 ghost use Rattle.reg_core.specs.Calendar.{clock_end};
-ghost use Rattle.reg_core.specs.Issuer.{Issuer as Kept};
+ghost use Rattle.reg_core.specs.Issuer.{Issuer as StoredIssuer};
 ghost use Rattle.reg_der.specs.Authority.{IsIssuer};
 ghost use Rattle.reg_store_tables.specs.LookUps.{Finds};
 ghost use Rattle.reg_store_tables.specs.ShownRows.{shown_ocsp_head};
@@ -35,14 +35,14 @@ impl<S: Alter> Tables<S> {
         issuer(&mut self.connection)
     }
 
-    /// The policy: the schedule of longest validities, the lives of CRLs and OCSP responses, and the cap (the most rows of a table).
+    /// The policy: the schedule of longest validities, the lives of CRLs and OCSP responses, and the cap (the most rows that a table may have).
     pub fn policy(&mut self) -> Result<Policy, DatabaseFault>
         ensures { Finds S.Store self.old self.new result (λ records policy. policy ≡ records.policy) }
     {
         policy(&mut self.connection)
     }
 
-    /// For an OCSP response: the last accepted moment, the issuer, and the response's life (thisUpdate to nextUpdate) in seconds, by one statement.
+    /// For an OCSP response, by one statement: the last accepted moment, the issuer, and the response's life, which is under ten days (864,000 s).
     pub fn ocsp_head(&mut self) -> Result<(Moment, Issuer, u64), DatabaseFault>
         ensures finds { Finds S.Store self.old self.new result (λ records it.
             (it.0 ≡ records.last) × (it.1 ≡ records.issuer) × (it.2 ≡ records.policy.ocsp_life)) }
@@ -53,13 +53,13 @@ impl<S: Alter> Tables<S> {
     }
 }
 
-/// The issuer in the columns `at` (name) and `at + 1` (key). The bound of `at` shows the prover that the sum does not overflow.
+/// The issuer in two columns: `at` has its Name and key identifiers, `at + 1` its public key. With the bound of `at`, the sum can't overflow.
 fn issuer_in(alloc: Global, row: &Row, at: usize) -> Result<Issuer, DatabaseFault>
     requires { at < 10 }
-    ensures read { (issuer : Kept) → column row.now at ≡ Blob issuer.name
+    ensures read { (issuer : StoredIssuer) → column row.now at ≡ Blob issuer.name
         → column row.now (at + 1) ≡ Blob issuer.key
         → IfOk result (λ read. read ≡ issuer) }
-    ensures has { (issuer : Kept) → IsIssuer issuer → column row.now at ≡ Blob issuer.name
+    ensures has { (issuer : StoredIssuer) → IsIssuer issuer → column row.now at ≡ Blob issuer.name
         → column row.now (at + 1) ≡ Blob issuer.key → IfErr result (λ fault. fault ≡ DatabaseFault.Memory) }
 {
     match bytes_at(row, at) {
@@ -72,16 +72,16 @@ fn issuer_in(alloc: Global, row: &Row, at: usize) -> Result<Issuer, DatabaseFaul
 }
 
 fn issuer_of(rows: &Vec<Row>) -> Result<Issuer, DatabaseFault>
-    ensures read { (issuer : Kept) → rows.now.items ≡ (Blob issuer.name ∷ Blob issuer.key ∷ []) ∷ []
+    ensures read { (issuer : StoredIssuer) → rows.now.items ≡ (Blob issuer.name ∷ Blob issuer.key ∷ []) ∷ []
         → IfOk result (λ read. read ≡ issuer) }
-    ensures has { (issuer : Kept) → IsIssuer issuer
+    ensures has { (issuer : StoredIssuer) → IsIssuer issuer
         → rows.now.items ≡ (Blob issuer.name ∷ Blob issuer.key ∷ []) ∷ []
         → IfErr result (λ fault. fault ≡ DatabaseFault.Memory) }
 {
     issuer_in(*rows.allocator(), only(rows)?, 0)
 }
 
-/// The issuer, read over a connection. Errors: those of the methods of [`Tables`].
+/// [`Tables::issuer`], read over a connection. Errors: those of the methods of [`Tables`].
 pub fn issuer<S: Alter>(conn: &mut Connection<S>) -> Result<Issuer, DatabaseFault>
     ensures { Finds S.Store conn.old conn.new result (λ records issuer. issuer ≡ records.issuer) }
 {
@@ -89,10 +89,11 @@ pub fn issuer<S: Alter>(conn: &mut Connection<S>) -> Result<Issuer, DatabaseFaul
     issuer_of(&found)
 }
 
+/// The columns are those of `OCSP_HEAD`: the last accepted moment, the issuer's two columns, the life.
 fn ocsp_head_in(alloc: Global, row: &Row) -> Result<(Moment, Issuer, u64), DatabaseFault>
-    ensures read { (last life : ℕ) → (issuer : Kept) → row.now ≡ shown_ocsp_head last issuer life
+    ensures read { (last life : ℕ) → (issuer : StoredIssuer) → row.now ≡ shown_ocsp_head last issuer life
         → IfOk result (λ it. (it.0 ≡ last) × (it.1 ≡ issuer) × (it.2 ≡ life)) }
-    ensures has { (last life : ℕ) → (issuer : Kept) → row.now ≡ shown_ocsp_head last issuer life
+    ensures has { (last life : ℕ) → (issuer : StoredIssuer) → row.now ≡ shown_ocsp_head last issuer life
         → last < clock_end
         → IsIssuer issuer → life ≤ 863999 → IfErr result (λ fault. fault ≡ DatabaseFault.Memory) }
     ensures short { IfOk result (λ it. it.2 ≤ 863999) }
@@ -106,8 +107,7 @@ fn ocsp_head_in(alloc: Global, row: &Row) -> Result<(Moment, Issuer, u64), Datab
     }
 }
 
-/// The lives of CRLs and of OCSP responses in seconds, and the cap.
-fn terms<S: Alter>(conn: &mut Connection<S>) -> Result<(u64, u64, u64), DatabaseFault>
+fn lives_and_cap<S: Alter>(conn: &mut Connection<S>) -> Result<(u64, u64, u64), DatabaseFault>
     ensures { Finds S.Store conn.old conn.new result (λ records terms.
         (terms.0 ≡ records.policy.crl_life) × (terms.1 ≡ records.policy.ocsp_life)
         × (terms.2 ≡ records.policy.cap)) }
@@ -123,11 +123,11 @@ fn schedule<S: Alter>(conn: &mut Connection<S>) -> Result<Schedule, DatabaseFaul
     Schedule::new(&steps).ok_or(DatabaseFault::Store)
 }
 
-/// The policy, read over a connection. Errors: those of the methods of [`Tables`].
+/// [`Tables::policy`], read over a connection. Errors: those of the methods of [`Tables`].
 pub fn policy<S: Alter>(conn: &mut Connection<S>) -> Result<Policy, DatabaseFault>
     ensures { Finds S.Store conn.old conn.new result (λ records policy. policy ≡ records.policy) }
 {
-    let (crl_life, ocsp_life, cap) = terms(conn)?;
+    let (crl_life, ocsp_life, cap) = lives_and_cap(conn)?;
     let schedule = schedule(conn)?;
     Policy::with(schedule, crl_life, ocsp_life, cap).ok_or(DatabaseFault::Store)
 }

@@ -1,4 +1,4 @@
-//! Look-ups of orders.
+//! Look-ups of orders. No order has an id above 2^63 - 1, the greatest SQL INTEGER: for such an id, `none_above_range` finds none.
 
 ghost use Rattle.std.specs.Prelude.{◌≡◌};
 ghost use Rattle.reg_core.specs.Records.{order_in};

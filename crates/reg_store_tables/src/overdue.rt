@@ -1,5 +1,5 @@
 //! Look-ups of open and overdue requests. A request is open if it was not declined and its certificate is good. It is overdue if it is open after
-//! its deadline: the moment of its receipt plus the limit of its ground.
+//! its deadline: the moment of its receipt plus the time limit of its ground (why the certificate is to be revoked).
 
 ghost use Rattle.std.specs.Prelude.{◌≡◌, ◌≤◌, ◌+◌, ◌^◌, ◌&&◌, ◌<◌, ◌==◌, ◌++◌, List, [], ◌∷◌, length, min, not, filter, nat_lt, IfOk, IsSome, OnErr};
 ghost use Rattle.reg_core.specs.Due.{deadline, is_open, overdue, overdue_report};
@@ -15,7 +15,6 @@ use crate::tables::Tables;
 use reg_core::{Moment, Overdue, RequestRow, Serial, Status, status_of};
 use sqlite::{Alter, Connection, params};
 
-/// The requests that are not declined, in the order of their ids. The call scans the table `request`.
 fn undeclined<S: Alter>(conn: &mut Connection<S>) -> Result<Vec<RequestRow>, DatabaseFault>
     ensures { Finds S.Store conn.old conn.new result (λ records found.
         found.items ≡ filter (λ row. not row.declined) records.requests) }
@@ -23,8 +22,7 @@ fn undeclined<S: Alter>(conn: &mut Connection<S>) -> Result<Vec<RequestRow>, Dat
     look_up_all::<S, RequestRow>(conn, UNDECLINED, &[])
 }
 
-/// How many requests for a serial number are not declined, counted up to `most`.
-fn undeclined_of<S: Alter>(
+fn count_undeclined<S: Alter>(
     conn: &mut Connection<S>,
     serial: Serial,
     most: u64,
@@ -42,7 +40,7 @@ fn undeclined_of<S: Alter>(
     Ok(newest.len() as u64)
 }
 
-/// The report with one more request, whose id is above those in it.
+/// Adds an overdue request to the report, which has only lower ids (`None`: no request yet). So `first`, the lowest id, stays.
 fn one_more(report: Option<Overdue>, id: u64) -> Result<Option<Overdue>, DatabaseFault>
     ensures more { (requests : List RequestRow) → (request : RequestRow) → report ≡ overdue_report requests
         → request.id ≡ id → IfOk result (λ more. more ≡ overdue_report (requests ++ request ∷ [])) }
@@ -62,7 +60,6 @@ fn one_more(report: Option<Overdue>, id: u64) -> Result<Option<Overdue>, Databas
 }
 
 impl<S: Alter> Tables<S> {
-    /// Whether a registered certificate is good at a moment. `Store` if it is not registered.
     fn is_good_at(&mut self, serial: Serial, now: Moment) -> Result<bool, DatabaseFault>
         ensures { FindsIf (λ records. IsSome (certificate_in records.certificates serial))
             S.Store self.old self.new result (λ records good. good ≡ is_good (status records serial now)) }
@@ -75,8 +72,7 @@ impl<S: Alter> Tables<S> {
         Ok(matches!(status_of(now, certificate, revoked), Status::Good))
     }
 
-    /// Whether an undeclined request is overdue at a moment.
-    fn is_late(&mut self, request: RequestRow, now: Moment) -> Result<bool, DatabaseFault>
+    fn is_overdue(&mut self, request: RequestRow, now: Moment) -> Result<bool, DatabaseFault>
         ensures { FindsIf (λ records. IsSome (certificate_in records.certificates request.serial))
             S.Store self.old self.new result (λ records late.
             late ≡ (is_good (status records request.serial now) && nat_lt (deadline request) now)) }
@@ -87,8 +83,7 @@ impl<S: Alter> Tables<S> {
         Ok(is_good && is_past)
     }
 
-    /// How many requests are overdue at a moment, and the least id of them; `None` if there are none. The call scans the table `request`, and
-    /// looks up the certificate and the revocation of each request that is not declined.
+    /// How many requests are overdue, and their lowest id. The call scans `request`, and looks up each undeclined one's certificate and revocation.
     pub fn open_past_due(&mut self, now: Moment) -> Result<Option<Overdue>, DatabaseFault>
         ensures { Finds S.Store self.old self.new result (λ records report.
             report ≡ overdue_report (overdue records now)) }
@@ -96,7 +91,7 @@ impl<S: Alter> Tables<S> {
         let requests = undeclined(&mut self.connection)?;
         let mut report = None;
         for request in &requests {
-            if self.is_late(*request, now)? {
+            if self.is_overdue(*request, now)? {
                 report = one_more(report, request.id)?;
             }
         }
@@ -118,8 +113,7 @@ impl<S: Alter> Tables<S> {
         Ok(count)
     }
 
-    /// How many requests for a serial number are open at a moment, counted up to `most`. If the certificate is good, the call scans the table
-    /// `request` back from its last row, until `most` are found; in this case a `most` above 2^63 - 1 gives `DatabaseFault::Store`.
+    /// How many requests for a serial number are open at a moment, counted up to `most` (below 2^63). The call may scan all of `request`.
     pub fn open_of(&mut self, serial: Serial, now: Moment, most: u64) -> Result<u64, DatabaseFault>
         ensures { FindsIf (λ _. most < 2 ^ 63) S.Store self.old self.new result (λ records count.
             count ≡ min most (length
@@ -128,7 +122,7 @@ impl<S: Alter> Tables<S> {
         let certificate = self.cert(serial)?;
         let revoked = self.revocation(serial)?;
         match status_of(now, certificate, revoked) {
-            Status::Good => undeclined_of(&mut self.connection, serial, most),
+            Status::Good => count_undeclined(&mut self.connection, serial, most),
             _ => Ok(0),
         }
     }

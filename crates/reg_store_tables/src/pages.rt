@@ -1,4 +1,4 @@
-//! Look-ups of the first rows past a key, at most `most` of them, in the order of keys. A number above 2^63 - 1 gives `DatabaseFault::Store`.
+//! Look-ups of pages: at most `most` rows, past the key `after`, in the order of keys. A number above 2^63 - 1 gives `DatabaseFault::Store`.
 
 ghost use Rattle.std.specs.Prelude.{◌≡◌, ◌<◌, ◌^◌, map, take};
 ghost use Rattle.reg_core.specs.Crls.{row_of};
@@ -15,9 +15,9 @@ use crate::tables::Tables;
 use reg_core::{CertRow, CrlRow, RevocationRow, Serial};
 use sqlite::{Alter, params};
 
-/// The bytes of a serial number; for `None` those of 0, which is below each serial number.
+/// The key in SQL: the 20 bytes of a serial number, big-endian; for `None` those of 0, which is below each serial number.
 #[tactic(auto, unfolding(reg_core::specs::Serial::serial_bytes))]
-fn bytes_of(after: Option<Serial>) -> [u8; 20]
+fn key_bytes(after: Option<Serial>) -> [u8; 20]
     ensures bytes { result ≡ serial_bytes (key_of after) }
     ensures low { key_of after < 2 ^ 159 }
 {
@@ -28,7 +28,7 @@ fn bytes_of(after: Option<Serial>) -> [u8; 20]
 }
 
 impl<S: Alter> Tables<S> {
-    /// The certificates past a serial number, or from the first one on, in ascending order of their serial numbers.
+    /// The certificates past a serial number (`None`: from the first one on), in ascending order of their serial numbers.
     pub fn certs_after(
         &mut self,
         after: Option<Serial>,
@@ -39,7 +39,7 @@ impl<S: Alter> Tables<S> {
             → found.items ≡ take most (past (λ row. row.serial) (key_of after) records.certificates)) }
     {
         let limit = sql_number(most)?;
-        let key = bytes_of(after);
+        let key = key_bytes(after);
         look_up_all::<S, CertRow>(
             &mut self.connection,
             CERTS_AFTER,
@@ -47,7 +47,7 @@ impl<S: Alter> Tables<S> {
         )
     }
 
-    /// The revocations past a serial number, or from the first one on, in ascending order of their serial numbers.
+    /// The revocations past a serial number (`None`: from the first one on), in ascending order of their serial numbers.
     pub fn revocations_after(
         &mut self,
         after: Option<Serial>,
@@ -58,7 +58,7 @@ impl<S: Alter> Tables<S> {
             → found.items ≡ take most (past (λ row. row.serial) (key_of after) records.revocations)) }
     {
         let limit = sql_number(most)?;
-        let key = bytes_of(after);
+        let key = key_bytes(after);
         look_up_all::<S, RevocationRow>(
             &mut self.connection,
             REVOCATIONS_AFTER,

@@ -1,4 +1,4 @@
-//! Statements that only read.
+//! Runs SQL statements that only read. The type `T` is a kind of row, and says how to read it. `Store` if rows are too many or not a register's.
 
 ghost use Rattle.std.specs.Prelude.{◌≡◌, ◌≢◌, ◌≤◌, ◌<◌, ◌^◌, ℕ, false, List, [], ◌∷◌, length, IfOk, OnErr, MatchOption};
 ghost use Rattle.sqlite_value.specs.Order.{Row as Values};
@@ -42,7 +42,6 @@ pub(crate) fn look_up<S: Alter, T: RowKind>(
     row_in::<T>(&rows)
 }
 
-/// The record in the only row that a query returns. `Store` for no row and for more.
 pub(crate) fn look_up_one<S: Alter, T: RowKind>(
     conn: &mut Connection<S>,
     sql: &str,
@@ -60,7 +59,6 @@ pub(crate) fn look_up_one<S: Alter, T: RowKind>(
     }
 }
 
-/// The record in each row that a query returns.
 pub(crate) fn look_up_all<S: Alter, T: RowKind>(
     conn: &mut Connection<S>,
     sql: &str,
@@ -76,7 +74,7 @@ pub(crate) fn look_up_all<S: Alter, T: RowKind>(
     Ok(rows_in::<T>(*rows.allocator(), &rows)?)
 }
 
-/// The page that a statement reads: at most `most` rows past the id, rowid or CRL number `after`. A number above 2^63 - 1 gives `Store`.
+/// At most `most` records (`?2` in the SQL) past the id, rowid or CRL number `after` (`?1`). A number above 2^63 - 1 gives `Store`.
 pub(crate) fn look_up_page<S: Alter, T: RowKind>(
     conn: &mut Connection<S>,
     sql: &str,
@@ -93,7 +91,6 @@ pub(crate) fn look_up_page<S: Alter, T: RowKind>(
     look_up_all::<S, T>(conn, sql, params![&key, &limit])
 }
 
-/// The one row, or none. `Store` for more.
 pub(crate) fn at_most_one(rows: &[Row]) -> Result<Option<&Row>, DatabaseFault>
     ensures found { IfOk result (λ found.
         MatchOption found (rows.now ≡ []) (λ row. rows.now ≡ row.now ∷ [])) }
@@ -106,7 +103,6 @@ pub(crate) fn at_most_one(rows: &[Row]) -> Result<Option<&Row>, DatabaseFault>
     }
 }
 
-/// The one row. `Store` for none and for more.
 pub(crate) fn only(rows: &[Row]) -> Result<&Row, DatabaseFault>
     ensures found { IfOk result (λ row. rows.now ≡ row.now ∷ []) }
     ensures others { OnErr result ((row : Values) → rows.now ≢ row ∷ []) }

@@ -1,4 +1,4 @@
-//! Look-ups of requests.
+//! Look-ups of requests. No request has an id above 2^63 - 1, the greatest SQL INTEGER: for such an id, `none_above_range` finds none.
 
 ghost use Rattle.std.specs.Prelude.{◌≡◌};
 ghost use Rattle.reg_core.specs.Records.{request_in};

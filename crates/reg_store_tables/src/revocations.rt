@@ -17,7 +17,7 @@ use reg_core::{Moment, RevocationRow, Serial};
 use sqlite::{Alter, Connection, params};
 
 impl<S: Alter> Tables<S> {
-    /// The revocation of a serial number; `None` if it is not revoked.
+    /// The revocation of a serial number, if there is one.
     pub fn revocation(&mut self, serial: Serial) -> Result<Option<RevocationRow>, DatabaseFault>
         ensures { Finds S.Store self.old self.new result (λ records row.
             row ≡ revocation_in records.revocations serial) }
@@ -33,13 +33,12 @@ impl<S: Alter> Tables<S> {
     pub fn earliest_unlisted(&mut self) -> Result<Option<Moment>, DatabaseFault>
         ensures { Finds S.Store self.old self.new result (λ records at. at ≡ earliest (unlisted records)) }
     {
-        // The number of rows is that of the latest CRL.
+        // CRLs are numbered from 1 on, so the number of rows is that of the latest CRL.
         let latest = held(&mut self.connection, Table::Crls)?;
         earliest_above(&mut self.connection, latest)
     }
 }
 
-/// The moment of the earliest revocation whose first CRL has a number above this one.
 fn earliest_above<S: Alter>(
     conn: &mut Connection<S>,
     number: u64,

@@ -1,4 +1,4 @@
-//! Reads rows of the SQL tables as values of the register. The columns are in the order in which the statements name them.
+//! Reads result rows as values. Columns are counted from 0, in the order of the statement. `first`, `last`: a revocation's first and last CRL.
 
 ghost use Rattle.std.specs.Prelude.{◌≡◌, ◌≤◌, List, Option, map, length, IfOk, IfErr, OnErr};
 ghost use Rattle.std.specs.List.{AllByRecursion};
@@ -16,7 +16,7 @@ use reg_core::{
 use sqlite::Row;
 use std::alloc::Global;
 
-/// A kind of row, and how to read one.
+/// A kind of row, and how to read one. In its conditions, `Unit {0}` is always true.
 pub trait RowKind {
     ghost use Rattle.std.specs.Prelude.{◌≡◌, IfSome, IsSome};
     ghost use Rattle.sqlite_value.specs.Order.{Row as Cells};
@@ -25,10 +25,10 @@ pub trait RowKind {
     /// The type of the value that a row is read as.
     type Record: Copy;
 
-    /// The columns of a value, in the order in which the statement names them.
+    /// The columns of a value's row.
     ghost shown: { Self.Record → Cells };
 
-    /// The serial number of a value, if it has one, is valid (RFC 5280 4.1.2.2).
+    /// The serial number of a value, if it has one, is in the range of RFC 5280 4.1.2.2.
     ghost has_valid_serial: { Self.Record → Type 0 };
 
     /// The other fields of a value are within the ranges of the register's types.
@@ -237,7 +237,7 @@ impl RowKind for Listing {
     }
 }
 
-/// A step of the schedule: a notBefore, and the longest validity in days from this notBefore on.
+/// A row of a step of the schedule: a notBefore, and the longest validity in days from this notBefore on.
 pub struct Step;
 
 impl RowKind for Step {
@@ -257,7 +257,6 @@ impl RowKind for Step {
     }
 }
 
-/// A row of one number.
 pub(crate) struct Number;
 
 impl RowKind for Number {
@@ -297,7 +296,7 @@ impl RowKind for ClockMoment {
     }
 }
 
-/// A row of the lives of CRLs and of OCSP responses in seconds, and the cap (the most rows of a table).
+/// A row of the lives of CRLs and of OCSP responses (thisUpdate to nextUpdate, in seconds), and the cap (the most rows that a table may have).
 pub(crate) struct Terms;
 
 impl RowKind for Terms {
@@ -335,7 +334,6 @@ pub fn rows_in<T: RowKind>(alloc: Global, rows: &[Row]) -> Result<Vec<T::Record>
     Ok(found)
 }
 
-/// Reads the only row; `None` if there is no row. `Store` for more rows, and for a column of another type or with an invalid value.
 pub(crate) fn row_in<T: RowKind>(rows: &[Row]) -> Result<Option<T::Record>, DatabaseFault>
     ensures read { (wanted : Option T.Record) → IsRowOf T.has_valid_serial T.shown rows.now wanted
         → IfOk result (λ found. found ≡ wanted) }

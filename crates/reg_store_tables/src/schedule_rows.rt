@@ -1,4 +1,4 @@
-//! Inserts the steps of the schedule of longest validities, inside a transaction.
+//! Inserts the steps of the schedule. A certificate with a notBefore from a step's `from` up to the next step is valid for at most the step's `days`.
 
 ghost use Rattle.reg_store_tables.specs.Stays.{Stepped};
 ghost use Rattle.reg_store_tables.specs.Staged.{AddsStep, AddsSteps};

@@ -24,8 +24,7 @@ pub enum Table {
     Crls,
 }
 
-/// The SQL that finds the number of the last row.
-fn last_row(table: Table) -> &'static str
+fn last_row_sql(table: Table) -> &'static str
     ensures { result.now ≡ text_of_last table }
 {
     match table {
@@ -51,12 +50,11 @@ pub(crate) fn held<S: Alter>(conn: &mut Connection<S>, table: Table) -> Result<u
     ensures live { HasSchema (state S.Store conn.old) → HasCleanDisk (state S.Store conn.new)
         → OnOk result (IsTrue (state S.Store conn.old).is_open) }
 {
-    let last = look_up::<S, Number>(conn, last_row(table), &[])?;
+    let last = look_up::<S, Number>(conn, last_row_sql(table), &[])?;
     Ok(last.unwrap_or(0))
 }
 
-/// The look-up of a number above 2^63 - 1, the greatest SQL INTEGER: `None`. It reads the number of the last row, so that a database that fails is
-/// reported here, too. The comparison shows the prover that no row has the number.
+/// A look-up by a number above 2^63 - 1: `None`. The call reads the last row, to report a failed database and to prove that no row has the number.
 pub(crate) fn none_above_range<S: Alter, T>(
     conn: &mut Connection<S>,
     table: Table,

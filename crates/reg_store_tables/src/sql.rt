@@ -1,4 +1,6 @@
-//! The SQL of the statements. Those that read use a key, an index or a table of one row, unless their comment says that they scan a table.
+//! The SQL of the statements, over the tables of `schema.rt`. `last_at` is the last accepted moment, `G` in `standing` the state letter of a good
+//! certificate. `STEPS`, `UNDECLINED`, `EARLIEST_ABOVE` and `ENTRIES` scan a table; `UNDECLINED_OF`, `DECLINED_AFTER` and `DECLINED_UP_TO` scan
+//! `request` or a part of it. The other SELECTs use a key, an index or a table of one row (`office`, `kept`).
 
 pub(crate) const LAST: &str = "SELECT last_at FROM office";
 
@@ -7,7 +9,7 @@ pub(crate) const ISSUER: &str = "SELECT name, pubkey FROM office";
 pub(crate) const TERMS: &str = "SELECT crl_life, ocsp_life, cap FROM office";
 
 pub(crate) const OCSP_HEAD: &str = "SELECT last_at, name, pubkey, ocsp_life FROM office";
-/// The steps of the schedule, in the order of their moments. It scans the table `longest`.
+/// The steps of the schedule: each a notBefore, and the longest validity in days from this notBefore on.
 pub const STEPS: &str = "SELECT from_at, days FROM longest ORDER BY from_at";
 
 pub(crate) const LAST_SUBSCRIBER: &str = "SELECT id FROM subscriber ORDER BY id DESC LIMIT 1";
@@ -37,16 +39,16 @@ pub(crate) const CERT_BY_ORDER: &str =
 
 pub(crate) const REQUEST_BY_ID: &str =
     "SELECT id, serial, ground, received, declined FROM request WHERE id = ?1";
-/// The requests that are not declined, in the order of their ids. It scans the table `request`.
+
 pub(crate) const UNDECLINED: &str =
     "SELECT id, serial, ground, received, declined FROM request WHERE declined = 0 ORDER BY id";
-/// The ids of the newest requests for a serial number that are not declined, at most `?2` of them. It scans the table `request` backwards.
+
 pub(crate) const UNDECLINED_OF: &str =
     "SELECT id FROM request WHERE declined = 0 AND serial = ?1 ORDER BY id DESC LIMIT ?2";
 
 pub(crate) const REVOCATION_BY_SERIAL: &str =
     "SELECT serial, at, reason, request, first_crl FROM revocation WHERE serial = ?1";
-/// The moment of the earliest revocation whose first CRL has a number above `?1`. It scans the table `revocation`.
+
 pub(crate) const EARLIEST_ABOVE: &str =
     "SELECT at FROM revocation WHERE first_crl > ?1 ORDER BY at LIMIT 1";
 
@@ -59,19 +61,19 @@ pub(crate) const ENDED_BEFORE: &str =
 
 pub(crate) const LISTED_BY_SERIAL: &str =
     "SELECT first_crl, last_listed FROM listed WHERE serial = ?1";
-/// The entries of the CRL with the number `?1`, in the order of their serial numbers. It scans the table `listed`.
+/// The entries of the CRL with the number `?1`.
 pub(crate) const ENTRIES: &str =
     "SELECT serial, at, reason FROM listed WHERE first_crl <= ?1 AND (last_listed IS NULL OR last_listed >= ?1) ORDER BY serial";
-/// The first certificates past a serial number, in the order of their serial numbers, at most `?2` of them. It reads no others.
+
 pub(crate) const CERTS_AFTER: &str =
     "SELECT serial, order_id, not_before, not_after FROM cert WHERE serial > ?1 ORDER BY serial LIMIT ?2";
 
 pub(crate) const REVOCATIONS_AFTER: &str =
     "SELECT serial, at, reason, request, first_crl FROM revocation WHERE serial > ?1 ORDER BY serial LIMIT ?2";
-/// The first CRLs past a number, without their bytes, at most `?2` of them. It reads the index `crl_at`.
+
 pub(crate) const CRLS_AFTER: &str =
     "SELECT number, this_update FROM crl WHERE number > ?1 ORDER BY number LIMIT ?2";
-/// The first rows past an id or a rowid, in the order of entry, at most `?2` of them. These five statements read no others.
+
 pub(crate) const SUBSCRIBERS_ENTERED_AFTER: &str =
     "SELECT id, name FROM subscriber WHERE id > ?1 ORDER BY id LIMIT ?2";
 
@@ -86,10 +88,10 @@ pub(crate) const REQUESTS_ENTERED_AFTER: &str =
 
 pub(crate) const REVOCATIONS_ENTERED_AFTER: &str =
     "SELECT serial, at, reason, request, first_crl FROM revocation WHERE rowid > ?1 ORDER BY rowid LIMIT ?2";
-/// The ids of the first declined requests past an id, at most `?2` of them. It scans the table `request` from that id on.
+
 pub(crate) const DECLINED_AFTER: &str =
     "SELECT id FROM request WHERE declined = 1 AND id > ?1 ORDER BY id LIMIT ?2";
-/// How many requests up to the id `?1` are declined. It scans the table `request` up to that id.
+
 pub(crate) const DECLINED_UP_TO: &str =
     "SELECT count(*) FROM request WHERE declined = 1 AND id <= ?1";
 

@@ -28,7 +28,6 @@ pub(crate) fn sql_key(n: u64) -> Option<Value>
 /// The longest life of a CRL or an OCSP response, from thisUpdate to nextUpdate, in seconds: ten days less a second, as in `reg_core::Policy`.
 const LONGEST_LIFE: u64 = 863_999;
 
-/// As [`sql_key`], with `Store` for `None`.
 pub(crate) fn sql_number(n: u64) -> Result<Value, DatabaseFault>
     ensures value { IfOk result (λ value. value ≡ number n) }
     ensures fits { OnOk result (n < 2 ^ 63) }
@@ -53,7 +52,7 @@ pub fn number_at(row: &Row, at: usize) -> Option<u64>
     }
 }
 
-/// The number in a column that may be NULL (`Some(None)`). `None` for a column beyond the row's end, which `column` in contracts has as NULL.
+/// The number in a column that may be NULL (`Some(None)`). `None` for a column beyond the row's end, for which `column` in contracts is NULL.
 pub fn number_or_null_at(row: &Row, at: usize) -> Option<Option<u64>>
     ensures read { (n : Option ℕ) → at < length row.now → column row.now at ≡ number_or_null n
         → result ≡ Some n }
@@ -91,7 +90,6 @@ pub fn clock_moment_at(row: &Row, at: usize) -> Option<Moment>
     }
 }
 
-/// The life in seconds in a column: at most `LONGEST_LIFE`.
 pub(crate) fn life_at(row: &Row, at: usize) -> Option<u64>
     ensures read { (n : ℕ) → column row.now at ≡ number n
         → MatchOption result (863999 < n) (λ read. read ≡ n) }
@@ -162,7 +160,7 @@ pub fn flag_at(row: &Row, at: usize) -> Option<bool>
     }
 }
 
-/// The reasonCode in a column (RFC 5280 5.3.1): any number up to 255.
+/// The reasonCode in a column (RFC 5280 5.3.1): any number up to 255, also one that is no reasonCode.
 pub fn reason_at(row: &Row, at: usize) -> Option<u8>
     ensures read { (n : ℕ) → column row.now at ≡ number n → MatchOption result (256 ≤ n) (λ read. read ≡ n) }
     ensures told { IfSome result (λ n. column row.now at ≡ number n) }

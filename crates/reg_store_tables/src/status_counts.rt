@@ -1,4 +1,4 @@
-//! The counts of certificates by their status, from the derived tables `standing` (a state letter for each) and `kept` (the counts of these).
+//! The counts of certificates by status, from tables derived from the records: `standing` (a state letter for each) and `kept` (the letters' counts).
 
 ghost use Rattle.std.specs.Prelude.{◌≡◌, ◌≤◌, length, filter, IsTrue};
 ghost use Rattle.sqlite.specs.Held.{state};
@@ -35,7 +35,7 @@ impl<S: Alter> Tables<S> {
     }
 }
 
-/// The counts in the table `kept`, as of the last accepted moment. The call reads one row. Errors: those of the methods of [`Tables`].
+/// The counts in the table `kept`, as of the last accepted moment. The call reads one row.
 pub fn stored_counts_at_last<S: Alter>(conn: &mut Connection<S>) -> Result<Counts, DatabaseFault>
     ensures { Finds S.Store conn.old conn.new result (λ records counts.
         (kept : DerivedRows) → ShowsBothNow (state S.Store conn.old) records kept → counts ≡ kept.counts) }
@@ -43,7 +43,7 @@ pub fn stored_counts_at_last<S: Alter>(conn: &mut Connection<S>) -> Result<Count
     look_up_one::<S, Counts>(conn, COUNTS, &[])
 }
 
-/// How many certificates with the letter `G` are past notAfter at a moment. They were good (`G`) at the last accepted moment, and have expired since.
+/// How many certificates with the letter `G` (good) have a notAfter before `now`: those that have expired since the last accepted moment.
 fn ended_before<S: Alter>(conn: &mut Connection<S>, now: Moment) -> Result<u64, DatabaseFault>
     ensures { Finds S.Store conn.old conn.new result (λ records ended.
         (kept : DerivedRows) → ShowsBothNow (state S.Store conn.old) records kept

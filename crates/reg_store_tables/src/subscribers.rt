@@ -15,7 +15,7 @@ use sqlite::types::ValueRef;
 use sqlite::{Alter, params};
 
 impl<S: Alter> Tables<S> {
-    /// The subscriber with an id, if any; none has an id above SQL's greatest INTEGER.
+    /// The subscriber with an id, if any. No subscriber has an id above 2^63 - 1, the greatest SQL INTEGER.
     pub fn subscriber(&mut self, id: u64) -> Result<Option<SubscriberRow>, DatabaseFault>
         ensures { Finds S.Store self.old self.new result (λ records row.
             row ≡ subscriber_in records.subscribers id) }

@@ -1,4 +1,4 @@
-//! Statements that write, inside a transaction, and the SQL values that they take.
+//! Runs SQL statements that write, inside a transaction, and makes the SQL values that they take.
 
 ghost use Rattle.std.specs.Prelude.{◌≡◌, ◌<◌, ◌≤◌, ◌^◌, pos, cond, OnOk, IfOk, IfErr};
 ghost use Rattle.sqlite.specs.Values.{bound};
@@ -49,7 +49,7 @@ pub fn sql_reason(reason: u8) -> ValueRef<'static>
     ValueRef::Int(i64::from(reason))
 }
 
-/// The ground as an SQL INTEGER: its index in the list of grounds, from 1 on.
+/// The ground of a request (why it is requested) as an SQL INTEGER: its index in the list of grounds, from 1 on.
 pub fn sql_ground(ground: Ground) -> ValueRef<'static>
     ensures { result ≡ ValueRef.Int (pos (ground_index ground)) }
 {

@@ -5,7 +5,7 @@ use Rattle.reg_store_tables.proofs.PublicLaws.{stays_both, stays_holds, stays_re
 use Rattle.reg_audit.specs.Complete.{ShowsSound}
 use Rattle.reg_audit.proofs.Ends.{ended_older, ended_other, failed_first, never_newer, never_none, says_older, stays_same, tells_said}
 use Rattle.reg_audit.proofs.Ordered.{tables_are}
-use Rattle.reg_audit.proofs.VerdictLemmas.{always_said, counted_said, denied_said, register_by, says_third, sound_said}
+use Rattle.reg_audit.proofs.AuditResultLemmas.{always_said, counted_said, denied_said, register_by, says_third, sound_said}
 use Rattle.reg_audit.proofs.audit_result.judge.Goals as goal
 
 pub returns-in_err-is_register : goal.returns-in_err-is_register

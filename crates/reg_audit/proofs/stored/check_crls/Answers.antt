@@ -19,10 +19,10 @@ use Rattle.reg_audit.proofs.stored.check_crls.Goals as goal
 pub returns-clause-bytes : goal.returns-clause-bytes
 returns-clause-bytes g c records columns shows are kept clean =
     let old = c.args.conn.now in
-    let mid = c.terms.new.conn in
+    let mid = c.issuer_and_crl_life.new.conn in
     let was_clean : HasCleanDisk (state g.S.Store mid) = omega (arith, c.check_each.ensures.looked.survives.clean) in
     let here = both_shows g.S.Store old records columns shows in
-    let there = looked_shows c.terms.ensures.looked records here in
+    let there = looked_shows c.issuer_and_crl_life.ensures.looked records here in
     let terms = c.in_ok-issuer.ensures.found records here was_clean in
     let of_crls = c.rows_at.ensures.read records columns whole Office are (omega arith) in
     let of_listed = c.rows_at-2.ensures.read records columns whole Office are (omega arith) in
@@ -47,10 +47,10 @@ returns-in_err-listed-clause-rows g c records columns are values sound kept =
 pub returns-clause-others : goal.returns-clause-others
 returns-clause-others g c records columns shows are values sound kept clean =
     let old = c.args.conn.now in
-    let mid = c.terms.new.conn in
+    let mid = c.issuer_and_crl_life.new.conn in
     let was_clean : HasCleanDisk (state g.S.Store mid) = omega (arith, c.check_each.ensures.looked.survives.clean) in
     let here = both_shows g.S.Store old records columns shows in
-    let there = looked_shows c.terms.ensures.looked records here in
+    let there = looked_shows c.issuer_and_crl_life.ensures.looked records here in
     let terms = c.in_ok-issuer.ensures.found records here was_clean in
     let of_crls = c.rows_at.ensures.read records columns whole Office are (omega arith) in
     let of_listed = c.rows_at-2.ensures.read records columns whole Office are (omega arith) in
@@ -74,4 +74,4 @@ returns-in_err-listed-clause-others g c records columns shows are values sound k
     search rules
 
 pub returns-clause-looked : goal.returns-clause-looked
-returns-clause-looked g c = looked_then c.terms.ensures.looked c.check_each.ensures.looked
+returns-clause-looked g c = looked_then c.issuer_and_crl_life.ensures.looked c.check_each.ensures.looked

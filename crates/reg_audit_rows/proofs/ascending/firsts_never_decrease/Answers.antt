@@ -1,7 +1,7 @@
 use Rattle.std.proofs.Common.{◌≤◌, arith, rules}
 use Rattle.reg_core.specs.declared.rows.RevocationRow.{RevocationRow}
 use Rattle.reg_core_laws.proofs.PublicLaws.{all_weaker}
-use Rattle.reg_audit_rows.proofs.Fronts.{falls_more, falls_here, all_more, all_last}
+use Rattle.reg_audit_rows.proofs.RowPrefixes.{falls_more, falls_here, all_more, all_last}
 use Rattle.reg_audit_rows.proofs.ascending.firsts_never_decrease.Goals as goal
 
 pub loop-row_index-preserved : goal.loop-row_index-preserved

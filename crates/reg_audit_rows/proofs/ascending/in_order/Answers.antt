@@ -1,5 +1,5 @@
 use Rattle.std.proofs.Common.{◌≡◌, ◌+◌, rules}
-use Rattle.reg_audit_rows.proofs.Fronts.{numbered_more, numbered_here}
+use Rattle.reg_audit_rows.proofs.RowPrefixes.{numbered_more, numbered_here}
 use Rattle.reg_audit_rows.proofs.ascending.in_order.Goals as goal
 
 pub returns-then-number-row_index-clause-broken : goal.returns-then-number-row_index-clause-broken

@@ -1,6 +1,6 @@
 use Rattle.std.proofs.Common.{◌≡◌, ◌≤◌, arith, rules}
 use Rattle.reg_core_laws.proofs.PublicLaws.{all_weaker}
-use Rattle.reg_audit_rows.proofs.Fronts.{falls_more, falls_here, all_more, all_last}
+use Rattle.reg_audit_rows.proofs.RowPrefixes.{falls_more, falls_here, all_more, all_last}
 use Rattle.reg_audit_rows.proofs.ascending.moments_never_decrease.Goals as goal
 
 pub loop-row_index-preserved : goal.loop-row_index-preserved

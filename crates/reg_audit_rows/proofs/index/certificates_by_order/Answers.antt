@@ -3,7 +3,7 @@ use Rattle.std.specs.BTreeMap.{get}
 use Rattle.std.specs.Ordering.{nat_cmp}
 use Rattle.reg_core.specs.declared.rows.CertRow.{CertRow}
 use Rattle.reg_core_laws.proofs.PublicLaws.{some_of}
-use Rattle.reg_audit_rows.proofs.Fronts.{entered_more, known_key}
+use Rattle.reg_audit_rows.proofs.RowPrefixes.{entered_more, known_key}
 use Rattle.reg_audit_rows.proofs.index.certificates_by_order.Goals as goal
 
 pub returns-then-is_some-clause-broken : goal.returns-then-is_some-clause-broken

@@ -2,7 +2,7 @@ use Rattle.std.proofs.Common.{◌≡◌, sym, subst}
 use Rattle.reg_core.specs.Records.{order_in}
 use Rattle.reg_core.specs.declared.rows.CertRow.{CertRow}
 use Rattle.reg_audit_rows.specs.Read.{IsAsOrdered}
-use Rattle.reg_audit_rows.proofs.Fronts.{all_here, all_more}
+use Rattle.reg_audit_rows.proofs.RowPrefixes.{all_here, all_more}
 use Rattle.reg_audit_rows.proofs.relations.are_as_ordered.Goals as goal
 
 pub returns-in-Some-clause-broken : goal.returns-in-Some-clause-broken

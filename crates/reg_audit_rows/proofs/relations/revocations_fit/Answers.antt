@@ -4,7 +4,7 @@ use Rattle.std.specs.Ordering.{nat_cmp}
 use Rattle.reg_core.specs.Records.{request_in}
 use Rattle.reg_core.specs.declared.rows.RevocationRow.{RevocationRow}
 use Rattle.reg_audit_rows.specs.Read.{FitsIn}
-use Rattle.reg_audit_rows.proofs.Fronts.{all_here, all_more}
+use Rattle.reg_audit_rows.proofs.RowPrefixes.{all_here, all_more}
 use Rattle.reg_audit_rows.proofs.relations.revocations_fit.Goals as goal
 
 pub returns-in-Some-clause-broken : goal.returns-in-Some-clause-broken

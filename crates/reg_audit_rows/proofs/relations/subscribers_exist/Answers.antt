@@ -3,7 +3,7 @@ use Rattle.reg_core.specs.declared.rows.OrderRow.{OrderRow}
 use Rattle.reg_core.specs.declared.rows.SubscriberRow.{SubscriberRow}
 use Rattle.std.proofs.lemmas.List.Elements.{All-from_recursion}
 use Rattle.reg_core_laws.proofs.PublicLaws.{all_weaker}
-use Rattle.reg_audit_rows.proofs.Fronts.{whole}
+use Rattle.reg_audit_rows.proofs.RowPrefixes.{whole}
 use Rattle.reg_audit_rows.proofs.Fits.{IsOneOf, one_found, found_one}
 use Rattle.reg_audit_rows.proofs.relations.subscribers_exist.Goals as goal
 

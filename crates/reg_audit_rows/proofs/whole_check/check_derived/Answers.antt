@@ -25,7 +25,7 @@ returns-in_err-same_rows-clause-broken c index records are sound columns held =
     let differ = subst (Rattle.reg_core.specs.Sound.KeysDiffer (λ (row : Rattle.reg_audit_rows.specs.declared.derived_rows.Standing.Standing). row.serial)) (sym made) (letters_differ c.args.rows.now records are sound revocations index.revocations) in
     let no : IsBroken c.in_err-same_rows.field-0.0 → Kept columns records → ⊥ =
     λ is kept. c.in_err-same_rows.ensures.broken differ is
-    (subst (λ l. IsPermutation l c.args.beside.now.letters.now) (sym made) (letters_back c.args.rows.now records are sound revocations index.revocations c.args.beside.now.letters.now columns.letters held.letters kept.letters)) in
+    (subst (λ l. IsPermutation l c.args.derived.now.letters.now) (sym made) (letters_back c.args.rows.now records are sound revocations index.revocations c.args.derived.now.letters.now columns.letters held.letters kept.letters)) in
     search rules
 
 pub returns-clause-ok : goal.returns-clause-ok
@@ -35,13 +35,13 @@ returns-clause-ok c index records are sound columns held =
     let crls = crls_read c.args.rows.now records are sound.crls in
     let made = c.in_ok-letters.ensures.made in
     let listed_made = c.in_ok-listed.ensures.made crls.numbered crls.updates_never_decrease in
-    let letters = letters_follow c.args.rows.now records are sound revocations index.revocations c.args.beside.now.letters.now columns.letters held.letters (subst (λ l. IsPermutation l c.args.beside.now.letters.now) made c.in_ok-same_rows.ensures.ok) in
+    let letters = letters_follow c.args.rows.now records are sound revocations index.revocations c.args.derived.now.letters.now columns.letters held.letters (subst (λ l. IsPermutation l c.args.derived.now.letters.now) made c.in_ok-same_rows.ensures.ok) in
     let same : columns.counts ≡ counts records records.last = sym held.counts ∙ c.in_ok-check_counts.ensures.ok ∙ ap found_counts (c.deref.ensures.value ∙ made) ∙ counts_made c.args.rows.now records are sound revocations index.revocations in
     on_ok c.same_rows-2.result c.same_rows-2.ensures.ok
     (λ same_listed. record {
       letters = letters;
       counts = same;
-      listed = listed_follow c.args.rows.now records are sound certificates index.certificates c.args.beside.now.listed.now columns.listed held.listed (subst (λ l. IsPermutation l c.args.beside.now.listed.now) listed_made same_listed);
+      listed = listed_follow c.args.rows.now records are sound certificates index.certificates c.args.derived.now.listed.now columns.listed held.listed (subst (λ l. IsPermutation l c.args.derived.now.listed.now) listed_made same_listed);
     })
 
 pub returns-clause-broken : goal.returns-clause-broken
@@ -51,4 +51,4 @@ returns-clause-broken c index records are sound columns held =
     let made = c.in_ok-listed.ensures.made crls.numbered crls.updates_never_decrease in
     let differ = subst (Rattle.reg_core.specs.Sound.KeysDiffer (λ (row : Rattle.reg_audit_rows.specs.declared.derived_rows.Listed.Listed). row.serial)) (sym made) (listed_differ c.args.rows.now records are sound certificates index.certificates) in
     if_err c.same_rows-2.result (c.same_rows-2.ensures.broken differ)
-    (λ fault no is kept. no is (subst (λ l. IsPermutation l c.args.beside.now.listed.now) (sym made) (listed_back c.args.rows.now records are sound certificates index.certificates c.args.beside.now.listed.now columns.listed held.listed kept.listed)))
+    (λ fault no is kept. no is (subst (λ l. IsPermutation l c.args.derived.now.listed.now) (sym made) (listed_back c.args.rows.now records are sound certificates index.certificates c.args.derived.now.listed.now columns.listed held.listed kept.listed)))

@@ -1,7 +1,7 @@
 -- The laws of the headline, each by its lemma.
 use Rattle.reg_core_laws.proofs.Counted.{counts_move_exactly, stands_in_exactly_one}
 use Rattle.reg_core_laws.proofs.Runs.{created_sound, keeps_sound, runs_in_parts, refusals_change_nothing}
-use Rattle.reg_core_laws.proofs.Told.{lists_revoked}
+use Rattle.reg_core_laws.proofs.RevocationsOnCrls.{lists_revoked}
 use Rattle.reg_core_laws.proofs.laws.headline.Goals as goal
 
 pub returns-clause-created : goal.returns-clause-created

@@ -1,5 +1,5 @@
 -- What the history of CRLs says follows from the records' growth over runs.
-use Rattle.reg_core_laws.proofs.Told.{history_stands}
+use Rattle.reg_core_laws.proofs.RevocationsOnCrls.{history_stands}
 use Rattle.reg_core_laws.proofs.laws.history.Goals as goal
 
 pub returns : goal.returns

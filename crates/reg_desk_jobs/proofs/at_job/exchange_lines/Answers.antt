@@ -1,4 +1,4 @@
-use Rattle.reg_desk_jobs.proofs.Talking.{begins, cuts, ends, goes_on}
+use Rattle.reg_desk_jobs.proofs.ConversationLemmas.{begins, cuts, ends, goes_on}
 use Rattle.reg_desk_jobs.proofs.at_job.exchange_lines.Goals as goal
 
 pub loop-init : goal.loop-init

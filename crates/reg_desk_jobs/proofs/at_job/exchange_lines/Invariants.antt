@@ -1,4 +1,4 @@
-use Rattle.reg_desk_jobs.proofs.Talking.{SoFar}
+use Rattle.reg_desk_jobs.proofs.ConversationLemmas.{SoFar}
 use Rattle.reg_desk_jobs.specs.declared.at_job.PieceEnd.TheVariants as piece_end
 use Rattle.reg_desk_jobs.proofs.at_job.exchange_lines.Given as goal
 

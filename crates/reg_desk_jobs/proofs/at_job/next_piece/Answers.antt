@@ -1,4 +1,4 @@
-use Rattle.reg_desk_jobs.proofs.Talking.{gathers_one}
+use Rattle.reg_desk_jobs.proofs.ConversationLemmas.{gathers_one}
 use Rattle.reg_desk_jobs.proofs.at_job.next_piece.Goals as goal
 
 pub loop-count-preserved : goal.loop-count-preserved

@@ -1,4 +1,4 @@
-use Rattle.reg_desk_jobs.proofs.Talking.{Gathered}
+use Rattle.reg_desk_jobs.proofs.ConversationLemmas.{Gathered}
 use Rattle.reg_desk_jobs.proofs.at_job.next_piece.Given as goal
 
 -- the lines so far

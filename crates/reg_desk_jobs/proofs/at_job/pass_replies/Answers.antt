@@ -1,4 +1,4 @@
-use Rattle.reg_desk_jobs.proofs.Talking.{passes_one}
+use Rattle.reg_desk_jobs.proofs.ConversationLemmas.{passes_one}
 use Rattle.reg_desk_jobs.proofs.at_job.pass_replies.Goals as goal
 
 pub loop-preserved : goal.loop-preserved

@@ -1,4 +1,4 @@
-use Rattle.reg_desk_jobs.proofs.Fates.{told}
+use Rattle.reg_desk_jobs.proofs.PrintedTexts.{told}
 use Rattle.reg_desk_jobs.proofs.output_lines.report_line.Goals as goal
 
 pub returns-in-Ok : goal.returns-in-Ok

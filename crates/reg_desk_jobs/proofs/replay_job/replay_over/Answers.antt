@@ -1,6 +1,6 @@
 use Rattle.std.proofs.Common.{inr}
 use Rattle.reg_desk_jobs.proofs.Replaying.{replays_under}
-use Rattle.reg_desk_jobs.proofs.Talking.{all_under}
+use Rattle.reg_desk_jobs.proofs.ConversationLemmas.{all_under}
 use Rattle.reg_desk_jobs.proofs.replay_job.replay_over.Goals as goal
 
 pub returns-in-Ok-new : goal.returns-in-Ok-new

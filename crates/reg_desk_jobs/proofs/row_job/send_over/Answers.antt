@@ -1,6 +1,6 @@
 use Rattle.std.proofs.Common.{inr}
 use Rattle.reg_desk_jobs.proofs.EachRow.{rows_under}
-use Rattle.reg_desk_jobs.proofs.Talking.{all_under}
+use Rattle.reg_desk_jobs.proofs.ConversationLemmas.{all_under}
 use Rattle.reg_desk_jobs.proofs.row_job.send_over.Goals as goal
 
 pub returns-in-Ok-new : goal.returns-in-Ok-new

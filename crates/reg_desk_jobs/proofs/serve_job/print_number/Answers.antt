@@ -1,5 +1,5 @@
 use Rattle.std.proofs.Common.{◌∙◌, ◌∷◌, [], ap, decimal}
-use Rattle.reg_desk_jobs.proofs.Fates.{says_then}
+use Rattle.reg_desk_jobs.proofs.PrintedTexts.{says_then}
 use Rattle.reg_desk_jobs.proofs.serve_job.print_number.Goals as goal
 
 pub returns-in-Ok : goal.returns-in-Ok

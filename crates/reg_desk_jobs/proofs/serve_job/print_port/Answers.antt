@@ -1,5 +1,5 @@
 use Rattle.std.proofs.Common.{◌++◌, ◌∷◌, [], codes, decimal}
-use Rattle.reg_desk_jobs.proofs.Fates.{says_then, says_not}
+use Rattle.reg_desk_jobs.proofs.PrintedTexts.{says_then, says_not}
 use Rattle.reg_desk_jobs.proofs.serve_job.print_port.Goals as goal
 
 pub returns-in-Ok : goal.returns-in-Ok

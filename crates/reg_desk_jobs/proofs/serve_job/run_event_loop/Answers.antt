@@ -1,6 +1,6 @@
 use Rattle.std.proofs.Common.{◌∙◌, [], refl}
 use Rattle.std.proofs.Math.Nat.{zero-add}
-use Rattle.reg_desk_jobs.proofs.Fates.{ended_early, memory_answer}
+use Rattle.reg_desk_jobs.proofs.PrintedTexts.{ended_early, memory_answer}
 use Rattle.reg_desk_jobs.proofs.serve_job.run_event_loop.Goals as goal
 
 pub returns-in-Err : goal.returns-in-Err

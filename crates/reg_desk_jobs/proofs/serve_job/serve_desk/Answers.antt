@@ -5,7 +5,7 @@ use Rattle.reg_core.specs.Records.{Records}
 use Rattle.reg_desk_service.specs.Admission.{first_admission}
 use Rattle.reg_desk_service.specs.Signers.{answer_socket}
 use Rattle.reg_desk_jobs.proofs.DeskRuns.{desk_moves}
-use Rattle.reg_desk_jobs.proofs.Fates.{unbound}
+use Rattle.reg_desk_jobs.proofs.PrintedTexts.{unbound}
 use Rattle.reg_desk_jobs.proofs.serve_job.serve_desk.Goals as goal
 
 pub returns-in-Err : goal.returns-in-Err

@@ -1,4 +1,4 @@
-use Rattle.reg_desk_metrics.proofs.Fronts.{further}
+use Rattle.reg_desk_metrics.proofs.MetricsTexts.{further}
 use Rattle.reg_desk_metrics.proofs.metrics_text.metrics.Goals as goal
 
 pub returns : goal.returns

@@ -1,4 +1,4 @@
-use Rattle.reg_desk_metrics.proofs.Fronts.{answers_begin, answers_more}
+use Rattle.reg_desk_metrics.proofs.MetricsTexts.{answers_begin, answers_more}
 use Rattle.reg_desk_metrics.proofs.metrics_text.put_answers.Goals as goal
 
 pub loop-index-init : goal.loop-index-init

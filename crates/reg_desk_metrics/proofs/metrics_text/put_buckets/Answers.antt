@@ -1,6 +1,6 @@
 use Rattle.std.proofs.Common.{◌≡◌, ◌+◌}
 use Rattle.reg_desk_metrics.specs.Metrics.{sum_of}
-use Rattle.reg_desk_metrics.proofs.Fronts.{buckets_begin, buckets_more, sum_begin, sum_more}
+use Rattle.reg_desk_metrics.proofs.MetricsTexts.{buckets_begin, buckets_more, sum_begin, sum_more}
 use Rattle.reg_desk_metrics.proofs.metrics_text.put_buckets.Goals as goal
 
 pub loop-index-init : goal.loop-index-init

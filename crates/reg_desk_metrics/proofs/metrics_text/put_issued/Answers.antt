@@ -1,5 +1,5 @@
 use Rattle.std.proofs.Common.{ℕ, ◌-◌, ap, ◌∙◌}
-use Rattle.reg_desk_metrics.proofs.Fronts.{issued_is}
+use Rattle.reg_desk_metrics.proofs.MetricsTexts.{issued_is}
 use Rattle.reg_desk_metrics.proofs.metrics_text.put_issued.Goals as goal
 
 pub returns : goal.returns

@@ -1,5 +1,5 @@
 use Rattle.reg_desk_metrics.specs.Metrics.{numbers_text}
-use Rattle.reg_desk_metrics.proofs.Fronts.{parts_6}
+use Rattle.reg_desk_metrics.proofs.MetricsTexts.{parts_6}
 use Rattle.reg_desk_metrics.proofs.metrics_text.put_numbers.Goals as goal
 
 pub returns : goal.returns

@@ -1,5 +1,5 @@
 use Rattle.reg_desk_metrics.specs.Metrics.{requests_text}
-use Rattle.reg_desk_metrics.proofs.Fronts.{parts_3}
+use Rattle.reg_desk_metrics.proofs.MetricsTexts.{parts_3}
 use Rattle.reg_desk_metrics.proofs.metrics_text.put_requests.Goals as goal
 
 pub returns : goal.returns

@@ -1,4 +1,4 @@
-use Rattle.reg_desk_metrics.proofs.Fronts.{routes_begin, routes_more}
+use Rattle.reg_desk_metrics.proofs.MetricsTexts.{routes_begin, routes_more}
 use Rattle.reg_desk_metrics.proofs.metrics_text.put_routes.Goals as goal
 
 pub loop-index-init : goal.loop-index-init

@@ -1,6 +1,6 @@
 use Rattle.std.proofs.Common.{Some, ◌∙◌, sym, ap}
 use Rattle.std.specs.Prelude.{option_map}
-use Rattle.reg_desk_program.proofs.Misfitting.{of_latest}
+use Rattle.reg_desk_program.proofs.AlgorithmMismatches.{of_latest}
 use Rattle.reg_desk_program.proofs.crl_signer.mismatch.Goals as goal
 
 pub returns-in-Some : goal.returns-in-Some

@@ -1,4 +1,4 @@
-use Rattle.reg_desk_program.proofs.Misfitting.{of_found}
+use Rattle.reg_desk_program.proofs.AlgorithmMismatches.{of_found}
 use Rattle.reg_desk_program.proofs.crl_signer.mismatch_of.Goals as goal
 
 pub returns-in-Some : goal.returns-in-Some

@@ -2,7 +2,7 @@ use Rattle.std.proofs.Common.{subst, sym}
 use Rattle.reg_core.specs.Records.{no_records}
 use Rattle.reg_office.proofs.PublicLaws.{created_sound_for, leaves_made}
 use Rattle.reg_desk_program.specs.Files.{MakesOver}
-use Rattle.reg_desk_program.proofs.OpeningFaults.{unmade}
+use Rattle.reg_desk_program.proofs.OpeningFaults.{not_created}
 use Rattle.reg_desk_program.proofs.offices.create_over.Goals as goal
 
 pub returns-in-Ok-clause-made : goal.returns-in-Ok-clause-made
@@ -22,4 +22,4 @@ returns-in-Ok-clause-made g c =
     })
 
 pub returns-in-Err-clause-err : goal.returns-in-Err-clause-err
-returns-in-Err-clause-err g c = unmade _ _ c.from.ensures c.in-Err.ensures.uncreated.faults
+returns-in-Err-clause-err g c = not_created _ _ c.from.ensures c.in-Err.ensures.uncreated.faults

@@ -9,5 +9,5 @@ returns-in_default g c = stays g.O.Office.is_clean g.O.Office.stands _ _ refl
 pub returns : goal.returns
 returns g c =
     follows g.O.Office.is_clean g.O.Office.stands _ _
-    (λ signers before after begun. begun_still g.O.Office.signs signers before c.args.looked.moment c.deref.result.now c.begin_ocsp-begun.result after begun) _ _
+    (λ signers before after begun. begun_still g.O.Office.signs signers before c.args.ticket.moment c.deref.result.now c.begin_ocsp-begun.result after begun) _ _
     c.begin_ocsp-begun.ensures.begins

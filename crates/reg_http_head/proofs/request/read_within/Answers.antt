@@ -8,12 +8,12 @@ use Rattle.reg_http_head.proofs.request.read_within.Goals as goal
 pub read_rest-requires-clause-head : goal.read_rest-requires-clause-head
 read_rest-requires-clause-head g c =
     let to = rw c.in-Ok-Delimiter.field-0-is at c.in-Ok-Delimiter.ensures.ok in
-    head_at_mark _ _ c.args.room.now c.fill_to_delimiter.new.buf c.in-Ok-Delimiter.end c.in-Ok-Delimiter.buffered to (omega (arith, c.requires))
+    head_at_mark _ _ c.args.buffer.now c.fill_to_delimiter.new.buf c.in-Ok-Delimiter.end c.in-Ok-Delimiter.buffered to (omega (arith, c.requires))
 
 pub returns-in-Ok-Delimiter-clause-ok : goal.returns-in-Ok-Delimiter-clause-ok
 returns-in-Ok-Delimiter-clause-ok g c =
     let to = rw c.in-Ok-Delimiter.field-0-is at c.in-Ok-Delimiter.ensures.ok in
-    let same = taken_at_mark _ _ c.args.room.now c.fill_to_delimiter.new.buf c.in-Ok-Delimiter.end c.in-Ok-Delimiter.buffered to in
+    let same = taken_at_mark _ _ c.args.buffer.now c.fill_to_delimiter.new.buf c.in-Ok-Delimiter.end c.in-Ok-Delimiter.buffered to in
     let most : length c.fill_to_delimiter.new.buf ≡ 8192 = omega (arith, c.requires) in
     let few : length to.took ≤ 8192 = omega (arith, to.fills.within, most) in
     IfOk-weaker c.read_rest.result _ _
@@ -28,7 +28,7 @@ returns-in-Ok-Delimiter-clause-ok g c =
 pub returns-in-Ok-Delimiter-clause-err : goal.returns-in-Ok-Delimiter-clause-err
 returns-in-Ok-Delimiter-clause-err g c =
     let to = rw c.in-Ok-Delimiter.field-0-is at c.in-Ok-Delimiter.ensures.ok in
-    let same = taken_at_mark _ _ c.args.room.now c.fill_to_delimiter.new.buf c.in-Ok-Delimiter.end c.in-Ok-Delimiter.buffered to in
+    let same = taken_at_mark _ _ c.args.buffer.now c.fill_to_delimiter.new.buf c.in-Ok-Delimiter.end c.in-Ok-Delimiter.buffered to in
     let most : length c.fill_to_delimiter.new.buf ≡ 8192 = omega (arith, c.requires) in
     let few : length to.took ≤ 8192 = omega (arith, to.fills.within, most) in
     IfErr-weaker c.read_rest.result _ _
@@ -46,19 +46,19 @@ returns-in-Ok-Delimiter-clause-err g c =
 pub returns-in-Ok-Full-clause-ok : goal.returns-in-Ok-Full-clause-ok
 returns-in-Ok-Full-clause-ok g c =
     let to = rw c.in-Ok-Full.field-0-is at c.in-Ok-Full.ensures.ok in
-    let long = too_long_at_full _ _ c.args.room.now c.fill_to_delimiter.new.buf to (omega (arith, c.requires)) in
+    let long = too_long_at_full _ _ c.args.buffer.now c.fill_to_delimiter.new.buf to (omega (arith, c.requires)) in
     (to.took, to.fills.consumed, omega (arith, long.0), inl (refl, long))
 
 pub returns-in-Ok-End-clause-err : goal.returns-in-Ok-End-clause-err
 returns-in-Ok-End-clause-err g c =
     let to = rw c.in-Ok-End.field-0-is at c.in-Ok-End.ensures.ok in
     let most : length c.fill_to_delimiter.new.buf ≡ 8192 = omega (arith, c.requires) in
-    let short = unfinished_at_end _ _ c.args.room.now c.fill_to_delimiter.new.buf c.in-Ok-End.field-0-0 to most in
+    let short = unfinished_at_end _ _ c.args.buffer.now c.fill_to_delimiter.new.buf c.in-Ok-End.field-0-0 to most in
     (to.took, to.fills.consumed, omega (arith, to.fills.within, most), inl (refl, short))
 
 pub returns-in-Err-clause-err : goal.returns-in-Err-clause-err
 returns-in-Err-clause-err g c =
     let short = c.in-Err.ensures.err in
     let most : length c.fill_to_delimiter.new.buf ≡ 8192 = omega (arith, c.requires) in
-    let cut = unfinished_at_fault _ _ c.args.room.now c.fill_to_delimiter.new.buf short most in
+    let cut = unfinished_at_fault _ _ c.args.buffer.now c.fill_to_delimiter.new.buf short most in
     (short.took, short.fills.consumed, omega (arith, short.room, most), inl (refl, cut))

@@ -1,13 +1,13 @@
 use Rattle.std.proofs.Common.{rules, ◌≡◌, ◌+◌, ℕ, length, arith, length-drop, length-take, refl}
 use Rattle.reg_io.proofs.Buffers.{so_far_start, so_far_more}
-use Rattle.reg_io.proofs.Searches.{unmarked_start, unmarked_read, unmarked_before, rests_full, rests_end, breaks_off}
+use Rattle.reg_io.proofs.Searches.{no_delimiter_start, no_delimiter_read, no_delimiter_before, rests_full, rests_end, breaks_off}
 use Rattle.reg_io.proofs.fill.fill_to_delimiter.Goals as goal
 
 pub reading-init : goal.reading-init
 reading-init g c = record {
   so_far = so_far_start _ c.args.buf.now c.args.buffered c.requires.buffered_fits;
   searched_held = omega arith;
-  no_delimiter = unmarked_start c.args.delimiter.now c.args.buf.now c.requires.delimiter_not_empty;
+  no_delimiter = no_delimiter_start c.args.delimiter.now c.args.buf.now c.requires.delimiter_not_empty;
   has_delimiter = λ end below ends. (refl, refl);
   is_full = λ full. (refl, refl);
 }
@@ -26,7 +26,7 @@ returns-in-Ok-eq0-clause-ok g c =
 
 pub returns-in-Ok-eq0-clause-has_delimiter : goal.returns-in-Ok-eq0-clause-has_delimiter
 returns-in-Ok-eq0-clause-has_delimiter g c end below ends =
-    absurd (unmarked_before c.args.delimiter.now _ _ c.args.buf.now c.reading.buf c.args.buffered c.reading.filled c.reading.invariant.so_far c.requires.buffered_fits c.in_default.ensures end below ends)
+    absurd (no_delimiter_before c.args.delimiter.now _ _ c.args.buf.now c.reading.buf c.args.buffered c.reading.filled c.reading.invariant.so_far c.requires.buffered_fits c.in_default.ensures end below ends)
 
 pub reading-preserved : goal.reading-preserved
 reading-preserved g c = record {
@@ -35,8 +35,8 @@ reading-preserved g c = record {
       (omega (arith, c.read_once.auto.buf, length-take {A = ℕ}, length-drop {A = ℕ}))
       (search rules) c.in-Ok.ensures.bytes.0;
   searched_held = omega arith;
-  no_delimiter = unmarked_read c.args.delimiter.now c.reading.buf c.read_once.new.buf c.reading.filled _ (search rules) c.in_default.ensures;
-  has_delimiter = λ end below ends. absurd (unmarked_before c.args.delimiter.now _ _ c.args.buf.now c.reading.buf c.args.buffered c.reading.filled
+  no_delimiter = no_delimiter_read c.args.delimiter.now c.reading.buf c.read_once.new.buf c.reading.filled _ (search rules) c.in_default.ensures;
+  has_delimiter = λ end below ends. absurd (no_delimiter_before c.args.delimiter.now _ _ c.args.buf.now c.reading.buf c.args.buffered c.reading.filled
       c.reading.invariant.so_far c.requires.buffered_fits c.in_default.ensures end below ends);
   is_full = λ full. absurd (omega (arith, c.reading.invariant.so_far.count));
 }
@@ -49,4 +49,4 @@ returns-in-Err-clause-err g c =
 
 pub returns-in-Err-clause-has_delimiter : goal.returns-in-Err-clause-has_delimiter
 returns-in-Err-clause-has_delimiter g c end below ends =
-    absurd (unmarked_before c.args.delimiter.now _ _ c.args.buf.now c.reading.buf c.args.buffered c.reading.filled c.reading.invariant.so_far c.requires.buffered_fits c.in_default.ensures end below ends)
+    absurd (no_delimiter_before c.args.delimiter.now _ _ c.args.buf.now c.reading.buf c.args.buffered c.reading.filled c.reading.invariant.so_far c.requires.buffered_fits c.in_default.ensures end below ends)

@@ -1,4 +1,4 @@
-use Rattle.reg_lines.proofs.RowsTold.{told_read, told_text}
+use Rattle.reg_lines.proofs.RowLineTexts.{told_read, told_text}
 use Rattle.reg_lines.proofs.row_lines.lines_of_rows.Goals as goal
 
 pub returns-in-Ok : goal.returns-in-Ok

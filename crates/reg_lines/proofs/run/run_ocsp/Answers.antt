@@ -3,7 +3,7 @@ use Rattle.reg_core.specs.declared.memory.Memory.{Memory as NoMemory}
 use Rattle.reg_lines.specs.Answer.{OcspLineComesTo}
 use Rattle.reg_lines.specs.ByCalls.{LineCalls, responded}
 use Rattle.reg_lines.specs.Meaning.{decoded_bytes}
-use Rattle.reg_lines.proofs.Unasked.{unasked}
+use Rattle.reg_lines.proofs.CallsNotMade.{unasked}
 use Rattle.reg_lines.proofs.Readings.{bytes_of-decoded}
 use Rattle.reg_lines.proofs.run.run_ocsp.Goals as goal
 

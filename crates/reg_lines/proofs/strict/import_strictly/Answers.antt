@@ -6,7 +6,7 @@ use Rattle.reg_lines.proofs.RowLemmas.{ends_unread}
 use Rattle.reg_lines.proofs.strict.import_strictly.Goals as goal
 
 pub returns-in-Ok-clause-calls : goal.returns-in-Ok-clause-calls
-returns-in-Ok-clause-calls g c = inl (c.in-Ok.text.items, c.in-Ok.ensures, rw c.deref.ensures.value at c.run_ended.ensures)
+returns-in-Ok-clause-calls g c = inl (c.in-Ok.text.items, c.in-Ok.ensures, rw c.deref.ensures.value at c.run_whole_lines.ensures)
 
 pub returns-in-Ok-clause-ends : goal.returns-in-Ok-clause-ends
 returns-in-Ok-clause-ends g c =

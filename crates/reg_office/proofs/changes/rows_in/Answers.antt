@@ -43,6 +43,6 @@ returns g c =
       requests = it.0.0.1 ∙ ap (λ (n : ℕ). take n (drop c.args.counts.now.requests records.requests)) requests;
       declined = it.0.1 ∙ ap (λ (n : ℕ). take n (filter (nat_lt c.args.from.now.last) (map (λ (row : RequestRow). row.id) (filter (λ (row : RequestRow). row.declined) records.requests)))) declined;
       revocations =
-          c.before_later-revocations.ensures
+          c.revocations_until_next_crl-revocations.ensures
           ∙ ap (before_first (is_later c.args.counts.now.crls)) (it.1 ∙ ap (λ (n : ℕ). take n (drop c.args.counts.now.revocations records.revocations)) revocations);
     })

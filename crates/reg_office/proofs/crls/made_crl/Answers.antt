@@ -29,5 +29,5 @@ returns-clause-looks g c =
     (λ records sound it next.
     let entries_is = c.deref.ensures.value ∙ it.1 in (
       signed_list (signed_by g.S.Signer.signs (g.S.Signer.identity c.args.signer.now)) records c.args.row.now _ _ _ _ it.0 next entries_is c.in_ok-der.ensures.signed,
-      c.len-listed.ensures ∙ (sym c.deref.ensures.len ∙ (ap length entries_is ∙ entries_length records c.args.row.now.number)),
+      c.len-count.ensures ∙ (sym c.deref.ensures.len ∙ (ap length entries_is ∙ entries_length records c.args.row.now.number)),
     ))

@@ -3,27 +3,27 @@ use Rattle.std.specs.Prelude.{option_and_then}
 use Rattle.reg_core.specs.Records.{order_in, request_in}
 use Rattle.reg_core_lists.specs.Lists.{history_row, open_row, order_row, overdue_row, subscriber_row}
 use Rattle.reg_store_tables.proofs.PublicLaws.{and_so, not_found, so}
-use Rattle.reg_office.proofs.RowsTold.{row_found}
+use Rattle.reg_office.proofs.ListedRows.{row_found}
 use Rattle.reg_office.proofs.pages.row_at.Goals as goal
 
-pub returns-in_err-open-in-OpenRequests : goal.returns-in_err-open-in-OpenRequests
-returns-in_err-open-in-OpenRequests g c = not_found _ c.from_residual.result c.from_residual.ensures.0 c.request_at.ensures.looked
+pub returns-in_err-maybe_open-in-OpenRequests : goal.returns-in_err-maybe_open-in-OpenRequests
+returns-in_err-maybe_open-in-OpenRequests g c = not_found _ c.from_residual.result c.from_residual.ensures.0 c.request_at.ensures.looked
 
-pub returns-in_ok-open-in-OpenRequests : goal.returns-in_ok-open-in-OpenRequests
-returns-in_ok-open-in-OpenRequests g c =
-    so (and_so c.in_ok-open-in-OpenRequests.ensures c.open_row.ensures)
+pub returns-in_ok-maybe_open-in-OpenRequests : goal.returns-in_ok-maybe_open-in-OpenRequests
+returns-in_ok-maybe_open-in-OpenRequests g c =
+    so (and_so c.in_ok-maybe_open-in-OpenRequests.ensures c.open_row.ensures)
     (λ records sound it. rw c.in-OpenRequests.is
-    (row_found (open_row records c.args.now) (request_in records.requests c.args.id) c.in_ok-open-in-OpenRequests.open c.open_row.result it.0 it.1))
+    (row_found (open_row records c.args.now) (request_in records.requests c.args.id) c.in_ok-maybe_open-in-OpenRequests.maybe_open c.open_row.result it.0 it.1))
 
-pub returns-in_err-late-in-Overdue : goal.returns-in_err-late-in-Overdue
-returns-in_err-late-in-Overdue g c =
-    not_found _ c.from_residual-in_err-late-in-Overdue.result c.from_residual-in_err-late-in-Overdue.ensures.0 c.request_at-in-Overdue.ensures.looked
+pub returns-in_err-maybe_overdue-in-Overdue : goal.returns-in_err-maybe_overdue-in-Overdue
+returns-in_err-maybe_overdue-in-Overdue g c =
+    not_found _ c.from_residual-in_err-maybe_overdue-in-Overdue.result c.from_residual-in_err-maybe_overdue-in-Overdue.ensures.0 c.request_at-in-Overdue.ensures.looked
 
-pub returns-in_ok-late-in-Overdue : goal.returns-in_ok-late-in-Overdue
-returns-in_ok-late-in-Overdue g c =
-    so (and_so c.in_ok-late-in-Overdue.ensures c.overdue_row.ensures)
+pub returns-in_ok-maybe_overdue-in-Overdue : goal.returns-in_ok-maybe_overdue-in-Overdue
+returns-in_ok-maybe_overdue-in-Overdue g c =
+    so (and_so c.in_ok-maybe_overdue-in-Overdue.ensures c.overdue_row.ensures)
     (λ records sound it. rw c.in-Overdue.is
-    (row_found (overdue_row records c.args.now) (request_in records.requests c.args.id) c.in_ok-late-in-Overdue.late c.overdue_row.result it.0 it.1))
+    (row_found (overdue_row records c.args.now) (request_in records.requests c.args.id) c.in_ok-maybe_overdue-in-Overdue.maybe_overdue c.overdue_row.result it.0 it.1))
 
 pub returns-in_err-request-in-Requests : goal.returns-in_err-request-in-Requests
 returns-in_err-request-in-Requests g c =

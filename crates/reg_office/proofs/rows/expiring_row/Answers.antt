@@ -1,6 +1,6 @@
 use Rattle.std.proofs.Common.{◌∙◌, sym}
 use Rattle.reg_store_tables.proofs.PublicLaws.{by_none, looked_none, so}
-use Rattle.reg_office.proofs.RowsTold.{ending_is, ending_none}
+use Rattle.reg_office.proofs.ListedRows.{ending_is, ending_none}
 use Rattle.reg_office.proofs.rows.expiring_row.Goals as goal
 
 pub returns-then-ends_before : goal.returns-then-ends_before

@@ -1,5 +1,5 @@
 use Rattle.reg_store_tables.proofs.PublicLaws.{and_so, by_finding, looked_then, not_found, so}
-use Rattle.reg_office.proofs.RowsTold.{line_is}
+use Rattle.reg_office.proofs.ListedRows.{line_is}
 use Rattle.reg_office.proofs.rows.listed_certificate.Goals as goal
 
 pub returns-in_err-revocation : goal.returns-in_err-revocation

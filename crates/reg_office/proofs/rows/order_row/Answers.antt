@@ -1,6 +1,6 @@
 use Rattle.std.proofs.Common.{refl}
 use Rattle.reg_store_tables.proofs.PublicLaws.{and_so, by_finding, looked_then, not_found, so}
-use Rattle.reg_office.proofs.RowsTold.{order_is}
+use Rattle.reg_office.proofs.ListedRows.{order_is}
 use Rattle.reg_office.proofs.rows.order_row.Goals as goal
 
 pub returns-in_err-subscriber : goal.returns-in_err-subscriber

@@ -1,6 +1,6 @@
 use Rattle.std.proofs.Common.{◌∙◌, sym}
 use Rattle.reg_store_tables.proofs.PublicLaws.{by_none, looked_none, not_found, so}
-use Rattle.reg_office.proofs.RowsTold.{overdue_none, overdue_told}
+use Rattle.reg_office.proofs.ListedRows.{overdue_none, overdue_told}
 use Rattle.reg_office.proofs.rows.overdue_row.Goals as goal
 
 pub returns-then-is_past : goal.returns-then-is_past

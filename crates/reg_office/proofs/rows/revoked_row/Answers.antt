@@ -1,6 +1,6 @@
 use Rattle.std.proofs.Common.{refl}
 use Rattle.reg_store_tables.proofs.PublicLaws.{and_so, looked_then, not_found, so}
-use Rattle.reg_office.proofs.RowsTold.{revoked_is}
+use Rattle.reg_office.proofs.ListedRows.{revoked_is}
 use Rattle.reg_office.proofs.rows.revoked_row.Goals as goal
 
 pub returns-in_err-request : goal.returns-in_err-request

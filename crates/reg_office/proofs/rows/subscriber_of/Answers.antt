@@ -1,5 +1,5 @@
 use Rattle.reg_store_tables.proofs.PublicLaws.{and_so, not_found, so}
-use Rattle.reg_office.proofs.RowsTold.{owner_is}
+use Rattle.reg_office.proofs.ListedRows.{owner_is}
 use Rattle.reg_office.proofs.rows.subscriber_of.Goals as goal
 
 pub returns-in_err-order : goal.returns-in_err-order

@@ -12,7 +12,7 @@ use Rattle.reg_store_opening.specs.AfterStoppedOpening.{IsOpened}
 use Rattle.reg_store_tables.specs.Kept.{ShowsKept}
 use Rattle.reg_store_tables.specs.Shows.{Shows}
 use Rattle.reg_store.proofs.OpenedAgain.{holds_again, keeps_again, same_again, shows_again}
-use Rattle.reg_store.proofs.Resting.{IsUntouched, opened_rests}
+use Rattle.reg_store.proofs.StopsOfOpenStores.{IsUntouched, opened_rests}
 use Rattle.reg_store.proofs.laws.a_register_opened_after_a_stop_during_a_migration_shows_the_same_records.Goals as goal
 
 pub returns : goal.returns

@@ -22,14 +22,14 @@ returns-clause-made g c within clean =
     let change = c.args.change.now in
     let looked = c.stored_counts_at_last.ensures.looked in
     let clean2 = steps_clean c.set_counts_and_last.ensures.stepped clean in
-    let clean1 = steps_clean c.put.ensures.stepped clean2 in
+    let clean1 = steps_clean c.write_rows.ensures.stepped clean2 in
     let clean0 : HasCleanDisk (state s mid) = steps_clean c.expire_ended.ensures.stepped clean1 in
     let within1 = (looked_step {g = s} {a = old} {b = mid} looked).within within in
     let within2 = c.expire_ended.ensures.stepped.within within1 in
     let under : mid.in_transaction ≡ true = c.in_ok-ended.ensures.under_way in
     let first = after_look s old mid _ (TurnsCounted (with_expired now) (count_ended_before now) c.in_ok-ended.ended) looked within clean0 under (c.in_ok-ended.ensures.made within1 clean1) in
-    let second = c.in_ok-put.ensures.made (under_way first) within2 clean2 in
-    then_moves _ _ _ _ _ _ c.set_counts_and_last.result (moves_on first second) (c.set_counts_and_last.ensures.made (c.put.ensures.stepped.within within2) clean) (λ _ closes. record {
+    let second = c.in_ok-write_rows.ensures.made (under_way first) within2 clean2 in
+    then_moves _ _ _ _ _ _ c.set_counts_and_last.result (moves_on first second) (c.set_counts_and_last.ensures.made (c.write_rows.ensures.stepped.within within2) clean) (λ _ closes. record {
       turns = λ records columns sound fits both.
           let counted : c.in_ok-counts.counts ≡ columns.counts = c.in_ok-counts.ensures.found records (shows_within s old mid records columns under both) clean0 columns (λ clean up. both) in
           let swept_now = first.tables records columns both in
@@ -46,16 +46,16 @@ returns-clause-made g c within clean =
 
 pub returns-clause-stepped : goal.returns-clause-stepped
 returns-clause-stepped g c =
-    steps_then (looked_step c.stored_counts_at_last.ensures.looked) (steps_then c.expire_ended.ensures.stepped (steps_then c.put.ensures.stepped c.set_counts_and_last.ensures.stepped))
+    steps_then (looked_step c.stored_counts_at_last.ensures.looked) (steps_then c.expire_ended.ensures.stepped (steps_then c.write_rows.ensures.stepped c.set_counts_and_last.ensures.stepped))
 
 pub returns-in_err-ended-clause-stepped : goal.returns-in_err-ended-clause-stepped
 returns-in_err-ended-clause-stepped g c = steps_then (looked_step c.stored_counts_at_last.ensures.looked) c.expire_ended.ensures.stepped
 
-pub returns-in_err-put-clause-stepped : goal.returns-in_err-put-clause-stepped
-returns-in_err-put-clause-stepped g c = steps_then (looked_step c.stored_counts_at_last.ensures.looked) (steps_then c.expire_ended.ensures.stepped c.put.ensures.stepped)
+pub returns-in_err-write_rows-clause-stepped : goal.returns-in_err-write_rows-clause-stepped
+returns-in_err-write_rows-clause-stepped g c = steps_then (looked_step c.stored_counts_at_last.ensures.looked) (steps_then c.expire_ended.ensures.stepped c.write_rows.ensures.stepped)
 
 pub returns-in_err-next-clause-stepped : goal.returns-in_err-next-clause-stepped
-returns-in_err-next-clause-stepped g c = steps_then (looked_step c.stored_counts_at_last.ensures.looked) (steps_then c.expire_ended.ensures.stepped c.put.ensures.stepped)
+returns-in_err-next-clause-stepped g c = steps_then (looked_step c.stored_counts_at_last.ensures.looked) (steps_then c.expire_ended.ensures.stepped c.write_rows.ensures.stepped)
 
 pub returns-clause-under_way : goal.returns-clause-under_way
 returns-clause-under_way g c = ok_if _ c.set_counts_and_last.result (under_before c.stored_counts_at_last.ensures.looked c.in_ok-ended.ensures.under_way)

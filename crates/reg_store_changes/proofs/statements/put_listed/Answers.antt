@@ -6,7 +6,7 @@ use Rattle.reg_store_changes.proofs.Within.{writing}
 use Rattle.reg_store_changes.proofs.statements.put_listed.Goals as goal
 
 pub returns-clause-made : goal.returns-clause-made
-returns-clause-made g c within clean = let ran = c.in_ok-write.ensures.ran (writing put_listed_means refl) within clean in moves ran (puts_listed _ _ _ c.args.row c.args.not_after ran c.bytes20-serial.ensures.bytes c.sql_moment-at.ensures c.sql_reason-reason.ensures c.in_ok-first.ensures.value c.sql_moment-not_after.ensures c.bytes20-serial.ensures.in_range)
+returns-clause-made g c within clean = let ran = c.in_ok-write.ensures.ran (writing put_listed_means refl) within clean in moves ran (puts_listed _ _ _ c.args.row c.args.not_after ran c.bytes20-serial.ensures.bytes c.sql_moment-at.ensures c.sql_reason-reason.ensures c.in_ok-first_crl.ensures.value c.sql_moment-not_after.ensures c.bytes20-serial.ensures.in_range)
 
 pub returns-clause-stepped : goal.returns-clause-stepped
 returns-clause-stepped g c = c.write.ensures.stepped (writing put_listed_means refl)

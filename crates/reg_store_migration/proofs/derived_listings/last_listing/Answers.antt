@@ -9,7 +9,7 @@ pub returns-in-Some : goal.returns-in-Some
 returns-in-Some c issued =
     let crls = c.args.crls.now in
     let at = c.partition_point-at.result in
-    let first = c.args.first in
+    let first = c.args.first_crl in
     let not_after = c.args.not_after in
     let crl = c.in-Some.crl.now in
     let point = IsPartitionPoint-from_clause (λ (x : CrlRow). not (can_be_last_listing first not_after x)) crls at c.partition_point-at.ensures.partitioned (past_parted first not_after crls issued.0 issued.1) (λ a r q k. search rules) in
@@ -22,7 +22,7 @@ pub returns-in-None : goal.returns-in-None
 returns-in-None c issued =
     let crls = c.args.crls.now in
     let at = c.partition_point-at.result in
-    let first = c.args.first in
+    let first = c.args.first_crl in
     let not_after = c.args.not_after in
     let point = IsPartitionPoint-from_clause (λ (x : CrlRow). not (can_be_last_listing first not_after x)) crls at c.partition_point-at.ensures.partitioned (past_parted first not_after crls issued.0 issued.1) (λ a r q k. search rules) in
     let past : length crls ≤ at = c.in-None.ensures.lookup.3 in

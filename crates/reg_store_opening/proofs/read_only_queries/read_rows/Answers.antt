@@ -24,9 +24,9 @@ returns-in-Err-clause-stepped g c = record {
 
 pub returns-in-Err-clause-refused : goal.returns-in-Err-clause-refused
 returns-in-Err-clause-refused g c clean schema never register =
-    c.unread.ensures.call (fails_is_call schema c.args.sql.now c.requires never (state g.S.Store c.args.tx.now.conn.now) (state g.S.Store c.query_all.new.self.conn.now) c.in-Err.error register (c.in-Err.ensures.err clean))
+    c.query_fault.ensures.call (fails_is_call schema c.args.sql.now c.requires never (state g.S.Store c.args.tx.now.conn.now) (state g.S.Store c.query_all.new.self.conn.now) c.in-Err.error register (c.in-Err.ensures.err clean))
 
 pub returns-in-Err-clause-none : goal.returns-in-Err-clause-none
 returns-in-Err-clause-none g c clean is =
-    let other = other_error c.in-Err.error c.unread.result (search (rules, is)) c.unread.ensures.call in
+    let other = other_error c.in-Err.error c.query_fault.result (search (rules, is)) c.query_fault.ensures.call in
     fails_is_refused c.args.sql.now c.requires (state g.S.Store c.args.tx.now.conn.now) (state g.S.Store c.query_all.new.self.conn.now) c.in-Err.error other (c.in-Err.ensures.err clean)

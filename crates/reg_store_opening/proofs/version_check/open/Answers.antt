@@ -34,8 +34,8 @@ returns-in_err-check_schema-clause-unopened g c =
     (refuses s old mid NotARegister c.examine.ensures.same c.examine.ensures.survives
     (λ version records within shows clean.
     let shown = shows.tables (was_clean (state s old) (state s mid) c.examine.ensures.survives.clean clean) (found.live clean) in
-    absurd (never_shown db c.in-Ok.tables c.in-Ok.ensures.tables c.in_ok-found.found other.1 version records (found.shown version records shows clean) shown))
-    (λ clean newer. absurd (let bad : ⊥ = cc in bad)) (λ clean none. inr (others_there db c.in-Ok.tables c.in-Ok.ensures.tables c.in_ok-found.found other.1 (found.ok clean))) (λ filled. let bad : ⊥ = cc in bad)))
+    absurd (never_shown db c.in-Ok.of_schema c.in-Ok.ensures.tables c.in_ok-found.found other.1 version records (found.shown version records shows clean) shown))
+    (λ clean newer. absurd (let bad : ⊥ = cc in bad)) (λ clean none. inr (others_there db c.in-Ok.of_schema c.in-Ok.ensures.tables c.in_ok-found.found other.1 (found.ok clean))) (λ filled. let bad : ⊥ = cc in bad)))
 
 pub returns-in_err-migrate-in-Some-clause-unopened : goal.returns-in_err-migrate-in-Some-clause-unopened
 returns-in_err-migrate-in-Some-clause-unopened g c =
@@ -50,7 +50,7 @@ returns-in_err-migrate-in-Some-clause-unopened g c =
     err_as (IsFailedOpen s old new) _ fault.result fault.ensures.1 (λ why is.
     fails_to_open s old new why is.1 (stays_then (state s old) (state s mid) (state s new) done.survives.clean c.examine.ensures.same done.stays)
     (newer_survives c.examine.ensures.survives c.examine.ensures.same older
-    (λ clean. older_said (state s old).now c.in-Ok.tables c.in-Ok.ensures.tables c.in_ok-found.found c.in_ok-check_schema.ensures.ok older c.in-Some.is (found.ok clean))
+    (λ clean. older_said (state s old).now c.in-Ok.of_schema c.in-Ok.ensures.tables c.in_ok-found.found c.in_ok-check_schema.ensures.ok older c.in-Some.is (found.ok clean))
     (λ version records shows clean. subst (IsFoundOf version records) c.in-Some.is (found.shown version records shows clean)) done))
 
 pub returns-in-None-clause-opens : goal.returns-in-None-clause-opens
@@ -59,7 +59,7 @@ returns-in-None-clause-opens g c =
     let old = state s c.args.conn.now in
     let mid = state s c.examine.new.conn in
     let found = c.in_ok-found.ensures in
-    let schema = current_there old.now c.in-Ok.tables c.in-Ok.ensures.tables c.in_ok-found.found c.in_ok-check_schema.ensures.ok c.in-None.is in
+    let schema = current_there old.now c.in-Ok.of_schema c.in-Ok.ensures.tables c.in_ok-found.found c.in_ok-check_schema.ensures.ok c.in-None.is in
     opens_current c.examine.ensures.survives c.examine.ensures.same (same_register old mid c.examine.ensures.same c.schema_version.ensures.settled schema) (λ clean. subst (HasVersionAndOffice old.now) c.in-None.is (found.ok clean))
     (λ version records shows clean. subst (IsFoundOf (Some version) records) c.in-None.is (found.shown (Some version) records shows clean))
 
@@ -70,9 +70,9 @@ returns-in_ok-migrate-in-Some-clause-opens g c =
     let mid = state s c.examine.new.conn in
     let older = c.in-Some.older in
     let found = c.in_ok-found.ensures in
-    let schema = older_there old.now c.in-Ok.tables c.in-Ok.ensures.tables c.in_ok-found.found c.in_ok-check_schema.ensures.ok older c.in-Some.is in
+    let schema = older_there old.now c.in-Ok.of_schema c.in-Ok.ensures.tables c.in_ok-found.found c.in_ok-check_schema.ensures.ok older c.in-Some.is in
     opens_newer c.examine.ensures.survives c.examine.ensures.same older
-    (λ clean. older_said old.now c.in-Ok.tables c.in-Ok.ensures.tables c.in_ok-found.found c.in_ok-check_schema.ensures.ok older c.in-Some.is (found.ok clean))
+    (λ clean. older_said old.now c.in-Ok.of_schema c.in-Ok.ensures.tables c.in_ok-found.found c.in_ok-check_schema.ensures.ok older c.in-Some.is (found.ok clean))
     (λ version records shows clean. subst (IsFoundOf version records) c.in-Some.is (found.shown version records shows clean))
     (record { saved = c.examine.ensures.saved; tables = same_schema old mid c.examine.ensures.same c.schema_version.ensures.settled (older_schema older.version) schema })
     c.in_ok-migrate-in-Some.ensures.commits

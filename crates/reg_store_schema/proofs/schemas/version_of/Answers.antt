@@ -1,7 +1,7 @@
 use Rattle.std.proofs.Common.{◌≡◌, ◌∙◌}
 use Rattle.reg_store_tables.specs.Schema.{record_tables, with_derived_tables}
 use Rattle.reg_store_schema.specs.declared.versions.Version.TheVariants.{First, Second}
-use Rattle.reg_store_schema.proofs.Told.{version_is}
+use Rattle.reg_store_schema.proofs.VersionNumbers.{version_is}
 use Rattle.reg_store_schema.proofs.schemas.version_of.Goals as goal
 
 pub returns-then-is_same : goal.returns-then-is_same

@@ -1,5 +1,5 @@
 use Rattle.std.proofs.Common.{refl}
-use Rattle.reg_desk_program.proofs.Priming.{same_stands}
+use Rattle.reg_desk_program.proofs.PresetSignatures.{same_stands}
 use Rattle.reg_desk_program.proofs.host.HostMachine.set_preset.Goals as goal
 
 pub returns : goal.returns

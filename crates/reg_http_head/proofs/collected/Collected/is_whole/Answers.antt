@@ -2,7 +2,7 @@ use Rattle.std.proofs.Common.{◌≤◌, ◌<◌, arith, length}
 use Rattle.std.proofs.Math.Logic.{∥∥₁_map}
 use Rattle.std.proofs.lemmas.Bool.{leb-true, leb-false}
 use Rattle.reg_http_head.specs.Bytes.{collected_bytes}
-use Rattle.reg_http_head.proofs.CollectLemmas.{known_of_told, whole_of_refused, whole_of_needs, unfinished_of_unmarked, unfinished_of_needs}
+use Rattle.reg_http_head.proofs.CollectLemmas.{known_of_told, whole_of_refused, whole_of_needs, unfinished_of_no_end, unfinished_of_needs}
 use Rattle.reg_http_head.proofs.collected.Collected.is_whole.Goals as goal
 
 pub invariant_of-self : goal.invariant_of-self
@@ -12,7 +12,7 @@ invariant_of-self c = record {
 
 pub returns-in-NoHeadEnd-clause-unfinished : goal.returns-in-NoHeadEnd-clause-unfinished
 returns-in-NoHeadEnd-clause-unfinished c is =
-    ∥∥₁_map (rw (c.as_slice.ensures.value, c.in-NoHeadEnd.is) at c.scan_all-self.ensures) (λ scan_all. unfinished_of_unmarked (collected_bytes c.args.self.now) c.in-NoHeadEnd.field-0 scan_all)
+    ∥∥₁_map (rw (c.as_slice.ensures.value, c.in-NoHeadEnd.is) at c.scan_all-self.ensures) (λ scan_all. unfinished_of_no_end (collected_bytes c.args.self.now) c.in-NoHeadEnd.field-0 scan_all)
 
 pub returns-in-Refused-clause-whole : goal.returns-in-Refused-clause-whole
 returns-in-Refused-clause-whole c is =

@@ -1,13 +1,13 @@
 use Rattle.std.proofs.Common.{arith, length, ◌<◌, inl, refl}
 use Rattle.std.proofs.Math.Logic.{∥∥₁_map}
 use Rattle.reg_http_head.specs.Bytes.{collected_bytes}
-use Rattle.reg_http_head.proofs.CollectLemmas.{at_most, holds_refused, unfinished_of_unmarked, unfinished_of_needs}
+use Rattle.reg_http_head.proofs.CollectLemmas.{at_most, holds_refused, unfinished_of_no_end, unfinished_of_needs}
 use Rattle.reg_http_head.proofs.collected.Collected.request.Goals as goal
 
 pub returns-in-NoHeadEnd-clause-err : goal.returns-in-NoHeadEnd-clause-err
 returns-in-NoHeadEnd-clause-err c = inl (
   refl,
-  ∥∥₁_map (rw (c.as_slice-bytes.ensures.value, c.in-NoHeadEnd.is) at c.scan_all.ensures) (unfinished_of_unmarked (collected_bytes c.args.self.now) c.in-NoHeadEnd.field-0),
+  ∥∥₁_map (rw (c.as_slice-bytes.ensures.value, c.in-NoHeadEnd.is) at c.scan_all.ensures) (unfinished_of_no_end (collected_bytes c.args.self.now) c.in-NoHeadEnd.field-0),
 )
 
 pub returns-in-Refused-clause-ok : goal.returns-in-Refused-clause-ok

@@ -16,8 +16,8 @@ returns-in_err-limit g c = not_asked _ c.from_residual.ensures.0 (λ records bel
 pub returns : goal.returns
 returns g c =
     let after = key_of c.args.after in
-    let low = c.bytes_of-key.ensures.low in
-    rw (← c.self.view_is) (by_statement_if (c.look_up_all.ensures.reads certs_text.reading) (rw (c.params-to_sql.ensures, c.params-to_sql-2.ensures, c.as_slice.ensures, c.bytes_of-key.ensures.bytes, c.in_ok-limit.ensures.value) refl) (certs_text.asked (after, c.args.most))
+    let low = c.key_bytes-key.ensures.low in
+    rw (← c.self.view_is) (by_statement_if (c.look_up_all.ensures.reads certs_text.reading) (rw (c.params-to_sql.ensures, c.params-to_sql-2.ensures, c.as_slice.ensures, c.key_bytes-key.ensures.bytes, c.in_ok-limit.ensures.value) refl) (certs_text.asked (after, c.args.most))
     (λ records. take c.args.most (past (λ (row : CertRow). row.serial) after records.certificates))
     (λ records written clean rows answers.
     let shown = (written_shows g.S.Store _ records written).tables clean answers.is_open in

@@ -16,8 +16,8 @@ returns-in_err-revoked g c = passed_on _ _ (search rules) (λ records written be
 
 pub returns-in-Good : goal.returns-in-Good
 returns-in-Good g c =
-    let rest : FindsIf (λ _. c.args.most < 2 ^ 63) g.S.Store c.revocation.new.self c.undeclined_of.new.conn c.undeclined_of.result (λ (records : Records) (count : ℕ). count ≡ min c.args.most (length (filter (undeclined_of c.args.serial) records.requests))) =
-    rw (← c.self.view_is) c.undeclined_of.ensures in
+    let rest : FindsIf (λ _. c.args.most < 2 ^ 63) g.S.Store c.revocation.new.self c.count_undeclined.new.conn c.count_undeclined.result (λ (records : Records) (count : ℕ). count ≡ min c.args.most (length (filter (undeclined_of c.args.serial) records.requests))) =
+    rw (← c.self.view_is) c.count_undeclined.ensures in
     finds_then (finds_pair c.in_ok-certificate.ensures c.in_ok-revoked.ensures) rest (λ records written looked below. below)
     (λ records shows clean looked count counted.
     let is : c.status_of.result ≡ status records c.args.serial c.args.now = c.status_of.ensures ∙ (λ i. status_by c.args.now (looked.0 i) (looked.1 i)) in

@@ -19,7 +19,7 @@ returns-in_err-requests g c = rw (← c.self.view_is) (passed_on _ _ (search rul
 
 pub loop-request-preserved : goal.loop-request-preserved
 loop-request-preserved g c =
-    finds_next c.loop-request.invariant c.in_ok-is_late.ensures (λ records shows before is. (
+    finds_next c.loop-request.invariant c.in_ok-is_overdue.ensures (λ records shows before is. (
       before.0,
       elim c.if-branch.branch [
         | then-branch+in_ok-report w ↦
@@ -32,9 +32,9 @@ loop-request-preserved g c =
       ],
     ))
 
-pub returns-in_err-is_late : goal.returns-in_err-is_late
-returns-in_err-is_late g c =
-    passed_on _ _ (search rules) (λ records written may. may) (finds_then c.loop-request.invariant c.in_err-is_late.ensures
+pub returns-in_err-is_overdue : goal.returns-in_err-is_overdue
+returns-in_err-is_overdue g c =
+    passed_on _ _ (search rules) (λ records written may. may) (finds_then c.loop-request.invariant c.in_err-is_overdue.ensures
     (λ records written it may.
     let P : RequestRow → Type 0 = λ (row : RequestRow). IsSome (certificate_in records.certificates row.serial) in
     let all = subst (AllByRecursion P) (sym it.0) (kept_have P undeclined records.requests written.sound.requests.certificates_exist) in
@@ -43,7 +43,7 @@ returns-in_err-is_late g c =
 
 pub returns-in_err-report : goal.returns-in_err-report
 returns-in_err-report g c =
-    unfound _ c.from_residual-in_err-report.ensures.0 (finds_pair c.loop-request.invariant c.in_ok-is_late.ensures) (λ records may written both.
+    unfound _ c.from_residual-in_err-report.ensures.0 (finds_pair c.loop-request.invariant c.in_ok-is_overdue.ensures) (λ records may written both.
     let it = both.0 in
     let kept = filter (late records c.args.now) (take c.loop-request.request-index c.deref-request-items.result.now) in
     let many = c.in_err-report.ensures.many kept it.1 in
