@@ -56,6 +56,19 @@ class Keeping(program.Signers):
         self.close()
 
 
+class Together(Keeping):
+    """Signs its first `number` messages at the same time, so that the desk opens as many connections, and keeps them."""
+
+    def __init__(self, path, number, *reply):
+        self.number, self.barrier = number, threading.Barrier(number)
+        super().__init__(path, *reply)
+
+    def sign(self, client):
+        if len(self.clients) <= self.number and client.recv(1, socket.MSG_PEEK) not in (b"", b"\0"):
+            self.barrier.wait(60)
+        super().sign(client)
+
+
 class Holding:
     """The reply of a persistent signer that keeps the answer for one serial number back until `release`."""
 
@@ -323,15 +336,7 @@ def octets_that_nobody_awaits_close_the_connection(t):
 @test(seconds=3)
 def the_connections_of_a_signer_that_ends_are_closed(t):
     """After 32 answers at once, the desk keeps 32 connections. When the signer ends, the desk closes them without another request."""
-    barrier = threading.Barrier(32)
-
-    class Together(Keeping):
-        def sign(self, client):
-            if client.recv(1, socket.MSG_PEEK) not in (b"", b"\0"):
-                barrier.wait(60)
-            super().sign(client)
-
-    signer = t.enter_context(Together(t.room / "ca.sign"))
+    signer = t.enter_context(Together(t.room / "ca.sign", 32))
     desk = opened(t)
     before = files(desk)
     with ThreadPoolExecutor(32) as pool:
@@ -349,15 +354,7 @@ class FullDesk:
     def __init__(self, t, *words):
         _, hard = resource.getrlimit(resource.RLIMIT_NOFILE)
         resource.setrlimit(resource.RLIMIT_NOFILE, (2_500, hard))
-        barrier = threading.Barrier(32)
-
-        class Together(Keeping):
-            def sign(self, client):
-                if len(self.clients) <= 32 and client.recv(1, socket.MSG_PEEK) not in (b"", b"\0"):
-                    barrier.wait(60)
-                super().sign(client)
-
-        t.enter_context(Together(t.room / "ca.sign"))
+        t.enter_context(Together(t.room / "ca.sign", 32))
         t.register(key=P256_KEY)
         self.desk = Passing(t, *SIGNING, *words).desk
         before = files(self.desk)
@@ -439,15 +436,8 @@ def a_message_has_ten_seconds_on_two_connections_together(t):
 @test(seconds=3)
 def no_connection_with_a_message_is_closed_for_the_operator(t):
     """The desk has no descriptor for a client at the control socket. It closes the second of its kept connections: the first one has a message."""
-    barrier, reply = threading.Barrier(2), Holding(t, 0x2222)
-
-    class Together(Keeping):
-        def sign(self, client):
-            if client.recv(1, socket.MSG_PEEK) not in (b"", b"\0"):
-                barrier.wait(60)
-            super().sign(client)
-
-    t.enter_context(Together(t.room / "ca.sign", reply))
+    reply = Holding(t, 0x2222)
+    t.enter_context(Together(t.room / "ca.sign", 2, reply))
     t.register(key=P256_KEY)
     passing = Passing(t, *SIGNING)
     before = passing.files
@@ -470,15 +460,7 @@ def no_connection_with_a_message_is_closed_for_the_operator(t):
 @test(seconds=3)
 def a_kept_connection_is_closed_for_a_client_at_the_port(t):
     """The desk keeps two connections to its signer, and has no descriptor for a client. No other client has a connection."""
-    barrier = threading.Barrier(2)
-
-    class Together(Keeping):
-        def sign(self, client):
-            if client.recv(1, socket.MSG_PEEK) not in (b"", b"\0"):
-                barrier.wait(60)
-            super().sign(client)
-
-    t.enter_context(Together(t.room / "ca.sign"))
+    t.enter_context(Together(t.room / "ca.sign", 2))
     desk = opened(t)
     before = files(desk)
     with ThreadPoolExecutor(2) as pool:
@@ -507,8 +489,9 @@ def a_half_closed_client_gets_its_answer_after_the_end_of_a_kept_connection(t):
     body = asked_for(0x2200)
     with desk.connect() as client:
         client.sendall(b"POST /ocsp HTTP/1.1\r\nContent-Length: %d\r\n\r\n" % len(body) + body)
-        client.shutdown(socket.SHUT_WR)
         authority.until(lambda: program.is_read(client), "the desk to read the request")
+        # Not earlier: an end of the stream that the desk hasn't read would count as unread.
+        client.shutdown(socket.SHUT_WR)
         time.sleep(0.1)
         closes.set()
         t.true(is_own(program.parted(read_all(client))[2], 0x2200), "the answer")
