@@ -444,6 +444,22 @@ def a_file_of_more_than_50_mb_is_counted_and_found_sound(t):
     t.same(t.done("audit", "ca.db"), f"sound, 135001 certificates, {revoked} revoked, 60 CRLs\n")
 
 
+def with_long_signature(der):
+    ((_, start, end),) = values(der, 0, len(der))
+    *_, (signature, _, _) = values(der, start, end)
+    return registers.tlv(0x30, der[start:signature], registers.tlv(3, bytes(60_001)))
+
+
+@test
+def an_audit_has_the_octets_of_one_crl_in_memory_at_a_time(t):
+    """Each of 400 CRLs has a signature of 60,000 octets. Pages of the file that were read stay in memory, so the program may have 95 MB."""
+    records = registers.Records(10, 400)
+    records.crls = [(number, at, with_long_signature(der)) for number, at, der in records.crls]
+    registers.make(t.room / "ca.db", records, 3)
+    ran = t.tried("prlimit", "--as=95000000", program.program(), "audit", "ca.db")
+    t.same((ran.returncode, ran.stdout, ran.stderr), (0, b"sound, 10 certificates, 2 revoked, 400 CRLs\n", b""))
+
+
 # An audit only reads
 
 def left_behind(t, file="ca.db"):

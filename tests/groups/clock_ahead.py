@@ -1,10 +1,11 @@
 """If the clock is far ahead of the register, an open desk, and `script` and `import` with --clock, refuse commands until the operator accepts it."""
 
 import json
+import re
 
 from lib import program
 from lib.program import ANY_SIGNATURE, moment_of, parted
-from lib.trial import test
+from lib.trial import each, test
 
 DAY = "2026-01-01T00:00:00Z"
 FIRST = program.seconds_of(DAY)
@@ -136,3 +137,13 @@ def an_import_by_the_clock(t):
         t.same((ran.status, ran.out, ran.err), (1, b"", b"bad-clock\n"))
     t.same(t.done("import", "ca.db", "--clock", "--accept-clock", given=rows[0]), "registered\n")
     t.same(t.done("import", "ca.db", "--now", later, given=rows[1]), "registered\n", "with --now")
+
+
+@each({it: it for it in ("script", "import")})
+def it_is_refused_past_as_many_days_as_help_names(t, command):
+    days = int(re.search(r"--accept-clock .*?more than (\d+) days past", t.done(command, "--help"), re.DOTALL)[1])
+    t.register(lines=f"{DAY} {LINES[0]}\n")
+    for seconds, told in ((0, (0, b"")), (1, (1, b"bad-clock\n"))):
+        t.clock(moment_of(FIRST + days * 86_400 + seconds))
+        ran = t.desk(command, "ca.db", "--clock")
+        t.same((ran.status, ran.err), told, f"{days} days and {seconds} s past the last command")

@@ -192,6 +192,23 @@ def a_crl_whose_line_ends_in_cr_lf_holds_up_nobody(t):
                 t.same(parted(desk.send(COUNTS))[0], 200, f"GET /counts after {line[:5]!r}")
 
 
+@test
+def a_long_ocsp_line_holds_up_nobody(t):
+    """The line is nearly as long as a line may be: its request has 60 CertIDs."""
+    ends = threading.Event()
+    t.callback(ends.set)
+    t.register(key=P256_KEY)
+    signers = t.enter_context(Signers(t.room / "ca.sign", lambda message: ends.wait(60) and ANY_SIGNATURE))
+    desk = t.open("ca.db", *SIGNING)
+    with ThreadPoolExecutor(1) as pool, t.control() as control:
+        reply = pool.submit(control.ask, f"ocsp {asks(60).hex()}")
+        t.true(signers.until(1), "no signature is requested")
+        with t.at_once("GET /counts"):
+            t.same(parted(desk.send(COUNTS))[0], 200, "GET /counts meanwhile")
+        ends.set()
+        t.true(ANY_SIGNATURE.hex() in reply.result(), "the reply is not signed")
+
+
 @test(seconds=3)
 def the_sixth_crl_of_a_connection_holds_up_nobody(t):
     signs = threading.Event()
@@ -1715,10 +1732,21 @@ def a_copy_has_one_name_before_its_folder_is_synced(t):
 @each({"an audit": ["audit", "ca.db"], "a copy": ["copy", "ca.db", "copy.db"]})
 def a_register_is_locked_before_its_log_is_opened(t, words):
     """Otherwise another program could meanwhile copy the log into the file, and begin a new log."""
+    is_in_use_while_it_opens(t, "ca.db-wal", words)
+
+
+@test
+def a_register_is_locked_until_its_copy_is_made(t):
+    """Otherwise another program could change the file while its pages are copied."""
+    is_in_use_while_it_opens(t, "copy.db.part", ["copy", "ca.db", "copy.db"])
+
+
+def is_in_use_while_it_opens(t, name, words):
+    """Another program can't open the register while a desk, run with these words, opens the file with this name."""
     t.register()
     with ThreadPoolExecutor(1) as pool:
-        ran = pool.submit(t.desk, *words, faults=faults.environment(slow_open=t.room / "goes-on", only="ca.db-wal"))
-        authority.until(lambda: (t.room / "goes-on.waits").exists(), "the desk to open the log")
+        ran = pool.submit(t.desk, *words, faults=faults.environment(slow_open=t.room / "goes-on", only=name))
+        authority.until(lambda: (t.room / "goes-on.waits").exists(), f"the desk to open {name}")
         other = t.desk("script", "ca.db", "--why", given=f"{DAY} subscriber acme\n")
         (t.room / "goes-on").touch()
         t.same((other.status, other.out, other.err), (1, b"", b"F2 store\n  in use by another program (FILE)\n"), "the other program")
@@ -1917,9 +1945,9 @@ def a_register_that_grows_while_it_is_open_is_read_once(t):
 
 @test(seconds=2)
 def a_copy_takes_little_memory(t):
-    """A register of 60 MB is copied page by page, by a program that may have 32 MB."""
+    """A register of 160 MB is copied page by page, by a program that may have 32 MB."""
     t.register(lines=f"{DAY} crl\n{DAY} crl\n")
-    t.sql("ca.db", "UPDATE crl SET der = zeroblob(60000000) WHERE number = 1")
+    t.sql("ca.db", "UPDATE crl SET der = zeroblob(160000000) WHERE number = 1")
     ran = t.tried("prlimit", "--as=32000000", program.program(), "copy", "ca.db", "copy.db")
     t.same((ran.returncode, ran.stdout.split()[:1], ran.stderr), (0, [b"copied"], b""), "status, the first word of the output, and standard error")
 
@@ -1935,6 +1963,17 @@ def a_register_to_which_sqlite_writes_is_not_read(t):
             ran = t.desk(*words, "--why")
             place = b"" if words[0] == "copy" else b" (FILE)"
             t.same((ran.status, ran.out, ran.err), (1, b"", b"F2 store\n  in use by another program%s\n" % place), program.shown(words))
+
+
+@each({"an audit": ["audit", "ca.db"], "a copy": ["copy", "ca.db", "copy.db"], "a list": ["list", "ca.db", "orders"]}, seconds=2)
+def a_disk_that_fails_is_no_damage_and_no_other_program(t, words):
+    """No cause is told, since none is known. An operator who is told of damage restores a backup."""
+    t.register(lines=f"{DAY} subscriber acme\n")
+    for kind in ("lock", "read"):
+        for at in faults.places(faults.total(t, words, kind, only="ca.db,ca.db-wal"), 8, 9):
+            (t.room / "copy.db").unlink(missing_ok=True)
+            ran, count = faults.run(t, [*words, "--why"], fail=f"{kind}:{at}=EIO", only="ca.db,ca.db-wal")
+            t.same((ran.status, ran.out, ran.err, count["met"]), (1, b"", b"F2 store\n", 1), f"{kind} {at}")
 
 
 @each({"an audit": ["audit", "ca.db"], "a copy": ["copy", "ca.db", "copy.db"]})

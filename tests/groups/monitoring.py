@@ -383,6 +383,26 @@ def a_disk_that_fails(t, line, reply):
 
 
 @test
+def health_names_all_that_fails_together(t):
+    """No signer listens, a table is nearly full, the first CRL is due, a write to the disk failed, and then the clock is too far ahead."""
+    lines, files = "".join(f"{DAY} subscriber name{at}\n" for at in range(9)), "ca.db-wal,ca.db"
+    base = t.register("base.db", lines=lines, key=program.P256_KEY, options=("--cap", "10"))
+    t.clock(DAY)
+    faults.copy(base, t.room / "ca.db")
+    t.open("ca.db", *SIGNING, faults=faults.environment(count=t.room / "count", only=files)).end()
+    (t.room / "control").unlink(missing_ok=True)
+    faults.copy(base, t.room / "ca.db")
+    # The first write after those of the opening fails.
+    desk = t.open("ca.db", *SIGNING, faults=faults.environment(only=files, fail=f"write:{faults.counted(t.room / 'count')['write'] + 1}"))
+    with t.control() as control:
+        t.same((control.ask("crl"), control.ask("subscriber last")), ("F3 signer", "F2 store"))
+    t.same(parted(desk.ask("POST", "/ocsp", OCSP))[2], authority.INTERNAL, "an OCSP response without a signer")
+    later = program.moment_of(FIRST + 31 * 86_400)
+    t.clock(later)
+    t.same(health(t, desk), (503, {"clock": later, "crl": "at-once", "crl_signer": DAY, "ocsp_signer": DAY, "rows": later, "store": DAY}))
+
+
+@test
 def a_copy_that_fails_is_no_failure_of_the_store(t):
     desk = opened(t)
     with t.control() as control:

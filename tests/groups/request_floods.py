@@ -101,6 +101,20 @@ def a_hundred_a_minute(t):
     t.same(program.parted(desk.ask("GET", "/counts"))[0], 200, "other routes have no limit")
 
 
+@test(seconds=2)
+def behind_a_thousand_requests_another_one_is_entered(t):
+    desk = opened(t, 2)
+    t.done("at", "control", given="request 01 superseded\n" * 1_001)
+    t.same(asked(desk, 2), (200, [], 1_002))
+
+
+@test(seconds=2)
+def more_than_a_thousand_open_requests_are_counted(t):
+    desk = opened(t, 2)
+    t.done("at", "control", given="request 01 superseded\n" * 1_001)
+    t.has(parted(desk.ask("GET", "/metrics"))[2].decode(), "\ndesk_requests_open 1001\n", "the metrics")
+
+
 @test
 def a_tenth_of_the_room_is_kept_for_the_control_socket(t):
     """With a cap of 20, requests over HTTP are refused from the 20th on, and /health fails from the 17th on. A revocation needs no room."""

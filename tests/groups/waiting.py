@@ -583,6 +583,21 @@ def a_request_goes_on_and_the_crl_is_signed_anew(t):
     t.has(authority.body_of(t, desk.ask("GET", "/crl"), "application/pkix-crl"), second, "the CRL has the message that was signed last")
 
 
+@test
+def a_crl_whose_signature_takes_seconds_is_signed_once(t):
+    """The clock goes on while the signer signs, and no command is accepted. So the first message still fits, and the CRL has its moment."""
+    held = Held(t)
+    desk = certified(t)
+    with ThreadPoolExecutor(1) as pool, t.control() as control:
+        crl = pool.submit(control.ask, "crl")
+        t.true(held.signers.until(1), "the CRL's signature is not requested")
+        t.clock(program.seconds_of(DAY) + 5)
+        held.release.set()
+        t.same(crl.result(), "crl 1 entries 0")
+    t.same(len(held.signers.asked), 1, "requested signatures")
+    t.has(desk.ask("GET", "/list/crls"), f'{{"crl":1,"thisUpdate":"{DAY}"}}'.encode(), "the list of CRLs")
+
+
 @test(seconds=3)
 def a_crl_is_signed_anew_three_times_and_then_waited_for(t):
     release = queue.Queue()

@@ -330,6 +330,19 @@ def serve_takes_the_numbers_that_its_help_names(t, option):
         t.same(t.desk(*SERVE, *[f"{name}={value}" for name, value in words.items()]).status, status, f"status of serve with {option} {number}")
 
 
+# Words to which an option is added whose value has as many digits as help names, and their status.
+DIGITS = {"crl --number": (("crl", "ca.db"), "--number", "9", 1), "list --serial": (("list", "ca.db", "revoked"), "--serial", "f", 0)}
+
+
+@each(DIGITS)
+def as_many_digits_as_help_names_are_accepted(t, words, option, digit, status):
+    """Status 2 refuses one digit more. Status 1: there is no CRL with that number."""
+    t.register()
+    most = int(re.search(rf" {option} <[A-Z]+> .*?1 to (\d+) (?:hexadecimal )?digits", t.done(words[0], "--help"), re.DOTALL)[1])
+    for more, wanted in ((0, status), (1, 2)):
+        t.same(t.desk(*words, option, digit * (most + more)).status, wanted, f"status of {option} with {most + more} digits")
+
+
 # The options of `init` for which its help names the most bytes, and so many bytes of their values.
 SIZED = {"--name": lambda size: der.value(0x30, bytes(size - 4)), "--key": bytes, "--key-id": bytes}
 
