@@ -12,9 +12,11 @@ PAGES = [*TOP.glob("*.md"), *TOP.glob("docs/*.md"), *TOP.glob("crates/*/README.m
 CODE = [path for folder in ("src", "specs") for end in ("rt", "antt") for path in TOP.glob(f"crates/*/{folder}/**/*.{end}")]
 PROOFS = [path for folder in ("proofs", "edits", "must-fail") for path in TOP.glob(f"crates/*/{folder}/**/*") if path.is_file()]
 PYTHON = [*TOP.glob("tests/run"), *(path for folder in ("tests", "tools", "examples", "bench") for path in TOP.glob(f"{folder}/**/*.py"))]
-# Identifiers of Python's library, and words that are plain English in tests or that a program prints: examples/audit-report.py prints findings.
+# Identifiers of Python's library, a type that the specification names, and words that are plain English in tests or that a program prints:
+# examples/audit-report.py prints findings.
 LIBRARY = {"Counter", "perf_counter"}
-PLAIN = {"either", "findings"}
+FIXED = {"DigestSeal"}
+PLAIN = {"either", "findings", "seal", "tells", "told"}
 # A comment or a text within code.
 PROSE = re.compile(r'(?://|--).*|b?"(?:[^"\\]|\\.)*"')
 found = []
@@ -47,7 +49,7 @@ for path in sorted([*CODE, *PROOFS, *PYTHON]):
     look_at(path, 1, words_of(path.stem), names)
 for path in sorted(CODE):
     for number, line in enumerate(path.read_text(encoding="utf-8").splitlines(), 1):
-        identifiers = {part for it in re.findall(r"\w+", PROSE.sub(" ", line)) for part in words_of(it)}
+        identifiers = {part for it in re.findall(r"\w+", PROSE.sub(" ", line)) if it not in FIXED for part in words_of(it)}
         look_at(path, number, identifiers, names)
         look_at(path, number, {part for it in re.findall(r"\w+", line) for part in words_of(it)} - identifiers, parts["everywhere"])
 for path in sorted(PYTHON):

@@ -1997,3 +1997,33 @@ def init_beside_a_log_makes_no_register(t):
     ran = t.desk("init", "ca.db", "--name", program.NAME, "--key", program.KEY, faults=faults.environment(fail="stat:1+", only="ca.db"))
     t.same((ran.status, ran.out, ran.err), (1, b"", b"F2 store\n"))
     t.same(sorted(it.name for it in t.room.iterdir()), ["ca.db-wal"], "the files in the folder")
+
+
+@test(seconds=2)
+def a_crl_of_more_than_ten_thousand_entries_is_issued(t):
+    """One certificate is revoked by lines. The rows of the others are copies of its rows, with other numbers."""
+    count, begins = 10_001, f"{DAY} register 1 05 {DAY} 2026-12-31T00:00:00Z"
+    t.register(lines=f"{DAY} subscriber acme\n{DAY} order 1 398\n{begins}\n{DAY} request 05 superseded\n{DAY} revoke 1\n")
+    numbers = "WITH RECURSIVE row (id) AS (SELECT 2 UNION ALL SELECT id + 1 FROM row WHERE id < ?)"
+    serial = "CAST(printf('%020d', row.id) AS BLOB)"
+    for table, columns in {
+        "orders": "row.id, subscriber, days",
+        "cert": f"{serial}, row.id, not_before, not_after",
+        "request": f"row.id, {serial}, ground, received, declined",
+        "revocation": f"{serial}, at, reason, row.id, first_crl",
+        "standing": f"{serial}, not_after, state",
+        "listed": f"{serial}, at, reason, first_crl, not_after, last_listed",
+    }.items():
+        t.sql("ca.db", f"INSERT INTO {table} {numbers} SELECT {columns} FROM {table}, row", count)
+    t.sql("ca.db", "UPDATE kept SET n_revoked = ?", count)
+    t.same(t.done("script", "ca.db", given=f"{DAY} crl\n"), f"crl 1 entries {count}\n")
+
+
+@test(seconds=2)
+def more_than_a_thousand_crls_are_served_and_counted(t):
+    t.register()
+    t.clock(DAY)
+    t.done("script", "ca.db", given=f"{DAY} crl\n" * 1_001, faults=faults.environment())
+    desk = t.open("ca.db")
+    t.same([parted(desk.ask("GET", path))[0] for path in ("/crl", "/crl/1001", "/health")], [200] * 3, "/crl, /crl/1001 and /health")
+    t.has(desk.ask("GET", "/metrics"), b"\ndesk_crl_number 1001\n", "the metrics")

@@ -31,19 +31,19 @@ stays_same s = record { was_open = λ clean up. up; now = λ clean up. inl refl;
 module _ {S : Type 0} (g : Ghosts S) (old new : Held S) (same : Stays (state g old) (state g new)) (idle : new.in_transaction ≡ false) where
   -- the look at the version fails
   pub failed_first :
-      (result : Result AuditResult StoreFault) (why : StoreFault) → IsErrAnd result (λ told. told ≡ why)
+      (result : Result AuditResult StoreFault) (why : StoreFault) → IsErrAnd result (λ error. error ≡ why)
       → (HasCleanDisk (state g new) → fails_by why ≡ Err fault.NewVersion → (n : ℕ) × (3 < n) × HasVersion (state g old).now n)
       → (HasCleanDisk (state g new) → fails_by why ≡ Err fault.NotARegister → HasNoRegister (state g old).now)
       → why ≢ fault.NotEmpty → IsJudged g old new result
   failed_first (Ok answer) why is newer none other = absurd is
-  failed_first (Err told) why is newer none other = record {
+  failed_first (Err error) why is newer none other = record {
     sound = λ records columns shows clean. tt;
     shown = λ up presumed clean. tt;
     counted = λ records columns shows clean. tt;
     broken = λ records columns shows clean. tt;
-    tells = λ clean. tt;
-    newer = λ clean e. newer clean (ap fails_by (sym is ∙ (let its : told ≡ fault.NewVersion = cc in its)));
-    none = λ clean e. none clean (ap fails_by (sym is ∙ (let its : told ≡ fault.NotARegister = cc in its)));
+    reports_tables = λ clean. tt;
+    newer = λ clean e. newer clean (ap fails_by (sym is ∙ (let its : error ≡ fault.NewVersion = cc in its)));
+    none = λ clean e. none clean (ap fails_by (sym is ∙ (let its : error ≡ fault.NotARegister = cc in its)));
     register = tt;
     same = same;
     idle = idle;
@@ -52,12 +52,12 @@ module _ {S : Type 0} (g : Ghosts S) (old new : Held S) (same : Stays (state g o
 
   -- the version is an older one
   pub ended_older : (HasCleanDisk (state g new) → ReportsTables audit_result.Older (state g old).now) → IsJudged g old new (Ok audit_result.Older)
-  ended_older tells = record {
+  ended_older reports_tables = record {
     sound = λ records columns shows clean sound. absurd sound;
     shown = λ up presumed clean sound. absurd sound;
     counted = λ records columns shows clean. tt;
     broken = λ records columns shows clean. tt;
-    tells = tells;
+    reports_tables = reports_tables;
     newer = λ clean e. absurd (let bad : ⊥ = cc in bad);
     none = λ clean e. absurd (let bad : ⊥ = cc in bad);
     register = λ sound. absurd sound;
@@ -68,12 +68,12 @@ module _ {S : Type 0} (g : Ghosts S) (old new : Held S) (same : Stays (state g o
 
   -- the schema is another
   pub ended_other : (HasCleanDisk (state g new) → ReportsTables audit_result.OtherSchema (state g old).now) → IsJudged g old new (Ok audit_result.OtherSchema)
-  ended_other tells = record {
+  ended_other reports_tables = record {
     sound = λ records columns shows clean sound. absurd sound;
     shown = λ up presumed clean sound. absurd sound;
     counted = λ records columns shows clean. tt;
     broken = λ records columns shows clean. tt;
-    tells = tells;
+    reports_tables = reports_tables;
     newer = λ clean e. absurd (let bad : ⊥ = cc in bad);
     none = λ clean e. absurd (let bad : ⊥ = cc in bad);
     register = λ sound. absurd sound;
@@ -88,15 +88,15 @@ says_older db None some says = absurd (let bad : ⊥ = cc in bad)
 says_older db (Some older) some says = (older, says)
 
 -- rows that were looked at are those of the program's version, in a register's tables
-told_of : (db : Database) (audited : Result Audited AuditFault) → HasVersionAndOffice db None × (db.schema ≡ register_schema) → IfOk (audit_result_of audited) (λ answer. ReportsTables answer db)
-told_of db (Ok found) says = says
-told_of db (Err (audit_fault.Broken broken)) says = says
-told_of db (Err audit_fault.Memory) says = tt
-told_of db (Err audit_fault.Store) says = tt
+tables_reported : (db : Database) (audited : Result Audited AuditFault) → HasVersionAndOffice db None × (db.schema ≡ register_schema) → IfOk (audit_result_of audited) (λ answer. ReportsTables answer db)
+tables_reported db (Ok found) says = says
+tables_reported db (Err (audit_fault.Broken broken)) says = says
+tables_reported db (Err audit_fault.Memory) says = tt
+tables_reported db (Err audit_fault.Store) says = tt
 
-pub tells_said : (db : Database) (audited : Result Audited AuditFault) (result : Result AuditResult StoreFault) → result ≡ audit_result_of audited
+pub tables_said : (db : Database) (audited : Result Audited AuditFault) (result : Result AuditResult StoreFault) → result ≡ audit_result_of audited
     → HasVersionAndOffice db None × (db.schema ≡ register_schema) → IfOk result (λ answer. ReportsTables answer db)
-tells_said db audited result is says = subst (λ (r : Result AuditResult StoreFault). IfOk r (λ answer. ReportsTables answer db)) (sym is) (told_of db audited says)
+tables_said db audited result is says = subst (λ (r : Result AuditResult StoreFault). IfOk r (λ answer. ReportsTables answer db)) (sym is) (tables_reported db audited says)
 
 -- who looks at rows has no fault of the version
 pub never_newer : {P : Type 0} (audited : Result Audited AuditFault) → audit_result_of audited ≡ Err fault.NewVersion → P

@@ -27,7 +27,7 @@ use Rattle.reg_audit.specs.Complete.{AreTables, AreOffice, AreCounts, IsTermsOf}
 use Rattle.reg_audit.specs.ReadQueries.{IsReadFrom, IsReadOf}
 use Rattle.reg_store_tables.specs.ShownRows.{shown_counts}
 use Rattle.reg_audit.specs.ReadableValues.{HasAllowedDays}
-use Rattle.reg_audit.specs.declared.complete.Terms.{Terms as Found}
+use Rattle.reg_audit.specs.declared.complete.OfficeNumbers.{OfficeNumbers as Found}
 use Rattle.reg_audit.specs.declared.sql.AuditQuery.TheVariants.{Counts as OfCounts, CountsRowid, Terms as OfTerms, Steps}
 use Rattle.reg_audit.specs.declared.sql.TheConstants.{COUNTS, COUNTS_ROWID, TERMS, STEPS}
 use Rattle.reg_audit.proofs.Cells.{and_left, and_right, not_false, is_row, key_null, blob_is, integer_is, cell_typed, some_below}

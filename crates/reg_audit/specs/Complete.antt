@@ -23,7 +23,7 @@ use Rattle.reg_store_tables.specs.Schema.{register_schema, table_trees}
 use Rattle.reg_store_tables.specs.Shows.{AreRecordsAndDerived}
 use Rattle.reg_audit.specs.Cells.{HasCells}
 use Rattle.reg_audit.specs.Stored.{IsSomeCrl}
-use Rattle.reg_audit.specs.declared.complete.Terms.{Terms as Found}
+use Rattle.reg_audit.specs.declared.complete.OfficeNumbers.{OfficeNumbers as Found}
 
 -- What holds of a register's tables, whatever rows they have: they have its schema and obey it, and the rowids of each table
 -- rise. Each row of `listed` has all its columns. In SQLite a row may lack the last one, which a query returns as NULL. No

@@ -30,7 +30,7 @@ pub record IsJudged {S : Type 0} (g : Ghosts S) (old new : Held S)
       → HasCleanDisk (state g new) → IfOk result (λ audit_result. CountedBy audit_result records)
   pub broken : (records : Records) (columns : DerivedRows) → ShowsBoth g old records columns
       → HasCleanDisk (state g new) → IfOk result (λ audit_result. DisprovedBy audit_result records columns)
-  pub tells : HasCleanDisk (state g new)
+  pub reports_tables : HasCleanDisk (state g new)
       → IfOk result (λ audit_result. ReportsTables audit_result (state g old).now)
   pub newer : HasCleanDisk (state g new) → result ≡ Err NewVersion
       → (n : ℕ) × (3 < n) × HasVersion (state g old).now n

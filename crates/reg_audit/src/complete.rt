@@ -129,7 +129,7 @@ fn check_counts(rows: &[Row], rowids: &[Row]) -> Result<(), AuditFault>
 
 /// Numbers in `office`: seconds from thisUpdate to nextUpdate of CRLs and of OCSP responses; the most rows of a table; the last accepted moment.
 #[derive(Clone, Copy)]
-struct Terms {
+struct OfficeNumbers {
     crl_life: u64,
     ocsp_life: u64,
     cap: u64,
@@ -137,7 +137,7 @@ struct Terms {
 }
 
 /// The columns 2 to 5 in `rows`, which [`AuditQuery::Terms`] read. `None` unless there is one row, of numbers, with the rowid 1 and [`VERSION`].
-fn terms_in(rows: &[Row]) -> Option<Terms>
+fn terms_in(rows: &[Row]) -> Option<OfficeNumbers>
     ensures { IfSome result (IsTermsOf rows.now) }
 {
     let [row] = rows else {
@@ -146,7 +146,7 @@ fn terms_in(rows: &[Row]) -> Option<Terms>
     if !is_number(row, 0, 1) || !is_number(row, 1, VERSION) {
         return None;
     }
-    Some(Terms {
+    Some(OfficeNumbers {
         crl_life: number_at(row, 2)?,
         ocsp_life: number_at(row, 3)?,
         cap: number_at(row, 4)?,
@@ -156,7 +156,7 @@ fn terms_in(rows: &[Row]) -> Option<Terms>
 
 /// The steps of the schedule: each a notBefore, and the longest validity in days from it on. `Store` if a row has no moment or no number of days.
 fn steps_in(alloc: Global, rows: &[Row]) -> Result<Vec<(Moment, u64)>, AuditFault>
-    ensures told { IfOk result
+    ensures in_rows { IfOk result
         (λ steps. AllZip (λ (step : ℕ × ℕ) (row : Cells). HasCells 0 row (shown_step step))
         steps.items rows.now) }
     ensures broken { NoBrokenRow result }
@@ -171,7 +171,7 @@ fn steps_in(alloc: Global, rows: &[Row]) -> Result<Vec<(Moment, u64)>, AuditFaul
     Ok(steps)
 }
 
-fn check_policy(steps: &[(Moment, u64)], terms: Terms) -> Result<(), AuditFault>
+fn check_policy(steps: &[(Moment, u64)], terms: OfficeNumbers) -> Result<(), AuditFault>
     ensures hold { OnOk result
         (IsPolicy (record {
           schedule = steps.now;

@@ -12,7 +12,7 @@ use sqlite::types::ValueRef;
 pub(crate) fn letter_at(row: &Row, at: usize) -> Option<Letter>
     ensures read { (letter : Letter) → column row.now at ≡ Text (letter_text (letter_in letter))
         → result ≡ Some letter }
-    ensures told { IfSome result (λ letter. column row.now at ≡ Text (letter_text (letter_in letter))) }
+    ensures in_column { IfSome result (λ letter. column row.now at ≡ Text (letter_text (letter_in letter))) }
 {
     match row.get_ref(at) {
         Ok(ValueRef::Text(b"G")) => Some(Letter::Good),

@@ -35,17 +35,17 @@ pub none_at_zero : {Row : Type 0} (number : Row → ℕ) (from : ℕ) (rows : Li
 none_at_zero number from [] low numbered = refl
 none_at_zero number from (row ∷ rest) low numbered = let other : (number row == 0) ≡ false = (let is = numbered.0 in grind (arith, nat_tests)) in rw other (none_at_zero number (from + 1) rest (omega arith) numbered.1)
 
-there : {Row : Type 0} (k : ℕ) (rows : List Row) → k < length rows → IsSome (slice_get rows k)
-there k [] within = absurd (omega arith)
-there zero (row ∷ rest) within = refl
-there (suc k) (row ∷ rest) within = there k rest (omega arith)
+is_some_at : {Row : Type 0} (k : ℕ) (rows : List Row) → k < length rows → IsSome (slice_get rows k)
+is_some_at k [] within = absurd (omega arith)
+is_some_at zero (row ∷ rest) within = refl
+is_some_at (suc k) (row ∷ rest) within = is_some_at k rest (omega arith)
 
 abbrev pub IsOneOf : ℕ → ℕ → Type 0
 IsOneOf id held = (1 ≤ id) × (id ≤ held)
 
 pub one_found : {Row : Type 0} (number : Row → ℕ) (id : ℕ) (rows : List Row) → NumberedFrom number 1 rows → IsOneOf id (length rows) → IsSome (find (λ row. number row == id) rows)
 one_found number zero rows numbered one = absurd (omega (arith, one.0))
-one_found number (suc k) rows numbered one = subst IsSome (sym (with_number number (suc k) k rows numbered (omega arith))) (there k rows (omega (arith, one.1)))
+one_found number (suc k) rows numbered one = subst IsSome (sym (with_number number (suc k) k rows numbered (omega arith))) (is_some_at k rows (omega (arith, one.1)))
 
 pub found_one : {Row : Type 0} (number : Row → ℕ) (id : ℕ) (rows : List Row) → NumberedFrom number 1 rows → IsSome (find (λ row. number row == id) rows) → IsOneOf id (length rows)
 found_one number id rows numbered some =

@@ -74,14 +74,14 @@ letters_are state.Good = refl
 letters_are state.Expired = refl
 letters_are (state.Revoked at reason) = refl
 
-record Tells (status : Status) : Type 0 where
+record Tests (status : Status) : Type 0 where
   good : same_letter (letter_by status) Good ≡ is_good status
   revoked : same_letter (letter_by status) Revoked ≡ is_revoked status
   expired : same_letter (letter_by status) Expired ≡ is_expired status
 
-tells : (last : ℕ) (certificate : CertRow) (revocation : Option RevocationRow) → Tells (status_by last (Some certificate) revocation)
-tells last certificate (Some revocation) = record { good = refl; revoked = refl; expired = refl }
-tells last certificate None = elim (cases_Bool (nat_lt certificate.not_after last)) [
+tests_status : (last : ℕ) (certificate : CertRow) (revocation : Option RevocationRow) → Tests (status_by last (Some certificate) revocation)
+tests_status last certificate (Some revocation) = record { good = refl; revoked = refl; expired = refl }
+tests_status last certificate None = elim (cases_Bool (nat_lt certificate.not_after last)) [
   | inl gone ↦ rw gone (record { good = refl; revoked = refl; expired = refl })
   | inr here ↦ rw here (record { good = refl; revoked = refl; expired = refl })
 ]
@@ -134,15 +134,15 @@ module _ (rows : Rows) (records : Records) (are : AreOf rows records) (sound : S
     pub letters_differ : KeysDiffer (λ (row : Standing). row.serial) wanted_letters
     letters_differ = keys_made (λ (row : Standing). row.serial) made rows.certificates.now (rw are.certificates sound.certificates.serials_differ)
 
-    count_is : (letter : Letter) (test : Status → Bool) → ((status : Status) → Tells status → same_letter (letter_by status) letter ≡ test status)
+    count_is : (letter : Letter) (test : Status → Bool) → ((status : Status) → Tests status → same_letter (letter_by status) letter ≡ test status)
         → length (filter (λ (row : Standing). same_letter row.letter letter) wanted_letters) ≡ length (filter (λ (row : CertRow). test (status_by records.last (certificate_in records.certificates row.serial) (revocation_in records.revocations row.serial))) records.certificates)
-    count_is letter test tell =
+    count_is letter test tests =
         ap length (filter-map (λ (row : Standing). same_letter row.letter letter) made rows.certificates.now)
         ∙ mapped made (filter (λ (row : CertRow). same_letter (made row).letter letter) rows.certificates.now)
         ∙ ap (λ l. length (filter (λ (row : CertRow). same_letter (made row).letter letter) l)) are.certificates
         ∙ same_length (λ (row : CertRow). same_letter (made row).letter letter) (λ (row : CertRow). test (status_by records.last (certificate_in records.certificates row.serial) (revocation_in records.revocations row.serial))) records.certificates
         (all_weaker is_known (λ row. same_letter (made row).letter letter ≡ test (status_by records.last (certificate_in records.certificates row.serial) (revocation_in records.revocations row.serial)))
-        (λ row known. tell (status_by rows.last (Some row) (revocations row.serial)) (tells rows.last row (revocations row.serial)) ∙ ap test (status_is row known)) records.certificates each_known)
+        (λ row known. tests (status_by rows.last (Some row) (revocations row.serial)) (tests_status rows.last row (revocations row.serial)) ∙ ap test (status_is row known)) records.certificates each_known)
 
     pub counts_made : found_counts wanted_letters ≡ counts records records.last
     counts_made = λ i. record {

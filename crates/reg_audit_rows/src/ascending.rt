@@ -130,7 +130,8 @@ pub(crate) fn firsts_never_decrease(revocations: &[RevocationRow]) -> Result<(),
     Ok(())
 }
 
-pub(crate) fn are_by_last<T: Dated>(
+/// Checks that no row has a moment after `last`.
+pub(crate) fn are_at_most_last<T: Dated>(
     table: RegisterTable,
     rows: &[T],
     last: Moment,

@@ -124,7 +124,7 @@ fn is_before(request: &RequestRow, revocation: Option<RevocationRow>) -> bool
 }
 
 /// Checks that no request was received after the revocation of its certificate.
-pub(crate) fn none_after(
+pub(crate) fn no_request_after_revocation(
     requests: &[RequestRow],
     revocations: &BTreeMap<Serial, RevocationRow>,
 ) -> Result<(), CheckFault>

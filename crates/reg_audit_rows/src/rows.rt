@@ -12,14 +12,14 @@ ghost use Rattle.reg_core.specs.Sound.{NumberedFrom};
 ghost use Rattle.reg_audit_rows.specs.Read.{AreCrls, AreOf, AreRevocations, Indexes, IsIndexOf, IsLastSet};
 ghost use Rattle.reg_audit_rows.specs.Faults.{NotBrokenIf};
 
-use crate::ascending::{are_by_last, firsts_never_decrease, in_order, moments_never_decrease};
+use crate::ascending::{are_at_most_last, firsts_never_decrease, in_order, moments_never_decrease};
 use crate::fault::{CheckFault, broken_at, within_cap};
 use crate::index::{
     certificates_by_order, certificates_by_serial, revocations_by_request, revocations_by_serial,
     rows_differ,
 };
 use crate::relations::{
-    are_as_ordered, are_in_time, none_after, revocations_fit, subscribers_exist,
+    are_as_ordered, are_in_time, no_request_after_revocation, revocations_fit, subscribers_exist,
 };
 use crate::single_rows::{days_are_allowed, names_are_good, validities_are_forward};
 use crate::{Defect, RegisterTable};
@@ -104,7 +104,7 @@ fn check_requests(
 {
     within_cap(RegisterTable::Request, rows.len(), cap)?;
     in_order(RegisterTable::Request, rows)?;
-    are_by_last(RegisterTable::Request, rows, last)?;
+    are_at_most_last(RegisterTable::Request, rows, last)?;
     moments_never_decrease(RegisterTable::Request, rows, Defect::Earlier)?;
     are_in_time(rows, certificates)
 }
@@ -116,10 +116,11 @@ fn check_crls(rows: &[CrlRow], last: Moment, cap: u64) -> Result<(), CheckFault>
     within_cap(RegisterTable::Crl, rows.len(), cap)?;
     in_order(RegisterTable::Crl, rows)?;
     moments_never_decrease(RegisterTable::Crl, rows, Defect::ThisUpdateDecreases)?;
-    are_by_last(RegisterTable::Crl, rows, last)
+    are_at_most_last(RegisterTable::Crl, rows, last)
 }
 
-/// `revocations_by_..` also report a second revocation for a request or serial number. `none_after` reports a request received after the revocation.
+/// `revocations_by_..` also report a second revocation for a request or serial number. `no_request_after_revocation` reports a request received
+/// after the revocation.
 fn check_revocations(
     alloc: Global,
     certificates: &BTreeMap<Serial, CertRow>,
@@ -143,7 +144,7 @@ fn check_revocations(
     firsts_never_decrease(rows.revocations)?;
     revocations_by_request(alloc, rows.revocations)?;
     let revocations = revocations_by_serial(alloc, rows.revocations)?;
-    none_after(rows.requests, &revocations)?;
+    no_request_after_revocation(rows.requests, &revocations)?;
     Ok(revocations)
 }
 

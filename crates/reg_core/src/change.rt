@@ -2,7 +2,7 @@ use crate::moment::Moment;
 use crate::rows::{CertRow, CrlRow, OrderRow, RequestRow, RevocationRow, SubscriberRow};
 
 /// What an accepted command changes in the records: mostly the row that it adds. Each change also makes the command's moment the last accepted one.
-/// `Revocation` also has the certificate's notAfter, which decides the last CRL with the entry. `Crl` also has the DER. `Decline` has a request's id.
+/// `Revocation` also has the certificate's notAfter (it decides which CRL lists it last), and `Crl` the DER. `Decline` has a request's id.
 #[derive(Clone, Copy)]
 pub enum Change<'a> {
     /// Only the last accepted moment: the command `register` named a certificate that is registered already.

@@ -65,7 +65,7 @@ pub struct Counts {
     pub expired: u64,
 }
 
-/// The CRLs that list a revoked serial number: `first` is the number of the first one, even if it isn't issued yet; `last` the last one's, if issued.
+/// Which CRLs list a revoked serial number. `first`: the first one's number, even if not issued yet. `last`: the last one's, `None` until issued.
 #[derive(Clone, Copy, PartialEq, Eq)]
 pub struct Listing {
     pub first: u64,

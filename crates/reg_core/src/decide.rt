@@ -1,5 +1,5 @@
 //! The pure decisions, one for each command. Each takes the rows that the caller looked up (`None`: there is no such row), and returns the row to
-//! write or the first refusal that applies. [`clock`] refuses first; each decision's comment lists its other refusals in the order of their checks.
+//! write or the first refusal that applies. Each calls [`clock`] first; its comment lists its other refusals, in the order of their checks.
 //! `head` has the moments, the policy, and in `held` the number of rows in the table to which the command would add one; a new id is `held` + 1.
 
 ghost use Rattle.std.specs.Prelude.{◌≡◌, ℕ, ◌+◌, ◌<◌, ◌^◌, false, IfSome, ⊤};
@@ -15,7 +15,7 @@ use crate::rows::{CertRow, CrlRow, Head, OrderRow, RequestRow, RevocationRow, Su
 
 const SECONDS_OF_DAY: u64 = 86_400;
 
-/// Checks a command's or query's moment, `now`. Refusals: `ClockEnd` from 9999-12-22T00:00:00Z on; `ClockBack` before the last accepted one, `last`.
+/// Checks a command's or query's moment, `now`. Refusals: `ClockEnd` from [`Moment::CLOCK_END`] on; `ClockBack` before `last`, the last accepted one.
 pub fn clock(now: Moment, last: Moment) -> Result<(), Refusal>
     ensures { IsDecidedBy (first_refusal (clock_checks now last)) (λ _. ⊤) result }
 {
@@ -152,7 +152,7 @@ pub fn decide_decline(
 
 /// The row of the new revocation, and whether it is after the request's deadline. Field `first`: the number of the next CRL, the first to list it.
 /// `certificate` and `revocation` are those of the request's serial number; `latest` is the newest CRL. Refusals: `NoRequest`, `DeclinedBefore`,
-/// `RevokedBefore`, `Expired`.
+/// `RevokedBefore`, `Expired`. `Full` is none of them: each certificate has at most one revocation.
 pub fn decide_revoke(
     head: &Head,
     request: Option<RequestRow>,
@@ -239,7 +239,7 @@ fn check_validity(head: &Head, wanted: &CertRow, order: &OrderRow) -> Result<(),
     Ok(())
 }
 
-/// Refuses if there is a revocation, or the certificate is past notAfter. `None` would pass, but the certificate of a request is always registered.
+/// Refuses if there is a revocation, or `now` is past the certificate's notAfter. Without a certificate it would accept, but each request has one.
 fn check_live(
     now: Moment,
     certificate: Option<CertRow>,

@@ -8,7 +8,7 @@ use std::marker::Model;
 
 const MAX_BYTES: usize = 64;
 
-/// A short text of 1 to 64 bytes of any value, such as a name or a line of a reply. Zeros fill up the array. Contracts see only the `len` bytes.
+/// A short text of 1 to 64 bytes of any value, such as a name or a line of a reply. Contracts see only the first `len` bytes; the others are 0.
 #[derive(Clone, Copy, Eq)]
 pub struct Label {
     bytes: [u8; MAX_BYTES],

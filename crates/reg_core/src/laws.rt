@@ -1,4 +1,4 @@
-//! Laws of octets, INTEGERs, serial numbers, moments and texts: contracts of functions that do nothing. Proofs cite them by `proofs/PublicLaws.antt`.
+//! Laws of octets, INTEGERs, serial numbers, moments and texts: contracts of empty functions. Proofs cite them through `proofs/PublicLaws.antt`.
 
 ghost use Rattle.reg_core.specs.Laws.{OctetsAreDigits, OctetsAreBelow, ZerosCountNothing, OneSpelling, OctetsAreLowest, OctetsInOrder};
 ghost use Rattle.reg_core.specs.Laws.{IntegersAreSpelled, OneInteger, OneNumber, IntegersAreShort, SerialsInOrder, OneSerial};

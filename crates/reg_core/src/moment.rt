@@ -27,7 +27,7 @@ const END: u64 = 253_402_300_800;
 impl Moment {
     ghost use Rattle.reg_core.specs.Calendar.{IsMoment, IsCivil, IsCivilAt, civil_of, moment_of, moment_text};
 
-    /// 1970-01-01T00:00:00Z, the last accepted moment of a new register.
+    /// 1970-01-01T00:00:00Z. A new register, which has accepted no command yet, has it as its last accepted moment.
     pub const EPOCH: Moment = Moment { seconds: 0 };
 
     /// 9999-12-22T00:00:00Z. From then on commands and queries are refused (`ClockEnd`), so that each nextUpdate, under ten days later, is a moment.

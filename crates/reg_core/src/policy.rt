@@ -88,7 +88,7 @@ impl Policy {
           cap = cap;
         }) }
     {
-        // Called only for the contract of `steps`: the steps are those of a valid schedule. `with_schedule` does the same.
+        // Called only for the prover: by the contract of `steps`, `schedule` is valid. `with_schedule` does the same.
         let _steps = schedule.steps();
         let in_range = (1..=LONGEST_LIFE).contains(&crl_life)
             && (SHORTEST_OCSP_LIFE..=LONGEST_LIFE).contains(&ocsp_life)

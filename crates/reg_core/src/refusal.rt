@@ -9,7 +9,7 @@ use crate::number::Decimal;
 /// Why a command or query is refused; the register stays as it is. Its code, such as E01, begins its [`line`](Refusal::line).
 #[derive(Clone, Copy, PartialEq, Eq)]
 pub enum Refusal {
-    // E01: the moment is before the last accepted one, `last`. E02: it is 9999-12-22T00:00:00Z or later, so a nextUpdate might be no moment.
+    // E01: the moment is before the last accepted one, `last`. E02: from 9999-12-22T00:00:00Z on, when a nextUpdate might be after the year 9999.
     ClockBack { last: Moment },
     ClockEnd,
     /// E03: the table that would grow has reached the policy's limit of rows.
@@ -19,7 +19,7 @@ pub enum Refusal {
     // E05: the subscriber with this id has the name already. E06: no subscriber has the id.
     NameTaken { id: u64 },
     NoSubscriber,
-    /// E07: the days of an order are 0, or more than `most`, the most that any step of the schedule allows.
+    /// E07: the days of an order are 0, or more than `most`, the longest validity that the policy allows for some notBefore.
     BadDays { most: u64 },
     // E08: no order has the id. E09: a certificate fills the order already. E10: another certificate has the serial number.
     NoOrder,

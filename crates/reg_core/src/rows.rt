@@ -45,7 +45,7 @@ pub struct RequestRow {
 }
 
 impl RequestRow {
-    /// The last moment at which a revocation by the request is not late: receipt plus the limit of its ground.
+    /// The last moment at which the request can be carried out without being late: its receipt plus its ground's `limit_secs`.
     pub fn deadline(&self) -> Moment
         requires { self.now.received < clock_end }
         ensures { result ≡ deadline self.now }
@@ -81,7 +81,7 @@ pub struct Entry {
 }
 
 /// What a decision (`decide.rt`) takes besides looked-up rows and the command's fields: the command's moment, `now`; the last accepted one, `last`;
-/// the policy; and `held`, how many rows the table has that the command adds to. `revoke` and `decline` use only the moments: they are never `Full`.
+/// the policy; and `held`, how many rows the table has that the command adds to. `revoke` and `decline` use only the moments: they never get `Full`.
 #[derive(Clone, Copy, PartialEq, Eq)]
 pub struct Head {
     pub now: Moment,

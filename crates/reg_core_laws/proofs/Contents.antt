@@ -85,7 +85,7 @@ is_on_added : (rows more_rows : List CertRow) (crls more_crls : List Crl) (n : �
     → certificate_in rows revocation.serial ≡ Some certificate → AllByRecursion (λ crl. n ≤ crl.number) more_crls
     → is_listed_on (rows ++ more_rows) (crls ++ more_crls) n revocation ≡ is_listed_on rows crls n revocation
 is_on_added rows more_rows crls more_crls n revocation certificate found above =
-    ap (λ past. nat_le revocation.first n && not past) (any_past after crls more_crls late ∙ any_same after before crls same)
+    ap (λ past. nat_le revocation.first n && not past) (any_past after crls more_crls late ∙ any_same after before crls ends_alike)
   where
     after : Crl → Bool
     after crl = nat_lt crl.number n && ends_listing (rows ++ more_rows) revocation crl
@@ -96,20 +96,20 @@ is_on_added rows more_rows crls more_crls n revocation certificate found above =
     late : AllByRecursion (λ crl. IsFalse (after crl)) more_crls
     late = all_weaker _ _ (λ crl least. grind (arith, nat_tests)) more_crls above
 
-    same : AllByRecursion (λ crl. after crl ≡ before crl) crls
-    same = all_any _ (λ crl. ap (λ past. nat_lt crl.number n && past) (is_past_on_kept rows more_rows revocation crl certificate found)) crls
+    ends_alike : AllByRecursion (λ crl. after crl ≡ before crl) crls
+    ends_alike = all_any _ (λ crl. ap (λ past. nat_lt crl.number n && past) (is_past_on_kept rows more_rows revocation crl certificate found)) crls
 
 -- what the CRL with a number up to the next lists of the recorded revocations stays as it was
 old_content_kept : (before after : Records) → SoundRows before → Grows before after → (n : ℕ) → n ≤ length before.crls + 1
     → filter (is_listed_on after.certificates after.crls n) before.revocations ≡ listed_revocations before n
-old_content_kept before after sound grows n recorded = filter_same _ _ before.revocations (all_weaker _ _ same before.revocations sound.revocations.each)
+old_content_kept before after sound grows n recorded = filter_same _ _ before.revocations (all_weaker _ _ still_listed before.revocations sound.revocations.each)
   where
     above : AllByRecursion (λ crl. n ≤ crl.number) grows.more_crls
     above = all_weaker _ _ (λ crl new. omega arith) grows.more_crls grows.new_numbers
 
-    same : (revocation : RevocationRow) → SoundRevocation before.last before.certificates before.requests before.crls revocation
+    still_listed : (revocation : RevocationRow) → SoundRevocation before.last before.certificates before.requests before.crls revocation
         → is_listed_on after.certificates after.crls n revocation ≡ is_listed_on before.certificates before.crls n revocation
-    same revocation holds =
+    still_listed revocation holds =
         let found =
         some_and_of (λ certificate. revocation.at ≤ certificate.not_after) (certificate_in before.certificates revocation.serial) holds.within_validity in
         ap₂ (λ (rows : List CertRow) (crls : List Crl). is_listed_on rows crls n revocation) grows.certificates grows.crls

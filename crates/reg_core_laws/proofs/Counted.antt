@@ -108,7 +108,7 @@ registration_adds : (test : Status → Bool) (records : Records) (now : ℕ) (ro
     → length (registered test (with_certificate records now row) now) ≡ length (registered test records now) + one_if (test Good)
 registration_adds test records now row sound free live =
     let kept = same_length after_is (λ r. test (status records r.serial now)) records.certificates others in
-    omega (arith, filter_push after_is records.certificates row, kept, ap one_if here)
+    omega (arith, filter_push after_is records.certificates row, kept, ap one_if row_test)
   where
     after_is : CertRow → Bool
     after_is r = test (status (with_certificate records now row) r.serial now)
@@ -122,8 +122,8 @@ registration_adds test records now row sound free live =
         all_weaker _ _ (λ r differs. grind (arith, nat_tests, found r.serial)) records.certificates
         (key_new (λ r. r.serial) records.certificates row.serial free)
 
-    here : after_is row ≡ test Good
-    here = grind (arith, nat_tests, found row.serial, unknown_unrevoked records row.serial sound free)
+    row_test : after_is row ≡ test Good
+    row_test = grind (arith, nat_tests, found row.serial, unknown_unrevoked records row.serial sound free)
 
 -- what a revocation does to one certificate: it is the revoked one, which was good, or its status stays
 record MovesByRevocation (before after : Status) (here : Bool) : Type 0 where
@@ -187,7 +187,7 @@ command_counts records now command bytes sound accepted = refl
 pub counts_move_exactly : (signed : CertList → List ℕ → Type 0) → CountsMoveExactly signed
 counts_move_exactly signed records before next front early now command outcome sound run happens =
     let known : Sound signed before = keeps_sound signed records before front early sound run in (
-      by_outcome signed before now command (λ told after. CountsMove (counts before now) told (counts after now)) (λ fault. refl)
+      by_outcome signed before now command (λ result after. CountsMove (counts before now) result (counts after now)) (λ fault. refl)
           (λ bytes accepted over. command_counts before now command bytes known.rows accepted) outcome next happens,
       λ moment later up. time_moves before moment later up known.rows,
     )

@@ -49,15 +49,15 @@ pub record Accepts (signed : CertList → List ℕ → Type 0) (records : Record
 
 -- what a decision says of the refusal that applies: it is the one that is answered, or there is none
 abbrev pub Says : {Answer : Type 0} → Option Refusal → (Answer → Type 0) → Result Answer Refusal → Type 0
-Says refused IsAnswer (Err told) = refused ≡ Some told
+Says refused IsAnswer (Err reason) = refused ≡ Some reason
 Says refused IsAnswer (Ok answer) = (refused ≡ None) × IsAnswer answer
 
 -- the same from what a decision ensures
 pub says : {Answer : Type 0} (refused : Option Refusal) (IsAnswer : Answer → Type 0) (result : Result Answer Refusal)
     → IsDecidedBy refused IsAnswer result → Says refused IsAnswer result
-says (Some applied) IsAnswer (Err told) decides = cc
+says (Some applied) IsAnswer (Err reason) decides = cc
 says (Some applied) IsAnswer (Ok answer) decides = cc
-says None IsAnswer (Err told) decides = absurd decides
+says None IsAnswer (Err reason) decides = absurd decides
 says None IsAnswer (Ok answer) decides = (refl, decides)
 
 -- what is told of a command: the refusal that applies, or that it is accepted so
@@ -84,10 +84,10 @@ module _ (signed : CertList → List ℕ → Type 0) (records : Records) (now : 
       record { accepted = accepted; replies = replies; changes = changes; step = step_accepted answer [] change accepted unsigned replies changes }
 
   -- what follows from what was decided
-  told : {Answer : Type 0} (IsAnswer IsAccepted : Answer → Type 0) (result : Result Answer Refusal) → IsDecidedBy (refusal records now command) IsAnswer result
+  decided : {Answer : Type 0} (IsAnswer IsAccepted : Answer → Type 0) (result : Result Answer Refusal) → IsDecidedBy (refusal records now command) IsAnswer result
       → ((answer : Answer) → refusal records now command ≡ None → IsAnswer answer → IsAccepted answer) → RevocationsOnCrls signed records now command IsAccepted result
-  told IsAnswer IsAccepted (Err refused) decides accepted = step_refused refused (says (refusal records now command) IsAnswer (Err refused) decides)
-  told IsAnswer IsAccepted (Ok answer) decides accepted = let is = says (refusal records now command) IsAnswer (Ok answer) decides in accepted answer is.0 is.1
+  decided IsAnswer IsAccepted (Err refused) decides accepted = step_refused refused (says (refusal records now command) IsAnswer (Err refused) decides)
+  decided IsAnswer IsAccepted (Ok answer) decides accepted = let is = says (refusal records now command) IsAnswer (Ok answer) decides in accepted answer is.0 is.1
 
 -- a row that was looked up and is there, with its number, as a decision speaks of it
 known_of : {Row : Type 0} (key : Row → ℕ) (rows : List Row) (target : ℕ) (P : Row → Type 0) → IsSome (find (λ row. key row == target) rows)
@@ -116,7 +116,7 @@ pub subscriber_decided : (signed : CertList → List ℕ → Type 0) (records : 
     → by_name ≡ subscriber_named records.subscribers name → DecidesSubscriber head name by_name result
     → SubscriberSays signed records now name result
 subscriber_decided signed records now head name by_name result head_is by_name_is decides =
-    told signed records now (Subscriber name) _ (AcceptsSubscriber signed records now name) result (rw (head_is, by_name_is) at decides)
+    decided signed records now (Subscriber name) _ (AcceptsSubscriber signed records now name) result (rw (head_is, by_name_is) at decides)
     (λ row none is. record { row_is = is; accepts = accepts_as signed records now (Subscriber name) refl none (rw is) (rw is) })
 
 -- ORDERS
@@ -135,7 +135,7 @@ pub order_decided : (signed : CertList → List ℕ → Type 0) (records : Recor
     → head ≡ head_of records now (length records.orders) → known ≡ subscriber_in records.subscribers subscriber
     → DecidesOrder head known days result → OrderSays signed records now subscriber days result
 order_decided signed records now head subscriber days known result head_is known_is decides =
-    told signed records now (Order subscriber days) _ (AcceptsOrder signed records now subscriber days) result (rw (head_is, known_is) at decides)
+    decided signed records now (Order subscriber days) _ (AcceptsOrder signed records now subscriber days) result (rw (head_is, known_is) at decides)
     (λ row none is.
     let found = known_of (λ row. row.id) records.subscribers subscriber _ (some none) is in
     let row_is : row ≡ record { id = length records.orders + 1; subscriber = subscriber; days = days } = rw found.2 at found.3 in
@@ -155,17 +155,17 @@ abbrev pub RequestSays : (CertList → List ℕ → Type 0) → Records → ℕ 
 RequestSays signed records now serial word result = RevocationsOnCrls signed records now (Request serial word) (AcceptsRequest signed records now serial word) result
 
 -- the ground that is found, or a refusal
-abbrev or_told : Refusal → Option Ground → Result Ground Refusal
-or_told refused (Some named) = Ok named
-or_told refused None = Err refused
+abbrev named_or_refused : Refusal → Option Ground → Result Ground Refusal
+named_or_refused refused (Some named) = Ok named
+named_or_refused refused None = Err refused
 
-told_or : (refused : Refusal) (found : Option Ground) (named : Ground) → or_told refused found ≡ Ok named → unwrap_or found Asked ≡ named
-told_or refused (Some other) named e = cc
-told_or refused None named e = cc
+named_of : (refused : Refusal) (found : Option Ground) (named : Ground) → named_or_refused refused found ≡ Ok named → unwrap_or found Asked ≡ named
+named_of refused (Some other) named e = cc
+named_of refused None named e = cc
 
 -- the ground that a word names is the one that is asked for
 ground_is : (word : List ℕ) (named : Ground) → ground_or_refusal word ≡ Ok named → ground_or Asked word ≡ named
-ground_is word named e = told_or _ (ground_named word) named e
+ground_is word named e = named_of _ (ground_named word) named e
 
 -- the row of the request that was decided
 request_is : (records : Records) (now serial : ℕ) (word : List ℕ) (certificate : CertRow) (row : RequestRow) → certificate.serial ≡ serial
@@ -187,7 +187,7 @@ pub request_decided : (signed : CertList → List ℕ → Type 0) (records : Rec
     → revocation ≡ revocation_in records.revocations serial
     → DecidesRequest head certificate word revocation result → RequestSays signed records now serial word result
 request_decided signed records now head serial word certificate revocation result head_is certificate_is revocation_is decides =
-    told signed records now (Request serial word) _ (AcceptsRequest signed records now serial word) result
+    decided signed records now (Request serial word) _ (AcceptsRequest signed records now serial word) result
     (rw (head_is, certificate_is, revocation_is) at decides)
     (λ row none is.
     let found = known_of (λ row. row.serial) records.certificates serial _ (some none) is in
@@ -223,7 +223,7 @@ pub decline_decided : (signed : CertList → List ℕ → Type 0) (records : Rec
     → revocation ≡ option_and_then (λ row. revocation_in records.revocations row.serial) request
     → DecidesDecline head request certificate revocation result → DeclineSays signed records now id result
 decline_decided signed records now head held id request certificate revocation result head_is request_is certificate_is revocation_is decides =
-    told signed records now (Decline id) _ (AcceptsDecline signed records now id) result (rw (head_is, certificate_is, revocation_is, request_is) at decides)
+    decided signed records now (Decline id) _ (AcceptsDecline signed records now id) result (rw (head_is, certificate_is, revocation_is, request_is) at decides)
     (λ row none is.
     let found = known_of (λ row. row.id) records.requests id _ (settles records now id none) is in
     record {
@@ -257,7 +257,7 @@ pub revoke_decided : (signed : CertList → List ℕ → Type 0) (records : Reco
     → newest ≡ option_map row_of (latest records.crls)
     → DecidesRevoke head request certificate revocation newest result → RevokeSays signed records now id result
 revoke_decided signed records now head held id request certificate revocation newest result head_is request_is certificate_is revocation_is newest_is decides =
-    told signed records now (Revoke id) _ (AcceptsRevocation signed records now id) result
+    decided signed records now (Revoke id) _ (AcceptsRevocation signed records now id) result
     (rw (head_is, certificate_is, revocation_is, request_is, newest_is) at decides)
     (λ answer none is.
     let found = known_of (λ row. row.id) records.requests id _ (settles records now id none) is in
@@ -292,7 +292,7 @@ pub crl_decided : (signed : CertList → List ℕ → Type 0) (records : Records
     → head ≡ head_of records now (length records.crls) → newest ≡ option_map row_of (latest records.crls)
     → DecidesCrl head newest result → CrlSays signed records now result
 crl_decided signed records now head newest result head_is newest_is decides =
-    told signed records now IssueCrl _ (AcceptsCrl signed records now) result (rw (head_is, newest_is) at decides)
+    decided signed records now IssueCrl _ (AcceptsCrl signed records now) result (rw (head_is, newest_is) at decides)
     (λ row none is. record {
       row_is = is;
       accepted = none;
@@ -337,7 +337,7 @@ pub register_decided : (signed : CertList → List ℕ → Type 0) (records : Re
     → DecidesRegister head wanted order by_order by_serial result
     → RegisterSays signed records now wanted result
 register_decided signed records now head wanted order by_order by_serial result sound head_is order_is by_order_is by_serial_is decides =
-    told signed records now (register wanted) (λ row. row ≡ cond (is_repeat records (register wanted)) None (Some wanted))
+    decided signed records now (register wanted) (λ row. row ≡ cond (is_repeat records (register wanted)) None (Some wanted))
     (AcceptsRegister signed records now wanted) result
     (rw (head_is, order_is, by_order_is, by_serial_is, ← (repeat_is_same wanted records.certificates sound.certificates.serials_differ)) at decides) go
   where

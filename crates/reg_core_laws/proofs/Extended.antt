@@ -134,7 +134,7 @@ changed_extends records now IssueCrl bytes clock =
 pub step_extends : (signed : CertList → List ℕ → Type 0) (records : Records) (now : ℕ) (command : Command) (outcome : Result Reply Fault) (after : Records)
     → Happens signed records now command outcome after → Extends records after
 step_extends signed records now command outcome after happens =
-    by_outcome signed records now command (λ told next. Extends records next) (λ fault. extends_none records)
+    by_outcome signed records now command (λ result next. Extends records next) (λ fault. extends_none records)
     (λ bytes none over. changed_extends records now command bytes (accepted_clock records now command none).not_back) outcome after happens
 
 pub runs_extend : (signed : CertList → List ℕ → Type 0) → RunsExtend signed

@@ -49,7 +49,7 @@ extends_on now records between after first second = record {
 step_extends : (signed : CertList → List ℕ → Type 0) (records after : Records) (now : ℕ) (row : CertRow) (outcome : Result Reply Fault)
     → Happens signed records now (register row) outcome after → Extends now records after
 step_extends signed records after now row outcome happens =
-    by_outcome signed records now (register row) (λ told next. Extends now records next) (λ fault. extends_none now records) accepted outcome after happens
+    by_outcome signed records now (register row) (λ result next. Extends now records next) (λ fault. extends_none now records) accepted outcome after happens
   where
     accepted : (bytes : List ℕ) → refusal records now (register row) ≡ None → IsSigned signed records now (register row) bytes
         → Extends now records (changed records now (register row) bytes)
@@ -118,7 +118,7 @@ earlier_accepts now earlier later row extends accepted new = passes (accepted_re
 carried : (signed : CertList → List ℕ → Type 0) (records after : Records) (now : ℕ) (command : Command) (outcome : Result Reply Fault)
     → refusal records now command ≡ None → Happens signed records now command outcome after
     → ((bytes : List ℕ) × (outcome ≡ Ok (reply records now command)) × (after ≡ changed records now command bytes)) ⊎ IsFault outcome
-carried signed records after now command (Ok told) accepted happens = let step = rw accepted at happens in inl (step.0, step.1, step.3)
+carried signed records after now command (Ok result) accepted happens = let step = rw accepted at happens in inl (step.0, step.1, step.3)
 carried signed records after now command (Err (Refused refused)) accepted happens = let step = rw accepted at happens in cc (step.1)
 carried signed records after now command (Err fault) accepted happens = inr tt
 
@@ -136,7 +136,7 @@ module _ (signed : CertList → List ℕ → Type 0) (records next start after :
   -- one row of the second import, after the first has dealt with it, adds no certificate
   second_keeps : (IsFault first → ⊥) → after.certificates ≡ start.certificates
   second_keeps no_fault =
-      by_outcome signed start now (register row) (λ told later. later.certificates ≡ start.certificates) (λ fault. refl)
+      by_outcome signed start now (register row) (λ result later. later.certificates ≡ start.certificates) (λ fault. refl)
       (λ bytes accepted over. repeats accepted (is_repeat start (register row)) refl) second after again
     where
       repeats : refusal start now (register row) ≡ None → (repeat : Bool) → is_repeat start (register row) ≡ repeat

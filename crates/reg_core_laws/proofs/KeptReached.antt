@@ -257,7 +257,7 @@ schedules_keep_reached signed records schedule is reached = record { rows = rows
 step_keeps_reached : (signed : CertList → List ℕ → Type 0) (records : Records) (now : ℕ) (command : Command) (outcome : Result Reply Fault) (after : Records)
     → Reached signed records → Happens signed records now command outcome after → Reached signed after
 step_keeps_reached signed records now command outcome after reached happens =
-    by_outcome signed records now command (λ told next. Reached signed next) (λ fault. reached)
+    by_outcome signed records now command (λ result next. Reached signed next) (λ fault. reached)
     (λ bytes none over. record {
       rows = command_reached records now reached.rows (accepted_clock records now command none) command bytes none;
       signatures = changed_signatures signed records now command bytes (reached_is_sound signed records reached) none over;

@@ -31,21 +31,21 @@ past_end_is certificates serial moment certificate is = rw (is, is_past_end)
 pub on_means : (certificates : List CertRow) (crls : List Crl) (n : ℕ) (revocation : RevocationRow) (certificate : CertRow)
     → certificate_in certificates revocation.serial ≡ Some certificate
     → IsTrue (is_listed_on certificates crls n revocation) ↔ ((revocation.first ≤ n) × NonePastBetween crls revocation.first n certificate.not_after)
-on_means certificates crls n revocation certificate is = (there, back)
+on_means certificates crls n revocation certificate is = (listed_then, back)
   where
-    told : (crl : Crl)
+    in_time : (crl : Crl)
         → IsFalse (ends_before certificates revocation n crl) ↔ (revocation.first ≤ crl.number → crl.number < n → crl.this_update ≤ certificate.not_after)
-    told crl =
+    in_time crl =
         let ends : is_past_end certificates revocation.serial crl.this_update ≡ nat_lt certificate.not_after crl.this_update =
         past_end_is certificates revocation.serial crl.this_update certificate is in
         (λ fails can below. grind (arith, nat_tests), λ within. grind (arith, nat_tests))
 
-    there : IsTrue (is_listed_on certificates crls n revocation) → (revocation.first ≤ n) × NonePastBetween crls revocation.first n certificate.not_after
-    there on = (grind (arith, nat_tests), all_weaker _ _ (λ crl. (told crl).0) crls (none_any (ends_before certificates revocation n) crls (grind arith)))
+    listed_then : IsTrue (is_listed_on certificates crls n revocation) → (revocation.first ≤ n) × NonePastBetween crls revocation.first n certificate.not_after
+    listed_then on = (grind (arith, nat_tests), all_weaker _ _ (λ crl. (in_time crl).0) crls (none_any (ends_before certificates revocation n) crls (grind arith)))
 
     back : (revocation.first ≤ n) × NonePastBetween crls revocation.first n certificate.not_after → IsTrue (is_listed_on certificates crls n revocation)
     back facts =
-        let none : list_any (ends_before certificates revocation n) crls ≡ false = any_none _ crls (all_weaker _ _ (λ crl. (told crl).1) crls facts.1) in
+        let none : list_any (ends_before certificates revocation n) crls ≡ false = any_none _ crls (all_weaker _ _ (λ crl. (in_time crl).1) crls facts.1) in
         grind (arith, nat_tests, facts.0)
 
 -- and just where it can and is not past the revocation's last listing
@@ -110,15 +110,15 @@ due_entries records n sound =
         → IsTrue (is_listed_on records.certificates records.crls n revocation) → IsDueEntry records n (entry_of revocation)
     due revocation is on =
         let its = certificate_of records revocation.serial revocation sound is in
-        let told = (on_means records.certificates records.crls n revocation its.certificate its.registered).0 on in
+        let may_list = (on_means records.certificates records.crls n revocation its.certificate its.registered).0 on in
         record {
           certificate = its.certificate;
           revocation = revocation;
           registered = its.registered;
           revoked = is;
-          told = refl;
-          can_list = told.0;
-          none_past = told.1;
+          entry_is = refl;
+          can_list = may_list.0;
+          none_past = may_list.1;
         }
 
 -- each revocation is listed from its first CRL to its last

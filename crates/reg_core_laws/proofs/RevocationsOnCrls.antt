@@ -38,12 +38,12 @@ while_none_past records revocation certificate n sound registered stands =
     too_early less = grind (arith, nat_tests)
 
 -- a revocation that was entered at the end, with the next CRL number as its first, as the CRLs of later records tell it
-told_by_crls : (before after : Records) (revocation : RevocationRow) (more : List RevocationRow) (later : List Crl) → SoundRows before → SoundRows after
+listed_by_crls : (before after : Records) (revocation : RevocationRow) (more : List RevocationRow) (later : List Crl) → SoundRows before → SoundRows after
     → revocation.first ≡ next_number before.crls
     → after.revocations ≡ (before.revocations ++ revocation ∷ []) ++ more
     → after.crls ≡ before.crls ++ later
     → (certificate : CertRow) × (certificate_in after.certificates revocation.serial ≡ Some certificate) × ListedByCrls before.crls after certificate revocation
-told_by_crls before after revocation more later sound_before sound first_is entered issued = (
+listed_by_crls before after revocation more later sound_before sound first_is entered issued = (
   its.certificate,
   its.registered,
   record {
@@ -51,10 +51,10 @@ told_by_crls before after revocation more later sound_before sound first_is ente
     later = later;
     issued = issued;
     before =
-        all_weaker _ _ (λ crl below. let less : crl.number < revocation.first = omega (arith, next) in (less, (told crl.number).0 less))
+        all_weaker _ _ (λ crl below. let less : crl.number < revocation.first = omega (arith, next) in (less, (listed_while crl.number).0 less))
         before.crls (numbered_below (λ crl. crl.number) 1 before.crls sound_before.crls.numbered);
     since =
-        all_weaker _ _ (λ crl above. let can : revocation.first ≤ crl.number = omega (arith, next) in (can, (told crl.number).1 can))
+        all_weaker _ _ (λ crl above. let can : revocation.first ≤ crl.number = omega (arith, next) in (can, (listed_while crl.number).1 can))
         later (numbered_above (λ crl. crl.number) (1 + length before.crls) later numbered_later);
   },
 )
@@ -76,9 +76,9 @@ told_by_crls before after revocation more later sound_before sound first_is ente
     next : revocation.first ≡ length before.crls + 1
     next = first_is ∙ next_is before.crls sound_before.crls.numbered
 
-    told : (n : ℕ) → (n < revocation.first → IsFalse (lists after n its.certificate.serial))
+    listed_while : (n : ℕ) → (n < revocation.first → IsFalse (lists after n its.certificate.serial))
         × (revocation.first ≤ n → IsTrue (lists after n its.certificate.serial) ↔ NonePastBetween after.crls revocation.first n its.certificate.not_after)
-    told n = while_none_past after revocation its.certificate n sound its.registered stands
+    listed_while n = while_none_past after revocation its.certificate n sound its.registered stands
 
     numbered_later : NumberedFrom (λ crl. crl.number) (1 + length before.crls) later
     numbered_later = numbered_back (λ crl. crl.number) 1 before.crls later (subst (NumberedFrom (λ crl. crl.number) 1) issued sound.crls.numbered)
@@ -98,12 +98,12 @@ lists_revoked signed records before next after front rest early late now command
     let grows = run_grows signed next after rest late sound_next more_run in
     let brought = revocations_move_exactly signed records before next front early now command (Ok (RevokedNow is_late)) sound run happens in
     let no_crl =
-    by_outcome signed before now command (λ told then. told ≡ Ok (RevokedNow is_late) → then.crls ≡ before.crls) (λ fault is. refl)
+    by_outcome signed before now command (λ result then. result ≡ Ok (RevokedNow is_late) → then.crls ≡ before.crls) (λ fault is. refl)
     (λ bytes none over is. no_crl_by before now command bytes is_late (cc is)) (Ok (RevokedNow is_late)) next happens refl in
-    let told =
-    told_by_crls before after brought.0 grows.more_revocations grows.more_crls sound_before.rows sound_after.rows brought.2.from_next
+    let listed =
+    listed_by_crls before after brought.0 grows.more_revocations grows.more_crls sound_before.rows sound_after.rows brought.2.from_next
     (grows.revocations ∙ ap (λ rows. rows ++ grows.more_revocations) brought.1) (grows.crls ∙ ap (λ rows. rows ++ grows.more_crls) no_crl) in
-    ((told.0, brought.0, told.1, brought.1, brought.2, told.2), λ n. due_entries after n sound_after.rows)
+    ((listed.0, brought.0, listed.1, brought.1, brought.2, listed.2), λ n. due_entries after n sound_after.rows)
 
 -- RECORDED CRLS
 

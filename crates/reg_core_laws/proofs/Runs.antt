@@ -93,7 +93,7 @@ changed_signatures signed records now command bytes sound none is =
 pub step_keeps_sound : (signed : CertList → List ℕ → Type 0) (records : Records) (now : ℕ) (command : Command) (outcome : Result Reply Fault) (after : Records)
     → Sound signed records → Happens signed records now command outcome after → Sound signed after
 step_keeps_sound signed records now command outcome after sound happens =
-    by_outcome signed records now command (λ told next. Sound signed next) (λ fault. sound)
+    by_outcome signed records now command (λ reply next. Sound signed next) (λ fault. sound)
     (λ bytes none over. record {
       rows = changed_rows records now command bytes sound.rows none;
       signatures = changed_signatures signed records now
@@ -105,12 +105,12 @@ step_keeps_sound signed records now command outcome after sound happens =
 pub step_grows : (signed : CertList → List ℕ → Type 0) (records : Records) (now : ℕ) (command : Command) (outcome : Result Reply Fault) (after : Records)
     → Sound signed records → Happens signed records now command outcome after → Grows records after
 step_grows signed records now command outcome after sound happens =
-    by_outcome signed records now command (λ told next. Grows records next) (λ fault. grows_none records)
+    by_outcome signed records now command (λ reply next. Grows records next) (λ fault. grows_none records)
     (λ bytes none over. changed_grows records now command bytes sound.rows none) outcome after happens
 
 pub refusals_change_nothing : (signed : CertList → List ℕ → Type 0) → RefusalsChangeNothing signed
 refusals_change_nothing signed records after now command fault happens =
-    by_outcome signed records now command (λ told next. told ≡ Err fault → next ≡ records) (λ other is. refl) (λ bytes none over is. cc) (Err fault)
+    by_outcome signed records now command (λ reply next. reply ≡ Err fault → next ≡ records) (λ other is. refl) (λ bytes none over is. cc) (Err fault)
     after happens refl
 
 -- EVERY RUN

@@ -162,7 +162,7 @@ pub record IsDueEntry (records : Records) (n : ℕ) (entry : Entry) : Type 0 whe
   pub revocation : RevocationRow
   pub registered : certificate_in records.certificates entry.serial ≡ Some certificate
   pub revoked : revocation_in records.revocations entry.serial ≡ Some revocation
-  pub told : entry ≡ record { serial = entry.serial; at = revocation.at; reason = revocation.reason }
+  pub entry_is : entry ≡ record { serial = entry.serial; at = revocation.at; reason = revocation.reason }
   pub can_list : revocation.first ≤ n
   pub none_past : NonePastBetween records.crls revocation.first n certificate.not_after
 

@@ -9,10 +9,10 @@ ghost use Rattle.reg_core_laws.specs.Revocations.{RevocationsMoveExactly};
 
 use reg_core::SignsCrls;
 
-/// The main law, for every list of commands and every signer of CRLs, from a new register or from sound records (reg_core's `Sound`: rows that
-/// agree). From the last accepted moment until 9999-12-22, each registered serial number is exactly one of good, revoked and expired. Only accepted
+/// The main law, for every list of commands and signer of CRLs, from a new register or from sound records (reg_core's `Sound`: rows that agree). From
+/// the last accepted moment until `Moment::CLOCK_END`, each registered serial number is exactly one of good, revoked and expired. Only accepted
 /// commands and time change the number of each. Every CRL after a revocation lists it, through the first with a thisUpdate after its certificate's
-/// notAfter (RFC 5280 3.3). No CRL has any other entry. A command that is refused or fails changes nothing. `parts`: a list can be run in parts.
+/// notAfter (RFC 5280 3.3). No CRL has any other entry. A refused or failed command changes nothing. `parts`: a list can be run in parts.
 pub fn headline<S: SignsCrls>()
     ensures created { (signer : S) → CreatedSound (S.signed signer) }
     ensures sound { (signer : S) → KeepsSound (S.signed signer) }
@@ -23,8 +23,8 @@ pub fn headline<S: SignsCrls>()
     ensures refused { (signer : S) → RefusalsChangeNothing (S.signed signer) }
 {}
 
-/// Records are reached (reg_core's `Reached`) if they are sound and obey more rules; `desk audit` checks both. The records of a new register with a
-/// valid policy are reached, and every list of commands and every valid new schedule keeps them reached.
+/// Records are reached (reg_core's `Reached`) if they are sound and obey more rules. `desk audit` checks them all, but verifies no signature. A new
+/// register with a valid policy has reached records. Every list of commands and every valid new schedule keeps them reached.
 pub fn reached<S: SignsCrls>()
     ensures is_sound { (signer : S) → ReachedIsSound (S.signed signer) }
     ensures created { (signer : S) → CreatedReached (S.signed signer) }
@@ -50,8 +50,8 @@ pub fn revocations<S: SignsCrls>()
     ensures { (signer : S) → RevocationsMoveExactly (S.signed signer) }
 {}
 
-/// An import of certificates is repeated at the same moment, with nothing between. If the first had no fault, the second adds no certificate:
-/// each row that got the reply `Registered` or `Same` (registered already) now gets `Same`, or a fault.
+/// An import of certificates is repeated at the same moment, with nothing between. If the first had no fault (F1 to F5; a refusal is none), the
+/// second adds no certificate: each row that got the reply `Registered` or `Same` (registered already) now gets `Same`, or a fault.
 pub fn import_twice<S: SignsCrls>()
     ensures { (signer : S) → ImportsTwice (S.signed signer) }
 {}

@@ -267,9 +267,9 @@ head_steps head ok = steps_found head.policy.schedule ok.moments ok.policy.sched
 
 -- ---- the version
 
-one : value_read number_of (32 ∷ 49 ∷ []) ≡ Some (1, [])
+one_read : value_read number_of (32 ∷ 49 ∷ []) ≡ Some (1, [])
 unfolding value_read field_read number_of
-one = refl
+one_read = refl
 
 pub this_version : (head : HeadTerms) (rest : List ℕ) → is_other_version (head_terms_text head ++ rest) ≡ false
 unfolding version_read page_head
@@ -277,4 +277,4 @@ this_version head rest =
     let t1 = issuer_line head.name head.key ++ policy_line head.policy ++ schedule_line head.policy.schedule ++ feed_line (codes "last")
     (At head.last ∷ []) ++ rest in
     let regrouped : head_terms_text head ++ rest ≡ codes "changes 1\n" ++ t1 = simp append_assoc in
-    ap is_other_version regrouped ∙ rw (line_found (codes "changes") (32 ∷ 49 ∷ []) t1 refl, one) refl
+    ap is_other_version regrouped ∙ rw (line_found (codes "changes") (32 ∷ 49 ∷ []) t1 refl, one_read) refl

@@ -27,32 +27,32 @@ module _ (read : ℕ) (rest : List ℕ) (params : Params) (end : ℕ) (below : r
   left_one = let more : 7 - read ≡ suc (7 - (read + 1)) = omega arith in ap (λ n. params_from n rest params) more
 
   at_piece : (found : Option Params) → found ≡ with_parameter params (take end rest) → params_from (7 - read) rest params ≡ option_and_then (goes_on (7 - (read + 1)) rest params) found
-  at_piece found told =
+  at_piece found piece_is =
       left_one ∙ one_piece (7 - (read + 1)) rest params
-      ∙ ap (option_and_then (goes_on (7 - (read + 1)) rest params)) (sym (told ∙ ap (λ n. with_parameter params (take n rest)) is))
+      ∙ ap (option_and_then (goes_on (7 - (read + 1)) rest params)) (sym (piece_is ∙ ap (λ n. with_parameter params (take n rest)) is))
 
   -- it can't be read
   pub unread_piece : None ≡ with_parameter params (take end rest) → params_from (7 - read) rest params ≡ None
-  unread_piece told = at_piece None told
+  unread_piece piece_is = at_piece None piece_is
 
   -- it is the last
   pub last_piece : (more : Params) → Some more ≡ with_parameter params (take end rest) → end ≡ length rest → params_from (7 - read) rest params ≡ Some more
-  last_piece more told last =
+  last_piece more piece_is last =
       let test : (position_or_len (λ byte. byte == 38) rest == length rest) ≡ true = grind (arith, nat_tests) in
-      at_piece (Some more) told ∙ ap (λ b. cond b (Some more) (params_from (7 - (read + 1)) (drop (position_or_len (λ byte. byte == 38) rest + 1) rest) more)) test
+      at_piece (Some more) piece_is ∙ ap (λ b. cond b (Some more) (params_from (7 - (read + 1)) (drop (position_or_len (λ byte. byte == 38) rest + 1) rest) more)) test
 
   -- more follow
   pub next_piece : (more : Params) → Some more ≡ with_parameter params (take end rest) → (end ≡ length rest → ⊥)
       → params_from (7 - read) rest params ≡ params_from (7 - (read + 1)) (drop (end + 1) rest) more
-  next_piece more told other =
+  next_piece more piece_is other =
       let test : (position_or_len (λ byte. byte == 38) rest == length rest) ≡ false = grind (arith, nat_tests) in
-      at_piece (Some more) told ∙ ap (λ b. cond b (Some more) (params_from (7 - (read + 1)) (drop (position_or_len (λ byte. byte == 38) rest + 1) rest) more)) test
+      at_piece (Some more) piece_is ∙ ap (λ b. cond b (Some more) (params_from (7 - (read + 1)) (drop (position_or_len (λ byte. byte == 38) rest + 1) rest) more)) test
       ∙ ap (λ n. params_from (7 - (read + 1)) (drop (n + 1) rest) more) (sym is)
 
 -- any
-pub some_told : (told : List ℕ) (empty : Bool) → empty ≡ (length told == 0) → empty ≡ false → params_of told ≡ params_from 7 told no_params
-some_told [] empty is told_some = absurd (false≢true (sym told_some ∙ is))
-some_told (byte ∷ told) empty is told_some = refl
+pub params_of_some : (text : List ℕ) (empty : Bool) → empty ≡ (length text == 0) → empty ≡ false → params_of text ≡ params_from 7 text no_params
+params_of_some [] empty is not_empty = absurd (false≢true (sym not_empty ∙ is))
+params_of_some (byte ∷ text) empty is not_empty = refl
 
 -- too many
 pub too_many : (read : ℕ) (rest : List ℕ) (params : Params) → 7 ≤ read → params_from (7 - read) rest params ≡ None

@@ -34,7 +34,7 @@ impl Cursor {
         }
     }
 
-    /// The same list, after the row with this key: a serial number (1 to 40 hexadecimal digits), an id or a CRL number (1 to 18 digits). Else `None`.
+    /// The same list, after the row with this key. `None` if the text is no such key: a hexadecimal serial number, or a decimal id or CRL number.
     pub fn past(self, key: &[u8]) -> Option<Cursor>
         ensures { result ≡ cursor_past key.now self }
     {

@@ -78,7 +78,7 @@ impl FeedRows {
         })
     }
 
-    /// The declines in a copy that had `declines`, after these rows (`last`: the last id in `declined`). `None` if the count is above 2^64 - 1.
+    /// The number of declines, and the last one's id, in a copy that had `declines` and got these rows. `None` if the number is above 2^64 - 1.
     pub fn declines_after(&self, declines: &Declines) -> Option<Declines>
         ensures { IfSome result (λ reached. reached ≡ declines_after declines.now self.now.declined.items) }
     {
@@ -221,7 +221,7 @@ fn put_ending(out: &mut Vec<u8>, ends: bool) -> Result<(), AllocError>
 }
 
 /// The digest of positions: the SHA-256 of the issuer's Name (`name`, in DER) and the bits of its subjectPublicKey (`key`), the counts, the last
-/// counted rows of each table (`rows`, at most 32 of each: `WINDOW`), and the end of the last CRL (`der`; `None` if there is none).
+/// rows of each table up to its count (`rows`, at most 32 of each: `WINDOW`), and the end of the last CRL (`der`; `None` if there is none).
 #[tactic(auto, unfolding(crate::specs::Feed::digest_text))]
 pub fn digest_of(
     alloc: Global,

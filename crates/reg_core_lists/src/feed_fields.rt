@@ -206,7 +206,7 @@ pub(crate) fn take_field(fields: &[u8]) -> Option<(&[u8], &[u8])>
     Some((&rest[..end], &rest[end..]))
 }
 
-/// The fields of the first line, each with a space before it, and the text after that line; `None` if the line lacks `word` in front or an LF.
+/// The fields of the first line, each with a space before it; the text after that line. `None` if the line doesn't begin with `word` or has no LF.
 #[tactic(auto, unfolding(crate::specs::FeedReading::line_read))]
 pub(crate) fn line_after<'a>(word: &[u8], text: &'a [u8]) -> Option<(&'a [u8], &'a [u8])>
     ensures value { option_map (λ it. (it.0.now, it.1.now)) result ≡ line_read word.now text.now }

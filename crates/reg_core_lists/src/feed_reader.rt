@@ -24,7 +24,7 @@ use hex::FromHexError;
 use reg_core::{CrlRow, Moment, Policy, Schedule};
 use std::alloc::{AllocError, Global};
 
-/// The lines before the rows. `stored_name` and `key`: the columns `name` and `pubkey` of `office` (the issuer). `last`: the last accepted moment.
+/// The lines before the rows. `stored_name`, `key`: columns `name`, `pubkey` of the table `office` (the issuer). `last`: the last accepted moment.
 #[derive(Drop)]
 pub struct FeedHead {
     pub stored_name: Vec<u8>,
@@ -310,7 +310,7 @@ fn read_crl_octets(
     }
 }
 
-/// If the text is `line`, so many octets, an LF, and more: these octets, and the text after the LF.
+/// Reads `line`, then as many octets as `octets` says, then an LF. Gives these octets, and the text after the LF; `None` for another text.
 fn octets_after<'a>(line: &[u8], octets: u64, text: &'a [u8]) -> Option<(&'a [u8], &'a [u8])>
     ensures { MatchOption result ((der rest : List ℕ) → length der ≡ octets
         → text.now ≢ line.now ++ der ++ 10 ∷ rest)

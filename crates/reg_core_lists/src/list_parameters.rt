@@ -138,7 +138,7 @@ fn with_parameter(params: Params, parameter: &[u8]) -> Option<Params>
     with_value(params, &parameter[..end], behind(parameter, end))
 }
 
-/// The parameters and one more. `None`, as from the functions below, if it is given already, is none of the seven, or its value is invalid.
+/// `params` with the parameter `name` added. `None`, as from the functions below, if `params` has it already, it is unknown, or its value is invalid.
 fn with_value(params: Params, name: &[u8], value: &[u8]) -> Option<Params>
     ensures { result ≡ with_value params name.now value.now }
 {

@@ -12,7 +12,7 @@ use crate::feed_lines::put_issuer;
 use reg_core::{Decimal, read_number};
 use std::alloc::{AllocError, Global};
 
-/// The digest in [`Positions`] covers at most this many rows of each table, the last counted ones (all would take too long), and the last CRL's end.
+/// The most rows of each table in the digest of [`Positions`]: the last ones up to its count (all would take too long). Of CRLs: the end of the last.
 pub const WINDOW: u64 = 32;
 
 /// How many rows of each table a copy of a register has: the first ones, in the order of entry.

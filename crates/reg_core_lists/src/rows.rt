@@ -63,7 +63,7 @@ pub enum Row {
 }
 
 /// A page of a list: its rows in ascending order of their keys, and the cursor of the next page. `next` is `None` if fewer rows were read than a page
-/// may read: then it is the last page. A next page may be empty.
+/// may read: then this page is the last. Otherwise there is a next page, which may be empty.
 #[derive(Drop)]
 pub struct Page {
     pub rows: Vec<Row>,

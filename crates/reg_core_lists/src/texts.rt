@@ -168,7 +168,7 @@ fn put_string(out: &mut Vec<u8>, cell: &Cell) -> Result<(), AllocError>
     Ok(())
 }
 
-/// A page, which begins at the cursor `from`, as a JSON object: the name of its list, the key after which the next page begins, or `null`; the rows.
+/// A page from the cursor `from` on, as a JSON object: the name of its list; the key after which the next page begins (`null`: none does); the rows.
 #[tactic(auto, unfolding(crate::specs::Texts::page_body))]
 pub fn page_text(
     alloc: Global,

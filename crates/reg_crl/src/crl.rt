@@ -61,7 +61,7 @@ pub fn crl_tbs(
     Ok(tbs)
 }
 
-/// The CertificateList (RFC 5280 5.1.1): the TBSCertList, the AlgorithmIdentifier that is also in it, and the octets of the signature.
+/// The CertificateList (RFC 5280 5.1.1) of the TBSCertList (`tbs`), the same AlgorithmIdentifier as in `tbs`, and the octets of the signature.
 #[tactic(auto, unfolding(crate::specs::Crl::certificate_list))]
 pub fn crl_whole(
     alloc: Global,

@@ -14,7 +14,7 @@ use reg_der::tags::{
 use reg_der::take;
 use reg_der::values::{expect, number, optional, whole};
 
-/// The CRL number of a CRL (RFC 5280 5.2.3), and its entries: the contents of revokedCertificates, for [`next_entry`], or nothing if that is absent.
+/// The CRL number of a CRL (RFC 5280 5.2.3), and the contents of its revokedCertificates, which [`next_entry`] reads; empty without that field.
 #[derive(Clone, Copy)]
 pub struct ParsedCrl<'a> {
     pub number: u64,

@@ -34,7 +34,7 @@ impl From<SignFault> for Fault {
     }
 }
 
-/// A signer with one algorithm, and with one key or (the placeholder digest, [`crate::DigestSeal`]) none. No call changes the algorithm or the key.
+/// A signer has one algorithm, and one key or none ([`crate::DigestSeal`], which gives a placeholder digest). No call changes algorithm or key.
 pub trait Signer {
     ghost use Rattle.std.specs.Prelude.{ℕ, List};
     ghost use Rattle.reg_crl.specs.Signing.{Identity, IsAlgorithm};
@@ -47,12 +47,12 @@ pub trait Signer {
 
     ghost failure_count: { Self → ℕ };
 
-    /// The AlgorithmIdentifier of the signatures (RFC 5280 4.1.1.2): one value of tag 30h, at most 1,024 bytes.
+    /// The AlgorithmIdentifier of the signatures (RFC 5280 4.1.1.2): one DER SEQUENCE, at most 1,024 bytes in all.
     fn algorithm(&self) -> &[u8]
         ensures value { result.now ≡ (identity self.now).algorithm }
         ensures within { IsAlgorithm result.now };
 
-    /// The public key, if a device has the private key: then a caller can also request signatures from the device directly. `None` without a device.
+    /// The public key, if a device has the private key. A caller can then request signatures from the device without `sign`. `None` without a device.
     fn public_key(&self) -> Option<&[u8]>
         ensures { IfSome (option_copied result) (λ key. key ≡ (identity self.now).public_key) };
 
@@ -61,7 +61,7 @@ pub trait Signer {
     fn sign(&mut self, alloc: Global, message: &[u8]) -> Result<Vec<u8>, SignFault>
         ensures { SignsOrFails identity signs failure_count self.old self.new message.now result };
 
-    /// Ends the back-off, the time after a timeout in which the device is not asked, so that it is asked for the next signature.
+    /// Ends the back-off (the time after a timeout in which the device is not asked): the device is asked for the next signature.
     fn reset_backoff(&mut self)
         ensures same_identity { identity self.new ≡ identity self.old }
         ensures same_failures { failure_count self.new ≡ failure_count self.old };
@@ -71,8 +71,8 @@ pub trait Signer {
         ensures { result ≡ failure_count self.now };
 }
 
-/// A signer of a register's CRLs, as the register's laws need it ([`SignsCrls`]). `signer` signs the CRLs from number `since` on. Earlier CRLs have
-/// the placeholder digest, which the register used before it had a signer with a key.
+/// The signers of all of a register's CRLs, for the register's laws (proved theorems). `signer` signs the CRLs from number `since` on. Earlier CRLs
+/// have the placeholder digest, which the register used before it had a signer with a key.
 #[derive(Drop)]
 pub struct CrlSigner<S> {
     pub signer: S,

@@ -12,11 +12,11 @@ use Rattle.reg_crl_signer.proofs.Sizes.{below_power, one_count, within_power}
 -- ---- whether something follows
 
 pub is_nothing : (bytes : List ℕ) (answer : Bool) → answer ≡ eqb (length bytes) 0 → answer ≡ true → bytes ≡ []
-is_nothing bytes answer told yes_is = nil_from_length bytes (eqb-true (length bytes) 0 (sym told ∙ yes_is))
+is_nothing bytes answer test yes_is = nil_from_length bytes (eqb-true (length bytes) 0 (sym test ∙ yes_is))
 
 pub is_something : (bytes : List ℕ) (answer : Bool) → answer ≡ eqb (length bytes) 0 → answer ≡ false → bytes ≡ [] → ⊥
-is_something bytes answer told no_is nothing =
-    false≢true (sym no_is ∙ told ∙ ap (λ (b : List ℕ). eqb (length b) 0) nothing)
+is_something bytes answer test no_is nothing =
+    false≢true (sym no_is ∙ test ∙ ap (λ (b : List ℕ). eqb (length b) 0) nothing)
 
 -- ---- one INTEGER at the front
 
@@ -125,5 +125,5 @@ rsa_size key m n size holds is =
 -- the bytes are an RSAPublicKey if a pair was found, and only then
 pub rsa_found : (key : List ℕ) (found : Option (ℕ × ℕ)) → MatchOption found ((first second : ℕ) → ¬ IsPair key first second) (λ counts. IsPairOfIntegers key counts.0 counts.1)
     → IsTrue (is_some found) ↔ ((size : ℕ) × IsRsaKey key size)
-rsa_found key (Some counts) holds = (λ told. (counts.0, rsa_made key counts.0 counts.1 holds), λ is. refl)
-rsa_found key None never = (λ told. absurd (false≢true told), λ is. absurd (never is.1.modulus is.1.exponent is.1.pair))
+rsa_found key (Some counts) holds = (λ passes. (counts.0, rsa_made key counts.0 counts.1 holds), λ is. refl)
+rsa_found key None never = (λ passes. absurd (false≢true passes), λ is. absurd (never is.1.modulus is.1.exponent is.1.pair))

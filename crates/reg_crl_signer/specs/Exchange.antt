@@ -7,12 +7,12 @@ module _ {L : Type 0} (remaining contents : L → Option (List ℕ)) (finished :
   -- The whole message was sent, the sending side was shut down, and octets were received up to the end. The answer is the signature in them.
   pub record ExchangesMessage (connection : L) (message answer : List ℕ) : Type 0 where
     pub sent : L
-    pub told : L
+    pub shut : L
     pub left : L
     pub went : Appends (contents connection) (contents sent) message
-    pub finishes : finished sent told
+    pub finishes : finished sent shut
     pub received : List ℕ
-    pub came : Consumes (remaining told) (remaining left) received
+    pub came : Consumes (remaining shut) (remaining left) received
     pub ended : IsAtEnd (remaining left)
     pub answer_is : answer ≡ signature_in received
 

@@ -15,26 +15,26 @@ module _ {D : Type 0} (g : Ghosts D) where
   -- the signer with the key, if there is a key
   abbrev pub key_of : RegisterSigner D g → Option (DeviceSigner D g)
   key_of (by.Key signer) = Some signer
-  key_of (by.Digest seal) = None
-  key_of (by.NoSigner seal failures) = None
+  key_of (by.Digest placeholder) = None
+  key_of (by.NoSigner placeholder failures) = None
 
   -- the algorithm and the public key of the signer; without a key, those of the placeholder digest
   abbrev pub register_signer_identity : RegisterSigner D g → Identity
   register_signer_identity (by.Key signer) = device_identity g signer
-  register_signer_identity (by.Digest seal) = digest
-  register_signer_identity (by.NoSigner seal failures) = digest
+  register_signer_identity (by.Digest placeholder) = digest
+  register_signer_identity (by.NoSigner placeholder failures) = digest
 
   -- how many failures the signer has counted; the placeholder digest counts none
   abbrev pub register_signer_failures : RegisterSigner D g → ℕ
   register_signer_failures (by.Key signer) = signer.failures
-  register_signer_failures (by.Digest seal) = 0
-  register_signer_failures (by.NoSigner seal failures) = failures
+  register_signer_failures (by.Digest placeholder) = 0
+  register_signer_failures (by.NoSigner placeholder failures) = failures
 
   -- there is no signer
   abbrev pub HasNoSigner : RegisterSigner D g → Type 0
   HasNoSigner (by.Key signer) = ⊥
-  HasNoSigner (by.Digest seal) = ⊥
-  HasNoSigner (by.NoSigner seal failures) = Unit {0}
+  HasNoSigner (by.Digest placeholder) = ⊥
+  HasNoSigner (by.NoSigner placeholder failures) = Unit {0}
 
   -- the path of the device with the key, if there is a key
   abbrev pub register_signer_path : RegisterSigner D g → Option (List ℕ)

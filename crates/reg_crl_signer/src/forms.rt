@@ -1,4 +1,4 @@
-//! Checks the form of public keys and of signatures. An RSA key is a SEQUENCE of modulus and exponent; an ECDSA signature is a SEQUENCE of r and s.
+//! Checks the form of keys and signatures. `octets_of_pair` gives the lengths of the modulus and exponent of an RSA key, or r and s of ECDSA.
 
 ghost use Rattle.std.specs.Prelude.{◌≡◌, ◌↔◌, ◌<◌, ◌^◌, IsTrue, length};
 ghost use Rattle.std.specs.Bool.{OnTrue};

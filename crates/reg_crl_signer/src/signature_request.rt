@@ -26,9 +26,9 @@ pub struct SignatureRequest {
 }
 
 impl SignatureRequest {
-    /// Asks the signer at `path` to sign `message`: on the connection of `kept`, an earlier request, if it is to that path, idle and still works;
-    /// else on a new one, for this message alone. Errors: those of [`SignatureRequest::connect`] and shutdown(2); out of memory; `BrokenPipe` if
-    /// sending fails or would block (a message of several hundred thousand bytes may not fit into the socket's buffer).
+    /// Asks the signer at `path` to sign `message`. `kept`: an earlier request, whose connection is used if it leads to `path`, is idle and takes the
+    /// message; else a new one, for this message alone. Errors: those of [`SignatureRequest::connect`] and shutdown(2); out of memory; `BrokenPipe`
+    /// if sending fails or would block (a message of several hundred thousand bytes may not fit into the socket's buffer).
     pub fn send_to(
         rt: &HostRuntime,
         path: &str,
@@ -77,7 +77,7 @@ impl SignatureRequest {
         self.path.as_str() == path && self.message.as_slice() == message
     }
 
-    /// Reads what has come, without blocking. `true` if the whole answer has come, or can't come any more.
+    /// Reads what has come, without blocking. Returns whether the request has ended: its whole answer has come, or reading it failed.
     pub fn receive(&mut self) -> bool {
         self.connection.receive();
         self.connection.has_ended()

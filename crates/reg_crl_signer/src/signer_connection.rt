@@ -1,4 +1,4 @@
-//! One connection to a signer process. A persistent one takes one message after another, each only after the answer to the one before was taken.
+//! One connection to a signer process. A persistent connection takes many messages: the next one is sent once the answer to the last was taken.
 
 ghost use Rattle.std.specs.Prelude.{◌≡◌, ◌≤◌, ◌↔◌, IfSome, IsTrue, length};
 
@@ -8,7 +8,7 @@ use reg_io::write_whole;
 use std::alloc::Global;
 use std::io::{ErrorKind, Read, Write};
 
-/// The most bytes of a message on a persistent connection: 2^24 - 1. So the length begins with a byte 0; a message without a length must not.
+/// The most bytes of a message on a persistent connection: 2^24 - 1. So its length begins with a byte 0, by which the signer knows such a connection.
 const LONGEST_MESSAGE: usize = 16_777_215;
 
 const READ_BYTES: usize = 512;
@@ -19,9 +19,9 @@ const MOST_READS: usize = LENGTH_BYTES + LONGEST_ANSWER + 2;
 /// How the end of a message, and that of its answer, is found.
 #[derive(Clone, Copy, PartialEq, Eq)]
 pub enum Framing {
-    /// Its sender shuts down its side of the connection after it. So the connection is for one message.
+    /// After the message or answer, its sender shuts down that side of the connection. So the connection is for one message.
     ByEnd,
-    /// Its length precedes it, in four bytes, big-endian. So the connection is persistent.
+    /// The message or answer comes after its length, which has four bytes, big-endian. So the connection is persistent.
     ByLength,
 }
 
@@ -41,7 +41,7 @@ pub struct SignerConnection<S> {
     pub(crate) stream: S,
     framing: Framing,
     progress: Progress,
-    /// The bytes that came since the last answer was taken: those of the next one, and of the length before it if it has one.
+    /// The bytes that came since the last answer was taken: the next answer as far as it came, after its length if the framing is `ByLength`.
     received: Vec<u8>,
 }
 
@@ -81,7 +81,7 @@ impl<S: Drop> SignerConnection<S> {
         self.framing == Framing::ByLength && self.progress == Progress::Idle
     }
 
-    /// Whether the answer has arrived, or can't arrive any more.
+    /// Whether the whole answer has arrived, or the progress is `Failed`.
     pub fn has_ended(&self) -> bool
         ensures { IsTrue result ↔ HasEnded self.now.progress }
     {

@@ -33,11 +33,11 @@ value-eight number fits = (octets_are_lowest 8 number).spelled ∙ mod-eq_of_lt 
 abbrev pub is_identifier : Parts → Bool
 is_identifier parts = (eqb parts.tag 128 && ltb 8 (length parts.contents)) && ltb (length parts.contents) 73
 
-abbrev pub told : Parts → KeyIdentifier
-told parts = record { first = value (take 8 parts.contents); octets = drop 8 parts.contents }
+abbrev pub identifier_in : Parts → KeyIdentifier
+identifier_in parts = record { first = value (take 8 parts.contents); octets = drop 8 parts.contents }
 
-abbrev then_told : Parts × List ℕ → Option (KeyIdentifier × List ℕ)
-then_told x = cond (is_identifier x.0) (Some (told x.0, x.1)) None
+abbrev identifier_or_none : Parts × List ℕ → Option (KeyIdentifier × List ℕ)
+identifier_or_none x = cond (is_identifier x.0) (Some (identifier_in x.0, x.1)) None
 
 abbrev some_read : KeyIdentifier × List ℕ → Option (KeyIdentifier × List ℕ)
 some_read x = Some x
@@ -50,10 +50,10 @@ passed false x y e = absurd cc
 pub identifier_takes : (bytes : List ℕ) (x : KeyIdentifier × List ℕ) → IsBytes bytes → identifier_at bytes ≡ Some x → (length x.1 < length bytes) × IsBytes x.1
 unfolding identifier_at
 identifier_takes bytes x each e =
-    bind_then (value_at bytes) then_told x e (λ read is then.
+    bind_then (value_at bytes) identifier_or_none x e (λ read is then.
     let t = value_takes bytes read each is in
     let size = length-tlv_at_least read.0.tag read.0.contents in
-    subst (λ (y : KeyIdentifier × List ℕ). (length y.1 < length bytes) × IsBytes y.1) (passed {A = KeyIdentifier × List ℕ} (is_identifier read.0) (told read.0, read.1) x then)
+    subst (λ (y : KeyIdentifier × List ℕ). (length y.1 < length bytes) × IsBytes y.1) (passed {A = KeyIdentifier × List ℕ} (is_identifier read.0) (identifier_in read.0, read.1) x then)
     (omega (arith, ap length t.taken.parts, length-append (tlv read.0.tag read.0.contents) read.1, size), t.taken.each))
 
 again_by : (head octets rest : List ℕ) (first : ℕ) → length head ≡ 8 → value head ≡ first → IsLabel octets → identifier_at (tlv 128 (head ++ octets) ++ rest) ≡ Some (record { first = first; octets = octets }, rest)

@@ -6,7 +6,7 @@ use crate::tlv_reader::take;
 use crate::values::number;
 use reg_core::Label;
 
-/// The tag octet of a stored key identifier, [0], as in an AuthorityKeyIdentifier (RFC 5280 4.2.1.1). Registers store key identifiers after the Name.
+/// The tag octet of a stored key identifier: [0], as in an AuthorityKeyIdentifier (RFC 5280 4.2.1.1). `Issuer::stored_name` says where it is stored.
 pub(crate) const KEY_IDENTIFIER: u8 = 0x80;
 
 /// The contents of a stored key identifier are 8 octets for the number of the first CRL that has it, and then its own 1 to 64 octets.
@@ -23,7 +23,7 @@ pub struct KeyIdentifier {
 
 /// The stored key identifier with which the bytes begin, and the bytes after it; `None` if they do not begin with one.
 #[tactic(auto, unfolding(crate::specs::Authority::identifier_at))]
-fn first_element(bytes: &[u8]) -> Option<(KeyIdentifier, &[u8])>
+fn first_identifier(bytes: &[u8]) -> Option<(KeyIdentifier, &[u8])>
     ensures exact { AgreesWith (λ x. (x.0, x.1.now)) result (authority.identifier_at bytes.now) }
     ensures shorter { IfSome result (λ x. length x.1.now < length bytes.now) }
 {
@@ -48,7 +48,7 @@ pub(crate) fn are_identifiers(bytes: &[u8]) -> bool
 {
     let mut rest = bytes;
     while !rest.is_empty() {
-        let Some((_, after)) = first_element(rest) else {
+        let Some((_, after)) = first_identifier(rest) else {
             return false;
         };
         rest = after;
@@ -56,24 +56,24 @@ pub(crate) fn are_identifiers(bytes: &[u8]) -> bool
     true
 }
 
-/// The stored key identifiers in `bytes`, the latest first; without the latest if it has this `first`, because the one to be added replaces it.
+/// The key identifiers that stay when one with this `first` is added. `bytes` begin with the latest; if it has this `first`, the new one replaces it.
 #[tactic(auto, unfolding(crate::specs::Authority::earlier_identifiers))]
 pub(crate) fn earlier_identifiers(bytes: &[u8], first: u64) -> &[u8]
     ensures { result.now ≡ authority.earlier_identifiers first bytes.now }
 {
-    match first_element(bytes) {
+    match first_identifier(bytes) {
         Some((latest, rest)) if latest.first == first => rest,
         _ => bytes,
     }
 }
 
-/// The key identifier of the CRL with this number: the latest one whose first CRL has this number or a lower one. `None` if there is none.
+/// The key identifier of the CRL with this number: in `bytes` (latest first), the first one whose `first` is at most the number; `None` if none is.
 pub(crate) fn identifier_for(bytes: &[u8], number: u64) -> Option<Label>
     requires { IsSome (authority.identifiers_at bytes.now) }
     ensures { result ≡ authority.identifier_for (unwrap_or (authority.identifiers_at bytes.now) []) number }
 {
     let mut rest = bytes;
-    while let Some((identifier, after)) = first_element(rest) {
+    while let Some((identifier, after)) = first_identifier(rest) {
         if identifier.first <= number {
             return Some(identifier.octets);
         }

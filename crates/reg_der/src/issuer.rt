@@ -35,7 +35,7 @@ impl From<AllocError> for IssuerFault {
 }
 
 /// The issuer of CRLs and OCSP responses: its Name, its public key, and the key identifiers that were set for it. Contracts see the bytes of both
-/// fields: the stored name (the DER value of the Name, and after it the key identifiers, the latest first), and the key as for `new`.
+/// fields: the stored name (the DER value of the Name, and after it the key identifiers, the latest first), and the key (see `new`).
 #[derive(Drop)]
 pub struct Issuer {
     name: Vec<u8>,
@@ -121,7 +121,7 @@ impl Issuer {
         &self.name
     }
 
-    /// The key identifier that was set for the CRL with this number (RFC 5280 5.2.1). `None` if none was: that CRL has the SHA-1 of the key.
+    /// The key identifier that was set for the CRL with this number (RFC 5280 5.2.1). `None` if none was set: that CRL has the SHA-1 of the key.
     pub fn key_identifier(&self, number: u64) -> Option<Label>
         ensures identifier { result ≡ key_identifier_at self.now number }
         ensures short { IfSome result (λ octets. length octets ≤ 64) }

@@ -19,7 +19,7 @@ pub fn values_have_sizes()
     ensures { ValuesHaveSizes }
 {}
 
-/// The definition `value_at`, by which the clause `exact` of `take` states the result, gives the DER value at the front of the bytes, if any.
+/// The clause `exact` of `take` cites the definition `value_at`. This definition gives the DER value at the front of the bytes, if any.
 pub fn values_are_read()
     ensures reads { ReadsValues }
     ensures again { EachValueIsRead }

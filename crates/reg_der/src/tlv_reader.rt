@@ -30,7 +30,7 @@ fn number(octets: &[u8]) -> usize
     number
 }
 
-/// Reads a length of `count` octets in the long form; the octet before them gave `count`. At most 4 are read, so the length is below 2^32.
+/// Reads a length in the long form: `count` octets (the octet before them gave `count`). `None` also if `count` is over 4, or 0 (indefinite length).
 #[tactic(auto, unfolding(crate::specs::ValueReading::long_length_at))]
 fn long_length(count: usize, bytes: &[u8]) -> Option<(usize, &[u8])>
     ensures exact { AgreesWith (λ x. (x.0, x.1.now)) result (long_length_at count bytes.now) }
@@ -101,7 +101,7 @@ pub fn take(bytes: &[u8]) -> Option<(Tlv<'_>, &[u8])>
     ensures none { IfNone result
         ((raw rest contents : List ℕ) (tag : ℕ) → IsTlv raw tag contents → bytes.now ≡ raw ++ rest → ⊥) }
 
-    // The same by the definition `value_at`, which contracts in other crates cite.
+    // The result again, by the definition `value_at`, which contracts in other crates cite.
     ensures exact { AgreesWith (λ x. (record { tag = x.0.tag; contents = x.0.contents.now }, x.1.now)) result
         (value_at bytes.now) }
     ensures shorter { IfSome result (λ x. length x.0.raw.now + length x.1.now ≡ length bytes.now) }

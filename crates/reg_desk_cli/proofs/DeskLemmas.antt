@@ -25,24 +25,24 @@ unfolding clap_on_literals
 simple_and_free = refl
 
 -- the usage that prints an error of clap is one for these words
-pub tells_usage : (words : List Text) (kind : ErrorKind) (usage : Usage) → PrintsUsage kind usage
+pub prints_usage : (words : List Text) (kind : ErrorKind) (usage : Usage) → PrintsUsage kind usage
     → (kind ≡ OutOfMemory) ⊎ IsAmong kind (fault_of desk_app words) → IsUsageOf words usage
-tells_usage words kind (Help text) help (inl none) = cc (sym help ∙ none)
-tells_usage words kind (Help text) help (inr among) = subst (λ k. IsAmong k (fault_of desk_app words)) help among
-tells_usage words kind (Version text) version (inl none) = cc (sym version ∙ none)
-tells_usage words kind (Version text) version (inr among) = subst (λ k. IsAmong k (fault_of desk_app words)) version among
-tells_usage words kind (Bad text) other (inl none) = absurd (other.2 none)
-tells_usage words kind (Bad text) other (inr among) = inl (kind, other.0, other.1, among)
-tells_usage words kind Memory none how = tt
+prints_usage words kind (Help text) help (inl none) = cc (sym help ∙ none)
+prints_usage words kind (Help text) help (inr among) = subst (λ k. IsAmong k (fault_of desk_app words)) help among
+prints_usage words kind (Version text) version (inl none) = cc (sym version ∙ none)
+prints_usage words kind (Version text) version (inr among) = subst (λ k. IsAmong k (fault_of desk_app words)) version among
+prints_usage words kind (Bad text) other (inl none) = absurd (other.2 none)
+prints_usage words kind (Bad text) other (inr among) = inl (kind, other.0, other.1, among)
+prints_usage words kind Memory none how = tt
 
 -- a name and rows that are taken apart are those of the subcommand
-both_told : {X : Type 0} (name : X → Text) (rows : X → List Row) (found : Option X) (told : Option (Text × List Row))
-    → option_map name found ≡ option_map (λ p. p.0) told → option_map rows found ≡ option_map (λ p. p.1) told
-    → option_map (λ x. (name x, rows x)) found ≡ told
-both_told name rows None None named rowed = refl
-both_told name rows None (Some p) named rowed = cc named
-both_told name rows (Some x) None named rowed = cc named
-both_told name rows (Some x) (Some p) named rowed =
+both_mapped : {X : Type 0} (name : X → Text) (rows : X → List Row) (found : Option X) (pair : Option (Text × List Row))
+    → option_map name found ≡ option_map (λ p. p.0) pair → option_map rows found ≡ option_map (λ p. p.1) pair
+    → option_map (λ x. (name x, rows x)) found ≡ pair
+both_mapped name rows None None named rowed = refl
+both_mapped name rows None (Some p) named rowed = cc named
+both_mapped name rows (Some x) None named rowed = cc named
+both_mapped name rows (Some x) (Some p) named rowed =
     let is_name : name x ≡ p.0 = cc in
     let is_rows : rows x ≡ p.1 = cc in
     λ i. Some (is_name i, is_rows i)
@@ -61,7 +61,7 @@ pub behind : (found : Option (Bor Text × Bor ArgMatches)) (m : ArgMatches) → 
     → option_map (λ (p : Bor Text × Bor ArgMatches). rows_of (found_of p.1.now)) found ≡ option_map (λ (p : Text × List Row). p.1) (subcommand_rows_of m)
     → option_map (λ (p : Bor Text × Bor ArgMatches). (p.0.now, rows_of (found_of p.1.now))) found ≡ subcommand_rows_of m
 behind found m name rows =
-    both_told (λ (p : Bor Text × Bor ArgMatches). p.0.now) (λ (p : Bor Text × Bor ArgMatches). rows_of (found_of p.1.now))
+    both_mapped (λ (p : Bor Text × Bor ArgMatches). p.0.now) (λ (p : Bor Text × Bor ArgMatches). rows_of (found_of p.1.now))
     found (subcommand_rows_of m) (name ∙ by_name m) rows
 
 -- clap's contracts, applied to the program's command line

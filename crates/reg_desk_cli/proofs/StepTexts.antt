@@ -15,11 +15,11 @@ abbrev pub SoFar : List (Bor (List ℕ)) → ℕ → List (ℕ × ℕ) → Type 
 SoFar texts at steps = steps_of (texts_of texts) ≡ option_map (λ rest. steps ++ rest) (steps_of (texts_of (drop at texts)))
 
 pub begins : (texts : List (Bor (List ℕ))) → SoFar texts 0 []
-begins texts = same (steps_of (texts_of texts))
+begins texts = steps_alone (steps_of (texts_of texts))
   where
-    same : (o : Option (List (ℕ × ℕ))) → o ≡ option_map (λ rest. [] ++ rest) o
-    same None = refl
-    same (Some steps) = refl
+    steps_alone : (o : Option (List (ℕ × ℕ))) → o ≡ option_map (λ rest. [] ++ rest) o
+    steps_alone None = refl
+    steps_alone (Some steps) = refl
 
 -- the texts from an index on
 from_here : (texts : List (Bor (List ℕ))) (at : ℕ) (d : Bor (List ℕ)) (step : Option (ℕ × ℕ)) → at < length texts

@@ -11,9 +11,9 @@ use crate::job::{
     ScriptOptions, ServeJob, SignerAddress,
 };
 use crate::option_values::{
-    filter_option, is_set, loopback, moment_option, number_option, number_or, number_within,
-    order_terms_option, responder, script_options_of, signer_option, signer_or_unsigned, steps,
-    text_of, word_of,
+    argument_of, filter_option, is_set, loopback, moment_option, number_option, number_or,
+    number_within, order_terms_option, responder, script_options_of, signer_option,
+    signer_or_unsigned, steps, text_of,
 };
 use crate::wrong::{LAST_PORT, MOST_REQUESTS};
 use clap::ArgMatches;
@@ -103,10 +103,10 @@ fn read_init<'a>(given: &ArgMatches<'a>) -> Option<Job<'a>>
     ensures { result ≡ init_of (rows_of (found_of given.now)) }
 {
     Some(Job::Init(NewRegister {
-        file: word_of(given, "file")?,
-        name: word_of(given, "name")?,
-        key: word_of(given, "key")?,
-        key_id: word_of(given, "key-id"),
+        file: argument_of(given, "file")?,
+        name: argument_of(given, "name")?,
+        key: argument_of(given, "key")?,
+        key_id: argument_of(given, "key-id"),
         days: number_or(given, "days", DEFAULT_DAYS)?,
         crl_life: number_or(given, "crl-life", DEFAULT_CRL_LIFE)?,
         ocsp_life: number_or(given, "ocsp-life", DEFAULT_OCSP_LIFE)?,
@@ -119,7 +119,7 @@ fn read_script<'a>(given: &ArgMatches<'a>) -> Option<Job<'a>>
     ensures { result ≡ script_of (rows_of (found_of given.now)) }
 {
     let signer = signer_option(given)?;
-    script_job(word_of(given, "file"), signer, script_options_of(given))
+    script_job(argument_of(given, "file"), signer, script_options_of(given))
 }
 
 /// The job of `script`: `Job::Lines` with `--clock` or `--strict`, which need FILE; `Job::Script` without them.
@@ -147,7 +147,7 @@ fn read_import<'a>(given: &ArgMatches<'a>) -> Option<Job<'a>>
     ensures { result ≡ import_of (rows_of (found_of given.now)) }
 {
     Some(Job::Import(ImportJob {
-        file: word_of(given, "file")?,
+        file: argument_of(given, "file")?,
         moment: import_moment(given)?,
         accepts_clock: is_set(given, "accept-clock"),
         is_strict: is_set(given, "strict"),
@@ -177,7 +177,7 @@ fn read_crl<'a>(given: &ArgMatches<'a>) -> Option<Job<'a>>
     ensures { result ≡ crl_job (rows_of (found_of given.now)) }
 {
     Some(Job::Crl {
-        file: word_of(given, "file")?,
+        file: argument_of(given, "file")?,
         number: number_option(given, "number")?,
     })
 }
@@ -203,12 +203,12 @@ fn read_serve<'a>(given: &ArgMatches<'a>) -> Option<Job<'a>>
     ensures { result ≡ serve_of (rows_of (found_of given.now)) }
 {
     Some(Job::Serve(ServeJob {
-        file: word_of(given, "file")?,
+        file: argument_of(given, "file")?,
         endpoint: endpoint_of(given)?,
         requests: number_within(given, "requests", 1, MOST_REQUESTS)? as u32,
         signer: signer_option(given)?,
         responder: responder(given)?,
-        published: word_of(given, "published"),
+        published: argument_of(given, "published"),
     }))
 }
 
@@ -216,9 +216,9 @@ fn read_serve<'a>(given: &ArgMatches<'a>) -> Option<Job<'a>>
 fn read_open<'a>(given: &ArgMatches<'a>) -> Option<Job<'a>>
     ensures { result ≡ open_of (rows_of (found_of given.now)) }
 {
-    let file = word_of(given, "file")?;
+    let file = argument_of(given, "file")?;
     let endpoint = endpoint_of(given)?;
-    let control = word_of(given, "control")?;
+    let control = argument_of(given, "control")?;
     let ocsp_responder = responder(given)?;
     let signer = signer_or_unsigned(given, &ocsp_responder)?;
     Some(Job::Open(OpenJob {
@@ -227,7 +227,7 @@ fn read_open<'a>(given: &ArgMatches<'a>) -> Option<Job<'a>>
         control,
         signer,
         responder: ocsp_responder,
-        published: word_of(given, "published"),
+        published: argument_of(given, "published"),
     }))
 }
 
@@ -235,12 +235,12 @@ fn read_open<'a>(given: &ArgMatches<'a>) -> Option<Job<'a>>
 fn read_at<'a>(given: &ArgMatches<'a>) -> Option<Job<'a>>
     ensures { result ≡ at_of (rows_of (found_of given.now)) }
 {
-    let control_path = word_of(given, "control")?;
+    let control_path = argument_of(given, "control")?;
     let orders = order_terms_option(given)?;
     at_job(
         control_path,
-        word_of(given, "import"),
-        word_of(given, "revoke"),
+        argument_of(given, "import"),
+        argument_of(given, "revoke"),
         orders,
     )
 }
@@ -272,8 +272,8 @@ fn read_replay<'a>(given: &ArgMatches<'a>) -> Option<Job<'a>>
     ensures { result ≡ replay_of (rows_of (found_of given.now)) }
 {
     Some(Job::Replay {
-        control_path: word_of(given, "control")?,
-        log: word_of(given, "log")?,
+        control_path: argument_of(given, "control")?,
+        log: argument_of(given, "log")?,
     })
 }
 
@@ -281,7 +281,7 @@ fn read_replay<'a>(given: &ArgMatches<'a>) -> Option<Job<'a>>
 fn read_schedule<'a>(alloc: Global, given: &ArgMatches<'a>) -> Result<Option<Job<'a>>, AllocError>
     ensures { IfOk result (λ job. job ≡ schedule_of (rows_of (found_of given.now))) }
 {
-    let Some(file) = word_of(given, "file") else {
+    let Some(file) = argument_of(given, "file") else {
         return Ok(None);
     };
     match steps(alloc, given, "steps")? {
@@ -295,8 +295,8 @@ fn read_key_id<'a>(given: &ArgMatches<'a>) -> Option<Job<'a>>
     ensures { result ≡ key_id_of (rows_of (found_of given.now)) }
 {
     Some(Job::KeyId {
-        file: word_of(given, "file")?,
-        key_id: word_of(given, "key-id")?,
+        file: argument_of(given, "file")?,
+        key_id: argument_of(given, "key-id")?,
     })
 }
 
@@ -304,7 +304,7 @@ fn read_key_id<'a>(given: &ArgMatches<'a>) -> Option<Job<'a>>
 fn read_list<'a>(given: &ArgMatches<'a>) -> Option<Job<'a>>
     ensures { result ≡ list_of (rows_of (found_of given.now)) }
 {
-    let file = word_of(given, "file")?;
+    let file = argument_of(given, "file")?;
     let word = text_of(given, "list")?;
     let before = moment_option(given, "before")?;
     // The list with this name, from its first row on. The list `ending` needs `--before`, and no other list takes it.
@@ -348,8 +348,8 @@ fn read_copy<'a>(given: &ArgMatches<'a>) -> Option<Job<'a>>
     ensures { result ≡ copy_of (rows_of (found_of given.now)) }
 {
     Some(Job::Copy {
-        file: word_of(given, "file")?,
-        path: word_of(given, "path")?,
+        file: argument_of(given, "file")?,
+        path: argument_of(given, "path")?,
     })
 }
 
@@ -358,6 +358,6 @@ fn read_audit<'a>(given: &ArgMatches<'a>) -> Option<Job<'a>>
     ensures { result ≡ audit_of (rows_of (found_of given.now)) }
 {
     Some(Job::Audit {
-        file: word_of(given, "file")?,
+        file: argument_of(given, "file")?,
     })
 }

@@ -15,7 +15,8 @@ use reg_core_lists::{Filter, read_prefix};
 use reg_crl_signer::Algorithm;
 use std::alloc::{AllocError, Global};
 
-pub(crate) fn word_of<'a>(matches: &ArgMatches<'a>, id: &str) -> Option<Argument<'a>>
+/// The value that [`text_of`] gives, as an [`Argument`]: a word as it was typed, such as a path.
+pub(crate) fn argument_of<'a>(matches: &ArgMatches<'a>, id: &str) -> Option<Argument<'a>>
     ensures { result ≡ first_of id.now (rows_of (found_of matches.now)) }
 {
     Some(Argument::of(text_of(matches, id)?))
@@ -153,15 +154,16 @@ pub(crate) fn signer_option<'a>(matches: &ArgMatches<'a>) -> Option<Option<Signe
     signer_by(matches, "signer", "algorithm")
 }
 
-/// The responder to OCSP requests: the issuer; or a delegate with its own key, if `--responder`, `--responder-signer` and `--responder-algorithm` are
-/// given. `None` if only some of these are, if no algorithm has the name, or if a delegate is given with `--embed`.
+/// The responder to OCSP requests: the issuer, with its certificate for the answers if `--embed` gives one; or a delegate with its own key, if
+/// `--responder`, `--responder-signer` and `--responder-algorithm` are given. `None` if only some of these are, if no algorithm has the name, or if a
+/// delegate is given with `--embed`.
 #[tactic(auto, unfolding(crate::specs::Jobs::responder_in))]
 pub(crate) fn responder<'a>(matches: &ArgMatches<'a>) -> Option<ResponderChoice<'a>>
     ensures { result ≡ responder_in (rows_of (found_of matches.now)) }
 {
     let signer = signer_by(matches, "responder-signer", "responder-algorithm")?;
-    let embedded = word_of(matches, "embed");
-    responder_of(word_of(matches, "responder"), signer, embedded)
+    let embedded = argument_of(matches, "embed");
+    responder_of(argument_of(matches, "responder"), signer, embedded)
 }
 
 fn responder_of<'a>(
@@ -197,7 +199,7 @@ fn signer_by<'a>(
 ) -> Option<Option<SignerAddress<'a>>>
     ensures { result ≡ signer_by_options socket.now algorithm.now (rows_of (found_of matches.now)) }
 {
-    match (word_of(matches, socket), text_of(matches, algorithm)) {
+    match (argument_of(matches, socket), text_of(matches, algorithm)) {
         (Some(socket), Some(name)) => {
             let algorithm = Algorithm::read(name)?;
             Some(Some(SignerAddress { socket, algorithm }))
@@ -207,8 +209,8 @@ fn signer_by<'a>(
     }
 }
 
-/// The signer of CRLs for `open`; `Some(None)` with `--unsigned`, or with a delegate and no signer. `None` where [`signer_option`] gives `None`, if
-/// `--unsigned` is given with a signer or a delegate, or if there is no signer, no delegate and no `--unsigned`.
+/// The signer of CRLs for `open`; `Some(None)` with `--unsigned`, or with a delegate and no signer (then new CRLs fail). `None` where
+/// [`signer_option`] gives `None`, if `--unsigned` is given with a signer or a delegate, or if there is no signer, no delegate and no `--unsigned`.
 pub(crate) fn signer_or_unsigned<'a>(
     matches: &ArgMatches<'a>,
     responder: &ResponderChoice<'_>,

@@ -9,7 +9,7 @@ use crate::argument::Argument;
 use crate::commands::read_command;
 use crate::desk::desk;
 use crate::job::{Invocation, Job, Usage};
-use crate::option_values::{is_set, word_of};
+use crate::option_values::{argument_of, is_set};
 use crate::wrong::wrong_text;
 use clap::error::ErrorKind;
 use clap::{ArgMatches, Command, Error};
@@ -79,7 +79,7 @@ fn word_after_command<'a>(matches: &ArgMatches<'a>, id: &str) -> Option<Argument
     ensures { result ≡ value_after id.now (subcommand_rows_of matches.now) }
 {
     match matches.subcommand() {
-        Some((_, given)) => word_of(given, id),
+        Some((_, given)) => argument_of(given, id),
         None => None,
     }
 }

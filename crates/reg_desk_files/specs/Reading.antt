@@ -19,8 +19,8 @@ abbrev pub IsReadFailureOfFiles : ReadFailure → Type 0
 IsReadFailureOfFiles unread.Nothing = Unit {0}
 IsReadFailureOfFiles (unread.Fault why) = IsFileFault why
 
--- `Tells` holds of the result and of the image that the files held, if the disk returned all that was written
-abbrev pub TellsOfImage
+-- `IsSo` holds of the result and of the image that the files held, if the disk returned all that was written
+abbrev pub ReportsImage
     : {D T E : Type 0} → Disk D → Files D → Files D → Result T E → (T → Image → Type 0) → Type 0
-TellsOfImage disk old new result Tells =
-    IfOk result (λ found. AreClean disk new.log new.db → Tells found (image_of disk old))
+ReportsImage disk old new result IsSo =
+    IfOk result (λ found. AreClean disk new.log new.db → IsSo found (image_of disk old))

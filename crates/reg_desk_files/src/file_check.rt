@@ -6,7 +6,7 @@ ghost use Rattle.sqlite_pool.specs.Stored.{stored_size};
 ghost use Rattle.sqlite_trees.specs.Tree.{Trees};
 ghost use Rattle.sqlite_wal.specs.PageSize.{bytes_of};
 ghost use Rattle.sqlite_wal.specs.Reads.{OnlyReads};
-ghost use Rattle.reg_desk_files.specs.Reading.{IsFileFault, TellsOfImage};
+ghost use Rattle.reg_desk_files.specs.Reading.{IsFileFault, ReportsImage};
 
 use crate::file_fault::FileFault;
 use reg_core::Fault;
@@ -31,9 +31,9 @@ pub enum FileContent {
 pub fn probe_content<D: Disk>(alloc: Global, files: &mut Files<D>) -> Result<FileContent, FileFault>
     requires log { IsTrue (D.Disk.is_usable files.old.log) }
     requires db { IsTrue (D.Disk.is_usable files.old.db) }
-    ensures nothing { TellsOfImage D.Disk files.old files.new result
+    ensures nothing { ReportsImage D.Disk files.old files.new result
         (λ found image. found ≡ FileContent.Nothing ↔ IsNothing image) }
-    ensures other { TellsOfImage D.Disk files.old files.new result
+    ensures other { ReportsImage D.Disk files.old files.new result
         (λ found image. found ≡ FileContent.Other → (db : Trees) → ¬ HoldsDatabase image db) }
     ensures log { OnlyReads D.Disk files.old.log files.new.log }
     ensures db { OnlyReads D.Disk files.old.db files.new.db }
@@ -51,7 +51,7 @@ pub fn probe_content<D: Disk>(alloc: Global, files: &mut Files<D>) -> Result<Fil
 fn is_nothing<D: Disk>(alloc: Global, files: &mut Files<D>) -> Result<bool, Error>
     requires log { IsTrue (D.Disk.is_usable files.old.log) }
     requires db { IsTrue (D.Disk.is_usable files.old.db) }
-    ensures nothing { TellsOfImage D.Disk files.old files.new result
+    ensures nothing { ReportsImage D.Disk files.old files.new result
         (λ is image. IsTrue is ↔ IsNothing image) }
     ensures log { OnlyReads D.Disk files.old.log files.new.log }
     ensures db { OnlyReads D.Disk files.old.db files.new.db }
@@ -67,7 +67,7 @@ fn is_nothing<D: Disk>(alloc: Global, files: &mut Files<D>) -> Result<bool, Erro
 fn is_blank<D: Disk>(alloc: Global, files: &mut Files<D>, has_sums: bool) -> Result<bool, Error>
     requires log { IsTrue (D.Disk.is_usable files.old.log) }
     requires db { IsTrue (D.Disk.is_usable files.old.db) }
-    ensures blank { TellsOfImage D.Disk files.old files.new result
+    ensures blank { ReportsImage D.Disk files.old files.new result
         (λ is image. IsTrue is ↔ IsBlankAs has_sums image) }
     ensures log { OnlyReads D.Disk files.old.log files.new.log }
     ensures db { OnlyReads D.Disk files.old.db files.new.db }
@@ -80,7 +80,7 @@ fn is_blank<D: Disk>(alloc: Global, files: &mut Files<D>, has_sums: bool) -> Res
 fn begins<D: Disk>(alloc: Global, files: &mut Files<D>) -> Result<bool, Error>
     requires log { IsTrue (D.Disk.is_usable files.old.log) }
     requires db { IsTrue (D.Disk.is_usable files.old.db) }
-    ensures none { TellsOfImage D.Disk files.old files.new result
+    ensures none { ReportsImage D.Disk files.old files.new result
         (λ is image. is ≡ false → (db : Trees) → ¬ HoldsDatabase image db) }
     ensures log { OnlyReads D.Disk files.old.log files.new.log }
     ensures db { OnlyReads D.Disk files.old.db files.new.db }
@@ -96,7 +96,7 @@ fn begins<D: Disk>(alloc: Global, files: &mut Files<D>) -> Result<bool, Error>
 fn begins_with<D: Disk>(alloc: Global, files: &mut Files<D>, size: PageSize) -> Result<bool, Error>
     requires log { IsTrue (D.Disk.is_usable files.old.log) }
     requires db { IsTrue (D.Disk.is_usable files.old.db) }
-    ensures none { TellsOfImage D.Disk files.old files.new result
+    ensures none { ReportsImage D.Disk files.old files.new result
         (λ is image. is ≡ false → (db : Trees) → (held : HoldsDatabase image db)
         → stored_size held.0 ≢ bytes_of size) }
     ensures log { OnlyReads D.Disk files.old.log files.new.log }

@@ -21,6 +21,6 @@ pub use overlay::{Overlay, overlaid};
 pub use page_copy::{copy_closed, copy_open, put_pages, recovered};
 pub use read_file::ReadFile;
 pub use read_only::{
-    ReadFailure, Sources, check_database, copy_of, open_existing, open_sources, read_at,
+    ReadFailure, SourceFiles, check_database, copy_of, open_existing, open_sources, read_at,
 };
 pub use source::ReadAt;

@@ -13,7 +13,7 @@ use crate::file_creation::write_copy;
 use crate::file_fault::{FileFault, create_fault_of, damaged_fault, fault_with_cause};
 use crate::overlay::overlaid;
 use crate::read_file::OpenedBy;
-use crate::read_only::{ReadFailure, Sources, check_has_database, sources_at};
+use crate::read_only::{ReadFailure, SourceFiles, check_has_database, sources_at};
 use crate::source::ReadAt;
 use reg_core::Fault;
 use sqlite::Options;
@@ -52,12 +52,13 @@ fn copy_locked(
 
 fn copy_sources<F: ReadAt + Drop>(
     rt: &HostRuntime,
-    sources: Sources<F>,
+    sources: SourceFiles<F>,
     to: &str,
 ) -> Result<u64, ReadFailure>
     ensures { IfErr result IsReadFailureOfFiles }
 {
     // The default page cache (2,000 pages) is enough, since a copy reads each page once.
+    // The seed is for the log's salts, the key for digests that check later reads of a page.
     let options = Options::new(sources.options.seed);
     let files = overlaid(rt.alloc(), sources.log, sources.db, sources.key);
     copy_files(rt, files, options, to)

@@ -43,7 +43,7 @@ impl From<FileFault> for ReadFailure {
 
 /// A database's file, which is only read, a copy of its log (`-wal`; empty if there is none), and the options to open the database.
 #[derive(Drop)]
-pub struct Sources<F: ReadAt> {
+pub struct SourceFiles<F: ReadAt> {
     pub log: Vec<u8>,
     pub db: F,
     /// The random key of the digests that `sqlite` keeps of pages, to check later reads. (`RandomState` gives any fixed value a random hash.)
@@ -55,7 +55,7 @@ pub struct Sources<F: ReadAt> {
 /// dropped, `desk` can't open the file for writing; SQLite in WAL mode can. Errors: `Memory`; `Store`, with its cause if that is known, if the files
 /// can't be read, or if a program has locked the file for writing. `Store` too if SQLite left a rollback journal, if the path is `:memory:` or begins
 /// with `file:`, or if a file is not a regular one or has two names (hard links).
-pub fn read_at(rt: &HostRuntime, path: &str) -> Result<Sources<ReadFile>, FileFault>
+pub fn read_at(rt: &HostRuntime, path: &str) -> Result<SourceFiles<ReadFile>, FileFault>
     ensures { IfErr result IsFileFault }
 {
     sources_at(rt, path, OpenedBy::NoWriter)
@@ -66,7 +66,7 @@ pub(crate) fn sources_at(
     rt: &HostRuntime,
     path: &str,
     opened_by: OpenedBy,
-) -> Result<Sources<ReadFile>, FileFault>
+) -> Result<SourceFiles<ReadFile>, FileFault>
     ensures { IfErr result IsFileFault }
 {
     let options = options_for(rt, path)?;
@@ -76,7 +76,7 @@ pub(crate) fn sources_at(
         None => Vec::new(rt.alloc()),
     };
     let key = RandomState::new(rt)?.hash_one(&0u8);
-    Ok(Sources {
+    Ok(SourceFiles {
         log,
         db,
         key,
@@ -92,7 +92,10 @@ pub fn check_database(rt: &HostRuntime, path: &str) -> Result<(), ReadFailure>
     check_sources(rt.alloc(), read_at(rt, path)?)
 }
 
-fn check_sources<F: ReadAt + Drop>(alloc: Global, sources: Sources<F>) -> Result<(), ReadFailure>
+fn check_sources<F: ReadAt + Drop>(
+    alloc: Global,
+    sources: SourceFiles<F>,
+) -> Result<(), ReadFailure>
     ensures { IfErr result IsReadFailureOfFiles }
 {
     let mut files = overlaid(alloc, sources.log, sources.db, sources.key);
@@ -103,7 +106,7 @@ fn check_sources<F: ReadAt + Drop>(alloc: Global, sources: Sources<F>) -> Result
 /// only to the copy of the log. Errors: those of [`open_existing`].
 pub fn open_sources<F: ReadAt + Drop>(
     alloc: Global,
-    sources: Sources<F>,
+    sources: SourceFiles<F>,
 ) -> Result<Connection<FileStore<Overlay<F>>>, ReadFailure>
     ensures opened { IfOk result (λ connection. HasCleanDisk (file_state connection) → IsOpened connection) }
     ensures found { IfOk result (λ connection. HasCleanDisk (file_state connection)

@@ -114,18 +114,18 @@ put_above row number latest_one digits old new (Ok done) is above text put =
     ∙ ap (λ b. old ++ cond b (codes "missing crl " ++ decimal number ++ 10 ∷ []) []) (sym test)
 put_above row number latest_one digits old new (Err why) is above text put = tt
 
-pub tells_none : (out : Option (List ℕ)) (lines : List ℕ) → length lines ≡ 0 → ReportsMissing out out (Ok lines) (Ok tt)
-tells_none out [] none = (refl, refl)
-tells_none out (first ∷ rest) none = absurd (omega (arith, none))
+pub reports_none : (out : Option (List ℕ)) (lines : List ℕ) → length lines ≡ 0 → ReportsMissing out out (Ok lines) (Ok tt)
+reports_none out [] none = (refl, refl)
+reports_none out (first ∷ rest) none = absurd (omega (arith, none))
 
-pub tells_all : (out out' : Option (List ℕ)) (lines : List ℕ) → 1 ≤ length lines → Appends out out' lines → ReportsMissing out out' (Ok lines) (Err failure.LacksPublished)
-tells_all out out' [] some added = absurd (omega (arith, some))
-tells_all out out' (first ∷ rest) some added = inl (refl, added)
+pub reports_all : (out out' : Option (List ℕ)) (lines : List ℕ) → 1 ≤ length lines → Appends out out' lines → ReportsMissing out out' (Ok lines) (Err failure.LacksPublished)
+reports_all out out' [] some added = absurd (omega (arith, some))
+reports_all out out' (first ∷ rest) some added = inl (refl, added)
 
-pub tells_front : (out out' : Option (List ℕ)) (lines : List ℕ) (why : Failure) (result : Result (Unit {0}) Failure) → 1 ≤ length lines
+pub reports_front : (out out' : Option (List ℕ)) (lines : List ℕ) (why : Failure) (result : Result (Unit {0}) Failure) → 1 ≤ length lines
     → IsErrAnd result (λ it. it ≡ why) → PrintsText lines out out' (Err why) → ReportsMissing out out' (Ok lines) result
-tells_front out out' [] why result some is said = absurd (omega (arith, some))
-tells_front out out' (first ∷ rest) why result some is said =
+reports_front out out' [] why result some is said = absurd (omega (arith, some))
+reports_front out out' (first ∷ rest) why result some is said =
     passed_on (λ it. ReportsMissing out out' (Ok (first ∷ rest)) it) result why is (inr (ap (λ (w : Failure). Err w) said.0, said.1))
 
 empty_both : (xs ys : List ℕ) → [] ≡ xs ++ ys → (xs ≡ []) × (ys ≡ [])
@@ -154,7 +154,7 @@ all_revoked records moment (serial ∷ serials) none =
 
 -- a comparison that is done found that nothing is missing
 has_all : (records : Records) (input out out' : Option (List ℕ)) → Compares records input out out' (Ok tt) → HasAll records input
-has_all records input out out' (Ok [], (bytes, is, (number, serials, published, text)), told) =
+has_all records input out out' (Ok [], (bytes, is, (number, serials, published, text)), reports) =
     let latest_one = latest_number (option_map row_of (latest records.crls)) in
     let both = empty_both (missing_crl (option_map row_of (latest records.crls)) number) (flat_map (missing_at records records.last) serials) text in (
       bytes,
@@ -165,9 +165,9 @@ has_all records input out out' (Ok [], (bytes, is, (number, serials, published, 
       ltb-false latest_one number (not_above (nat_lt latest_one number) (codes "missing crl " ++ decimal number) both.0),
       all_revoked records records.last serials both.1,
     )
-has_all records input out out' (Ok (first ∷ rest), found, inl told) = let same : Ok tt ≡ Err failure.LacksPublished = told.0 in absurd cc
-has_all records input out out' (Ok (first ∷ rest), found, inr told) = let same : Ok tt ≡ Err (failure.Fault fault.Write) = told.0 in absurd cc
-has_all records input out out' (Err why, found, told) = let same : Ok tt ≡ Err why = told.0 in absurd cc
+has_all records input out out' (Ok (first ∷ rest), found, inl reports) = let same : Ok tt ≡ Err failure.LacksPublished = reports.0 in absurd cc
+has_all records input out out' (Ok (first ∷ rest), found, inr reports) = let same : Ok tt ≡ Err (failure.Fault fault.Write) = reports.0 in absurd cc
+has_all records input out out' (Err why, found, reports) = let same : Ok tt ≡ Err why = reports.0 in absurd cc
 
 module _ {S : Type 0} (is_clean : S → Type 0) (stands : OfficeSigners → S → Records → Type 0) where
   -- a look that tells nothing
@@ -187,9 +187,9 @@ module _ {S : Type 0} (is_clean : S → Type 0) (stands : OfficeSigners → S �
   pub compares : (input out out' : Option (List ℕ)) (bytes : List ℕ) (found : Result (List ℕ) Failure) (result : Result (Unit {0}) Failure) (s t : S)
       → IsInput input bytes → ReportsMissing out out' found result → Looks is_clean stands (λ records. FindsMissing records bytes found) s t
       → Looks is_clean stands (λ records. Compares records input out out' result) s t
-  compares input out out' bytes found result s t is tells =
+  compares input out out' bytes found result s t is reports =
       looks_as is_clean stands (λ records. FindsMissing records bytes found) (λ records. Compares records input out out' result)
-      (λ records it. (found, (bytes, is, it), tells)) s t
+      (λ records it. (found, (bytes, is, it), reports)) s t
 
   -- what a register that has all of a CRL does then
   pub has_all_then : (input out out' : Option (List ℕ)) (is : Bool) (step : OfficeSigners → Records → Records → Type 0) (s m t : S)

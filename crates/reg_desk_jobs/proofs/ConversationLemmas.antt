@@ -125,7 +125,7 @@ module _ (input sent incoming out : Option (List ℕ)) where
   begins = (
     [],
     [],
-    record { whole = tt; told = Appends-nil sent; received = Consumes-nil incoming; said = Appends-nil out; each = refl },
+    record { whole = tt; lines_sent = Appends-nil sent; received = Consumes-nil incoming; said = Appends-nil out; each = refl },
     Consumes-nil input,
     ((λ holds. tt), (λ all. refl)),
   )
@@ -135,7 +135,7 @@ module _ (input sent incoming out : Option (List ℕ)) where
       → SoFar piece_end.Full input' sent' incoming' out' before → IsPiece most input' input'' piece → Appends sent' sent'' piece.text.items
       → PassesReplies incoming' incoming'' out' out'' piece.count accepted → IsTrue after ↔ (IsTrue before × IsTrue accepted)
       → SoFar piece.end input'' sent'' incoming'' out'' after
-  goes_on input' input'' sent' sent'' incoming' incoming'' out' out'' most piece before accepted after so next told passed both =
+  goes_on input' input'' sent' sent'' incoming' incoming'' out' out'' most piece before accepted after so next appended passed both =
       let (lines, replies, talked, read, all) = so in
       let (more, counted, received, said, is) = passed in
       let joined = all_append IsAccepted replies more in (
@@ -143,8 +143,8 @@ module _ (input sent incoming out : Option (List ℕ)) where
         replies ++ more,
         record {
           whole = whole_append lines next.lines talked.whole next.whole;
-          told = subst (Appends sent sent'') (ap (λ l. concat lines ++ l) next.text ∙ sym (concat-append lines next.lines))
-              (Appends-trans sent sent' sent'' _ piece.text.items talked.told told);
+          lines_sent = subst (Appends sent sent'') (ap (λ l. concat lines ++ l) next.text ∙ sym (concat-append lines next.lines))
+              (Appends-trans sent sent' sent'' _ piece.text.items talked.lines_sent appended);
           received = subst (Consumes incoming incoming'') (sym (concat-append replies more)) (Consumes-trans incoming incoming' incoming'' _ _ talked.received received);
           said = subst (Appends out out'') (sym (concat-append replies more)) (Appends-trans out out' out'' _ _ talked.said said);
           each = omega (arith, talked.each, next.count, counted, length-append replies more, length-append lines next.lines);

@@ -15,7 +15,7 @@ use Rattle.reg_desk_service.specs.FinishedResponses.{FinishesUnsigned, Meets}
 use Rattle.reg_desk_jobs.specs.Serving.{DeskState, Exchanging, Serves, AnswersControlLines, StateStays}
 use Rattle.reg_desk_service.specs.declared.admission.Admission.{Admission}
 use Rattle.reg_desk_service.specs.declared.unsigned_responses.Unsigned.{Unsigned}
-use Rattle.reg_desk_service.proofs.PublicLaws.{told_moves}
+use Rattle.reg_desk_service.proofs.PublicLaws.{path_moves}
 
 -- a run by which something stays so, and whose steps where it is so are other ones too
 kept_runs : {S Q A : Type 0} (answers other : S → Q → A → S → Type 0) (Keeps : S → Type 0)
@@ -30,16 +30,16 @@ kept_runs answers other Keeps each s t (q ∷ asked) (a ∷ given) keeps run =
 
 -- A desk, whether it is open, its limits, and the records that stand in it; who signs, and what the clock told.
 module _ {S : Type 0} (is_clean : S → Type 0) (stands : OfficeSigners → S → Records → Type 0) (is_open : S → Bool) (admission_of : S → Admission)
-    (signs : Signs) (signer_answered : List ℕ → List ℕ → List ℕ → Type 0) (socket : Option (List ℕ)) (told : ℕ → Type 0) where
+    (signs : Signs) (signer_answered : List ℕ → List ℕ → List ℕ → Type 0) (socket : Option (List ℕ)) (clock : ℕ → Type 0) where
   -- what it answers, tells and looks at
   abbrev AnswersOf : S → List ℕ → Outcome Unsigned → S → Type 0
   AnswersOf s came outcome t = (is_open t ≡ is_open s) × Leads is_clean stands
       (λ signers before after. Meets (FinishesUnsigned (AnsweredAtSomePath signer_answered))
-      (λ text. AnswersBy (is_open s) signs told (admission_of s) (admission_of t) signers before came text after) outcome) s t
+      (λ text. AnswersBy (is_open s) signs clock (admission_of s) (admission_of t) signers before came text after) outcome) s t
 
-  abbrev TellsOf : S → List ℕ → List ℕ → S → Type 0
-  TellsOf s came text t = IsTrue (is_open s) × IsTrue (is_open t) × IsAdmissionAfter came (admission_of s) (admission_of t)
-      × Leads is_clean stands (λ signers before after. AnswersLinesByClock (admission_of s).accepted signs told signers before came text after) s t
+  abbrev AnswersLinesOf : S → List ℕ → List ℕ → S → Type 0
+  AnswersLinesOf s came text t = IsTrue (is_open s) × IsTrue (is_open t) × IsAdmissionAfter came (admission_of s) (admission_of t)
+      × Leads is_clean stands (λ signers before after. AnswersLinesByClock (admission_of s).accepted signs clock signers before came text after) s t
 
   abbrev DefersOf : S → List ℕ → S → Type 0
   DefersOf s came t = (is_open t ≡ is_open s) × (admission_of t ≡ admission_of s) × Leads is_clean stands (λ signers before after. after ≡ before) s t
@@ -50,7 +50,7 @@ module _ {S : Type 0} (is_clean : S → Type 0) (stands : OfficeSigners → S �
 
   -- the same over the records and limits of one that is open, or is not
   abbrev Handled : Bool → OfficeSigners → DeskState → Input → Outcome Unsigned → DeskState → Type 0
-  Handled now_open signers = Handles (Exchanging now_open signs (AnsweredAtPath signer_answered socket) told signers) (AnswersControlLines now_open signs told signers) StateStays
+  Handled now_open signers = Handles (Exchanging now_open signs (AnsweredAtPath signer_answered socket) clock signers) (AnswersControlLines now_open signs clock signers) StateStays
 
   abbrev Moves : Bool → S → Input → Outcome Unsigned → S → Type 0
   Moves now_open s input outcome t = Leads is_clean Stands (λ signers before after. Handled now_open signers before input outcome after) s t
@@ -68,23 +68,23 @@ module _ {S : Type 0} (is_clean : S → Type 0) (stands : OfficeSigners → S �
   )
 
   step_moves : (now_open : Bool) (s : S) (input : Input) (outcome : Outcome Unsigned) (t : S) → is_open s ≡ now_open
-      → Handles AnswersOf TellsOf DefersOf s input outcome t → Moves now_open s input outcome t × (is_open t ≡ now_open)
+      → Handles AnswersOf AnswersLinesOf DefersOf s input outcome t → Moves now_open s input outcome t × (is_open t ≡ now_open)
   step_moves now_open s (request came) outcome t is step =
       let P : Bool → Type 0 = λ b. Leads is_clean stands
       (λ signers before after. Meets (FinishesUnsigned (AnsweredAtSomePath signer_answered))
-      (λ text. AnswersBy b signs told (admission_of s) (admission_of t) signers before came text after) outcome) s t in (
+      (λ text. AnswersBy b signs clock (admission_of s) (admission_of t) signers before came text after) outcome) s t in (
         with_limits
             (λ signers before after. Meets (FinishesUnsigned (AnsweredAtPath signer_answered socket))
-            (λ text. AnswersBy now_open signs told (admission_of s) (admission_of t) signers before came text after) outcome)
-            (λ signers before after. Exchanging now_open signs (AnsweredAtPath signer_answered socket) told signers before came outcome after)
+            (λ text. AnswersBy now_open signs clock (admission_of s) (admission_of t) signers before came text after) outcome)
+            (λ signers before after. Exchanging now_open signs (AnsweredAtPath signer_answered socket) clock signers before came outcome after)
             s t (λ signers before after answered. answered)
-            (told_moves is_clean stands s t signer_answered socket
-            (λ signers before after text. AnswersBy now_open signs told (admission_of s) (admission_of t) signers before came text after) outcome (subst P is step.1)),
+            (path_moves is_clean stands s t signer_answered socket
+            (λ signers before after text. AnswersBy now_open signs clock (admission_of s) (admission_of t) signers before came text after) outcome (subst P is step.1)),
         step.0 ∙ is,
       )
   step_moves now_open s (lines came) (said text) t is step = (
-    with_limits (λ signers before after. AnswersLinesByClock (admission_of s).accepted signs told signers before came text after)
-        (λ signers before after. AnswersControlLines now_open signs told signers before came text after)
+    with_limits (λ signers before after. AnswersLinesByClock (admission_of s).accepted signs clock signers before came text after)
+        (λ signers before after. AnswersControlLines now_open signs clock signers before came text after)
         s t (λ signers before after word. (sym is ∙ step.0, step.2, word)) step.3,
     step.1 ∙ sym step.0 ∙ is,
   )
@@ -97,11 +97,11 @@ module _ {S : Type 0} (is_clean : S → Type 0) (stands : OfficeSigners → S �
 
   -- the records and limits of a desk, from what it starts with
   pub desk_moves : (now_open : Bool) (s t : S) (inputs : List Input) (outcomes : List (Outcome Unsigned)) → is_open s ≡ now_open
-      → admission_of s ≡ first_admission → Answered (Handles AnswersOf TellsOf DefersOf) s inputs outcomes t
-      → Leads is_clean stands (Serves now_open signs (AnsweredAtPath signer_answered socket) told inputs outcomes) s t
+      → admission_of s ≡ first_admission → Answered (Handles AnswersOf AnswersLinesOf DefersOf) s inputs outcomes t
+      → Leads is_clean stands (Serves now_open signs (AnsweredAtPath signer_answered socket) clock inputs outcomes) s t
   desk_moves now_open s t inputs outcomes is starts ran =
       let moved = runs is_clean Stands (Moves now_open) (Handled now_open) (λ s input outcome t moved. moved) s t inputs outcomes
-      (kept_runs (Handles AnswersOf TellsOf DefersOf) (Moves now_open) (λ s. is_open s ≡ now_open) (step_moves now_open) s t inputs outcomes is ran) in (
+      (kept_runs (Handles AnswersOf AnswersLinesOf DefersOf) (Moves now_open) (λ s. is_open s ≡ now_open) (step_moves now_open) s t inputs outcomes is ran) in (
         moved.0,
         (λ signers before stood clean.
             let (after, made, stands_now) = moved.1 signers (before, first_admission) (stood, sym starts) clean in

@@ -43,9 +43,9 @@ module _ (task : RowTask) (input : Option (List ℕ)) (s : Link) (out : Option (
   pub rows_go_on : (input' input'' : Option (List ℕ)) (m t : Link) (out' out'' : Option (List ℕ)) (line : List ℕ) (before done after : Bool)
       → RowsSoFar input' m out' before → IsWholeLine line → Consumes input' input'' line → LineReplied task m t out' out'' line done
       → IsTrue after ↔ (IsTrue before × IsTrue done) → RowsSoFar input'' t out'' after
-  rows_go_on input' input'' m t out' out'' line before done after so whole took told both =
+  rows_go_on input' input'' m t out' out'' line before done after so whole took exchanged both =
       let (lines, replies, answered, read, all) = so in
-      let (reply, step, wrote, is) = told in
+      let (reply, step, wrote, is) = exchanged in
       let push = all_push IsRowDone replies reply in (
         lines ++ line ∷ [],
         replies ++ reply ∷ [],

@@ -11,10 +11,10 @@ use Rattle.reg_desk_jobs.specs.Serving.{Served, Unbound, listening}
 use Rattle.reg_desk_service.specs.FailureReports.{IsReportedLine, IsWritten}
 
 -- a line, and then its end
-pub told : (old middle new : Option (List ℕ)) (line : List ℕ) → Appends old middle line → IsWritten middle new (10 ∷ [])
+pub line_and_lf : (old middle new : Option (List ℕ)) (line : List ℕ) → Appends old middle line → IsWritten middle new (10 ∷ [])
     → IsReportedLine old new line
-told old middle new line first (inl second) = inl (Appends-trans old middle new line (10 ∷ []) first second)
-told old middle new line first (inr front) = inr (front_of_second old middle new line (10 ∷ []) first front)
+line_and_lf old middle new line first (inl second) = inl (Appends-trans old middle new line (10 ∷ []) first second)
+line_and_lf old middle new line first (inr front) = inr (front_of_second old middle new line (10 ∷ []) first front)
 
 -- a second part is said, after the first
 pub says_then : (head body : List ℕ) (old middle new : Option (List ℕ)) (result : Result (Unit {0}) Failure)

@@ -73,7 +73,7 @@ PassesReplies incoming incoming' out out' count accepted =
 pub record ExchangedLines (sent sent' incoming incoming' out out' : Option (List ℕ))
     (lines replies : List (List ℕ)) : Type 0 where
   pub whole : AreWhole lines
-  pub told : Appends sent sent' (concat lines)
+  pub lines_sent : Appends sent sent' (concat lines)
   pub received : Consumes incoming incoming' (concat replies)
   pub said : Appends out out' (concat replies)
   pub each : length replies ≡ length lines

@@ -112,7 +112,7 @@ ReportsAuditResult contents writer writer' audit_result.Older result =
 
 -- the given moment, or else one that the clock has reached
 abbrev pub IsMomentOf : (ℕ → Type 0) → Option ℕ → ℕ → Type 0
-IsMomentOf clock (Some told) now = now ≡ told
+IsMomentOf clock (Some given) now = now ≡ given
 IsMomentOf clock None now = clock now
 
 -- the terms of the policy of a register that is to be created
@@ -397,4 +397,4 @@ module _ {M O D S R E W : Type 0} (machines : Machine M O D S R) (offices : Offi
     pub ending : Result (Unit {0}) Failure
     pub ends : Ends job ending
     pub exits : status ≡ exit_status ending
-    pub told : Explains is_why_asked ending errors errors'
+    pub explains : Explains is_why_asked ending errors errors'

@@ -40,13 +40,13 @@ pub issued_is : (t0 t1 t2 t3 t4 : List ℕ) (now : ℕ) (crl : CrlRow) (life at 
 unfolding issued_text
 issued_is t0 t1 t2 t3 t4 now crl life at next age one two three four at_is next_is age_is =
     parts_4 t0 t1 t2 t3 t4 (sample CRL_NUMBER.now crl.number) (sample THIS_UPDATE.now at) (sample NEXT_UPDATE.now next) (sample CRL_AGE.now age) one two three four
-    ∙ (λ i. t0 ++ (((sample CRL_NUMBER.now crl.number ++ sample THIS_UPDATE.now (at_is i)) ++ sample NEXT_UPDATE.now (next_told i)) ++ sample CRL_AGE.now (age_told i)))
+    ∙ (λ i. t0 ++ (((sample CRL_NUMBER.now crl.number ++ sample THIS_UPDATE.now (at_is i)) ++ sample NEXT_UPDATE.now (next_by_crl i)) ++ sample CRL_AGE.now (age_by_crl i)))
   where
-    next_told : next ≡ min (crl.this_update + life) greatest
-    next_told = next_is ∙ ap (λ (it : ℕ). min (it + life) greatest) at_is
+    next_by_crl : next ≡ min (crl.this_update + life) greatest
+    next_by_crl = next_is ∙ ap (λ (it : ℕ). min (it + life) greatest) at_is
 
-    age_told : age ≡ now - crl.this_update
-    age_told = age_is ∙ ap (λ (it : ℕ). now - it) at_is
+    age_by_crl : age ≡ now - crl.this_update
+    age_by_crl = age_is ∙ ap (λ (it : ℕ). now - it) at_is
 
 -- ---- answers
 

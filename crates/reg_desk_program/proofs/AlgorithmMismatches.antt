@@ -11,12 +11,12 @@ pub of_found : (crl found algorithm : List ℕ) (result : Option Cause)
     → ((other : List ℕ) → IsCrlWithAlgorithm crl other → found ≡ other)
     → MatchOption result (MayFollow algorithm found) (Differs found algorithm)
     → MatchOption result ((other : List ℕ) → IsCrlWithAlgorithm crl other → MayFollow algorithm other) (IsMismatch crl algorithm)
-of_found crl found algorithm None told follows = λ other under.
+of_found crl found algorithm None read follows = λ other under.
     let P : List ℕ → Type 0 = λ b. MayFollow algorithm b in
-    subst P (told other under) follows
-of_found crl found algorithm (Some cause) told differs = λ other under.
+    subst P (read other under) follows
+of_found crl found algorithm (Some cause) read differs = λ other under.
     let P : List ℕ → Type 0 = λ b. Differs b algorithm cause in
-    subst P (told other under) differs
+    subst P (read other under) differs
 
 -- by the algorithm that was found in the latest CRL
 pub of_latest : (latest : Option (List ℕ)) (crl algorithm : List ℕ) (result : Option Cause) → latest ≡ Some crl

@@ -24,14 +24,14 @@ use Rattle.reg_desk_cli.specs.declared.job.SignerAddress.{SignerAddress}
 -- A store before its latest CRL was looked up, after that, and after its issuer was looked up.
 module _ {C : Type 0} (g : Ghosts C) (old between new : Held C) (answers : Identity → Responder) (identity : Identity) where
   -- a signer that fits the issuer and the latest CRL fits the register
-  pub signs_for : (crls : CrlSignerChoice) (told : Option SignerAddress) (last : Option (List ℕ))
-      → ((key : List ℕ) (signers : Identity) → signers ≡ identity_of_signer told key → IsSigning crls key signers)
+  pub signs_for : (crls : CrlSignerChoice) (address : Option SignerAddress) (last : Option (List ℕ))
+      → ((key : List ℕ) (signers : Identity) → signers ≡ identity_of_signer address key → IsSigning crls key signers)
       → Looked g old between → Looked g between new
       → ((records : Records) → Shows g old records → SoundRows records → HasCleanDisk (state g between)
       → last ≡ option_map (λ crl. crl.bytes) (latest records.crls))
-      → FitsLatest g between new answers identity told last → FitsRegister g old new answers identity crls
-  signs_for crls told last as_told first second found it = record {
-    told = λ records shown clean. as_told records.issuer.key identity (it.told records (looked_shows first records shown) clean);
+      → FitsLatest g between new answers identity address last → FitsRegister g old new answers identity crls
+  signs_for crls address last signing first second found it = record {
+    is_signing = λ records shown clean. signing records.issuer.key identity (it.identity_is records (looked_shows first records shown) clean);
     follows = λ records shown sound clean crl is other under.
         it.follows crl.bytes
         (found records shown sound (was_clean (state g between) (state g new) second.survives.clean clean)

@@ -62,7 +62,7 @@ module _ {C : Type 0} (g : Ghosts C) (connection : Held C) where
     pub migrated : (version : OlderVersion) (records : Records) → ShowsOlder version g connection records
         → SoundRows records → ShowsKept g register records
     pub clean : doubt (state g connection).is_clean ≤ doubt (state g register).is_clean
-    pub told : (records : Records) → Showed g connection records → HasCleanDisk (state g register)
+    pub is_signing : (records : Records) → Showed g connection records → HasCleanDisk (state g register)
         → IsSigning signing records.issuer.key signers.crls
     pub follows : (records : Records) → Showed g connection records → SoundRows records
         → HasCleanDisk (state g register)
@@ -123,7 +123,7 @@ pub record Says {D : Type 0} {g : disk.Ghosts D} (connection after : Held (FileS
   pub broken : (records : Records) (columns : DerivedRows) → ShowsBoth over_files connection records columns
       → HasCleanDisk (file_state after)
       → DisprovedBy audit_result records columns
-  pub tells : HasCleanDisk (file_state after) → ReportsTables audit_result (file_state connection).now
+  pub reports_tables : HasCleanDisk (file_state after) → ReportsTables audit_result (file_state connection).now
   pub register : IsSound audit_result → IsRegister (file_state after)
   pub stays : Stays (file_state connection) (file_state after)
 

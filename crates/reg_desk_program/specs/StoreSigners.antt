@@ -26,7 +26,7 @@ module _ {C : Type 0} (g : Ghosts C) (old new : Held C) (answers : Identity → 
   -- The signer is the one at this address, with the issuer's key, or the digest; a CRL with its algorithm may follow the latest CRL; and the
   -- responder's certificate, if the issuer's key signs its responses, has that key.
   pub record FitsLatest (address : Option SignerAddress) (latest : Option (List ℕ)) : Type 0 where
-    pub told : (records : Records) → Shows g old records → HasCleanDisk (state g new)
+    pub identity_is : (records : Records) → Shows g old records → HasCleanDisk (state g new)
         → identity ≡ identity_of_signer address records.issuer.key
     pub follows : (crl : List ℕ) → latest ≡ Some crl → (other : List ℕ) → IsCrlWithAlgorithm crl other
         → MayFollow identity.algorithm other
@@ -35,7 +35,7 @@ module _ {C : Type 0} (g : Ghosts C) (old new : Held C) (answers : Identity → 
 
   -- the same for the signer with which the register is opened, and the latest CRL of the records
   pub record FitsRegister (crls : CrlSignerChoice) : Type 0 where
-    pub told : (records : Records) → Shows g old records → HasCleanDisk (state g new)
+    pub is_signing : (records : Records) → Shows g old records → HasCleanDisk (state g new)
         → IsSigning crls records.issuer.key identity
     pub follows : (records : Records) → Shows g old records → SoundRows records → HasCleanDisk (state g new)
         → Follows records identity.algorithm

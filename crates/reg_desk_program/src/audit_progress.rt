@@ -1,6 +1,6 @@
 //! Shows the progress of an audit on standard error.
 
-use crate::host::Host;
+use crate::host::SystemHost;
 use crate::progress::seconds;
 use reg_audit::ProgressObserver;
 
@@ -16,7 +16,7 @@ pub(crate) struct AuditProgress {
 }
 
 impl AuditProgress {
-    pub(crate) fn of(host: &Host<'_>) -> AuditProgress {
+    pub(crate) fn of(host: &SystemHost<'_>) -> AuditProgress {
         AuditProgress {
             rt: host.rt,
             shows_progress: host.shows_progress,

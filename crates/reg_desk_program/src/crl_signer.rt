@@ -19,7 +19,7 @@ ghost use Rattle.reg_desk_cli.specs.declared.job.SignerAddress.{SignerAddress};
 ghost use Rattle.reg_store_tables.specs.Stays.{Looked};
 
 use crate::file_office::{FileDevice, FileSigner};
-use crate::host::Host;
+use crate::host::SystemHost;
 use crate::ocsp_responder::embedded_key_fits;
 use reg_core::{Cause, Fault};
 use reg_crl::{DigestSeal, Signer};
@@ -39,7 +39,7 @@ use sqlite::Alter;
 /// host, if the issuer's key does not fit the algorithm, or if no CRL with that algorithm may follow the latest one; `Memory`; `Store`.
 #[tactic(auto, using(crate::proofs::Missing::opens_faulty))]
 pub(crate) fn signer_for<C: Alter>(
-    host: &Host<'_>,
+    host: &SystemHost<'_>,
     tables: &mut Tables<C>,
     crls: &CrlSignerChoice<'_>,
     responder: &Responder<FileSigner>,
@@ -67,7 +67,7 @@ pub(crate) fn signer_for<C: Alter>(
 }
 
 fn signer_without_process<C: Alter>(
-    host: &Host<'_>,
+    host: &SystemHost<'_>,
     tables: &mut Tables<C>,
     latest: &Option<Vec<u8>>,
     responder: &Responder<FileSigner>,
@@ -102,7 +102,7 @@ fn unreachable_address(latest: &Option<Vec<u8>>) -> Option<SignerAddress<'static
 /// The signer at an address (`None`: the placeholder digest), if it fits the issuer's key and the CRL `latest`. Errors: those of [`signer_for`].
 #[tactic(auto, using(crate::proofs::Missing::opens_faulty))]
 fn signer_after<C: Alter>(
-    host: &Host<'_>,
+    host: &SystemHost<'_>,
     tables: &mut Tables<C>,
     latest: &Option<Vec<u8>>,
     address: Option<&SignerAddress<'_>>,
@@ -134,7 +134,7 @@ fn signer_after<C: Alter>(
 
 /// The signer at an address (`None`: the placeholder digest), not asked yet. `BadSigner` (cause kept) if the issuer's `key` doesn't fit; `Memory`.
 fn open_signer(
-    host: &Host<'_>,
+    host: &SystemHost<'_>,
     address: Option<&SignerAddress<'_>>,
     key: &[u8],
 ) -> Result<FileSigner, Failure>

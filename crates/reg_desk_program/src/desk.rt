@@ -1,7 +1,7 @@
 //! Runs an invocation of the program: opens its input, output and log, and has its job done.
 
 use crate::dispatch::perform_without_contract;
-use crate::host::{Host, open_log};
+use crate::host::{SystemHost, open_log};
 use crate::input::{Input, input_path};
 use crate::progress::{CountedOutput, register_path_of, report_opening};
 use reg_core::{Fault, create_cause_of, io_cause_of};
@@ -32,7 +32,7 @@ pub fn run_desk(rt: &HostRuntime, invocation: &Invocation<'_>) -> u8 {
     };
     let last_cause = Cell::new(None);
     let mut errors = rt.stderr();
-    let mut host = Host {
+    let mut host = SystemHost {
         rt: *rt,
         last_cause: &last_cause,
         logs_to_stderr: invocation.has_log,

@@ -5,7 +5,7 @@ ghost use Rattle.reg_desk_service.specs.RegisterFailures.{IsOpenFailure};
 ghost use Rattle.reg_desk_program.specs.Files.{IsAudited, IsConnection};
 
 use crate::audit_progress::AuditProgress;
-use crate::host::Host;
+use crate::host::SystemHost;
 use reg_audit::judge;
 use reg_audit_rows::AuditResult;
 use reg_desk_cli::Failure;
@@ -14,7 +14,7 @@ use sqlite_disk::Disk;
 
 /// Audits the register of a database, and then drops the connection. Shows the progress if `host.shows_progress` is `true`.
 pub(crate) fn audit_over<D: Disk + Drop>(
-    host: &Host<'_>,
+    host: &SystemHost<'_>,
     connection: Connection<FileStore<D>>,
 ) -> Result<AuditResult, Failure>
     requires idle { connection.in_transaction ≡ false }

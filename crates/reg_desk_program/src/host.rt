@@ -23,7 +23,7 @@ use reg_crl_signer::{PresetSignature, RegisterSigner, SignatureRequest};
 use reg_der::Issuer;
 use reg_desk_cli::{Failure, ResponderChoice};
 use reg_desk_files::{
-    ClaimFault, FileFault, Overlay, ReadAt, ReadFailure, ReadFile, Sources, check_database,
+    ClaimFault, FileFault, Overlay, ReadAt, ReadFailure, ReadFile, SourceFiles, check_database,
     claim_file, copy_closed, copy_open, open_file, open_sources, read_at, remove_file,
 };
 use reg_desk_server::as_would_block;
@@ -53,7 +53,7 @@ const LOCK_PAUSE_MILLIS: u64 = 5;
 
 /// The machine of the program: its files, clock, TCP ports and Unix sockets. Keeps the last failure's cause (`None`: unknown), for `--why`.
 #[derive(Clone, Copy)]
-pub struct Host<'a> {
+pub struct SystemHost<'a> {
     /// Each library call that uses the system takes it.
     pub(crate) rt: HostRuntime,
     pub(crate) last_cause: &'a Cell<Option<FailureCause>>,
@@ -63,11 +63,11 @@ pub struct Host<'a> {
     pub(crate) shows_progress: bool,
 }
 
-impl<'a> Host<'a> {
+impl<'a> SystemHost<'a> {
     /// The failure for unreadable files: `NotARegister` if there is no database yet, else the fault. `location`: the argument that has their path.
     pub(crate) fn failure_of(&self, location: Option<Location>, why: ReadFailure) -> Failure
         requires { IsReadFailureOfFiles why }
-        ensures told { result ≡ failure_of why }
+        ensures value { result ≡ failure_of why }
         ensures opening { IsOpenFailure result }
         ensures reading { IsReadFailure result }
     {
@@ -112,7 +112,7 @@ impl<'a> Host<'a> {
 /// [`Machine`] describes the methods and their arguments. Most make one library call. No clause can state what that call did outside the program, so
 /// the method's relation states nothing here (`Unspecified`). Only `fresh`, `certified`, `opened`, `made` and `audited` state what the program itself
 /// did. `not_waited` and `answer_in_form_signs` are proofs. No code uses an argument `lock`: contracts name it, as the lock that the caller holds.
-impl<'a> Machine for Host<'a> {
+impl<'a> Machine for SystemHost<'a> {
     ghost use Rattle.std.specs.Prelude.{false};
     ghost use Rattle.std.proofs.Common.{inr, refl};
     ghost use Rattle.sqlite.specs.Files.{over_files};
@@ -126,7 +126,7 @@ impl<'a> Machine for Host<'a> {
 
     type Database = FileConnection;
 
-    type Sources = Sources<ReadFile>;
+    type Sources = SourceFiles<ReadFile>;
 
     type Responder = Responder<FileSigner>;
 
@@ -277,14 +277,14 @@ impl<'a> Machine for Host<'a> {
         close(connection_of(office.office));
     }
 
-    fn read(&self, path: &str) -> Result<Sources<ReadFile>, Failure> {
+    fn read(&self, path: &str) -> Result<SourceFiles<ReadFile>, Failure> {
         match read_at(&self.rt, path) {
             Ok(sources) => Ok(sources),
             Err(why) => Err(Failure::Fault(self.fault_of(Some(Location::File), why))),
         }
     }
 
-    fn audit_in(&self, sources: Sources<ReadFile>) -> Result<AuditResult, Failure> {
+    fn audit_in(&self, sources: SourceFiles<ReadFile>) -> Result<AuditResult, Failure> {
         match open_sources(self.rt.alloc(), sources) {
             Ok(connection) => audit_over(self, connection),
             Err(why) => Err(self.failure_of(Some(Location::File), why)),

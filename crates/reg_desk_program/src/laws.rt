@@ -9,12 +9,12 @@ use reg_crl::Signer;
 use reg_crl_signer::Device;
 use sqlite_disk::Disk;
 
-/// If [`Machine::audit_in`](reg_desk_service::Machine::audit_in) of the [`Host`](crate::Host) returned `Sound`, the file's tables show sound records,
-/// and the derived tables (states, counts, CRL entries) agree with them. If an office opens the file with these tables, the records stand in it
-/// (`Stands`: its tables show them, and they are sound): the contracts and laws of [`reg_office`] hold for them. The law assumes (`IsPresumed`) what
-/// no audit can check: each row of the table `listed` stores its last column (else it reads as NULL), and no call left the connection's transaction
-/// broken. It also assumes that the signer signed the stored CRLs (the first ones may have a placeholder digest instead), because an audit verifies
-/// no signature. The disks (`A` of the audit, `D` of the office) must have returned what was written.
+/// If [`Machine::audit_in`](reg_desk_service::Machine::audit_in) of the [`SystemHost`](crate::SystemHost) returned `Sound`, the file's tables show
+/// sound records, and the derived tables (states, counts, CRL entries) agree with them. If an office opens the file with these tables, the records
+/// stand in it (`Stands`: its tables show them, and they are sound): the contracts and laws of [`reg_office`] hold for them. The law assumes
+/// (`IsPresumed`) what no audit can check: each row of the table `listed` stores its last column (else it reads as NULL), and no call left the
+/// connection's transaction broken. It also assumes that the signer signed the stored CRLs (the first ones may have a placeholder digest instead),
+/// because an audit verifies no signature. The disks (`A` of the audit, `D` of the office) must have returned what was written.
 pub fn a_register_that_was_found_sound_stands<A: Disk, D: Disk, S: Signer>()
     ensures { (found : FoundSound A.Disk) → StandsOnceAudited D.Disk S.signs found }
 {}

@@ -18,5 +18,5 @@ mod progress;
 pub use desk::run_desk;
 pub use dispatch::perform;
 pub use file_office::{FileDevice, FileOffice, FileSigner};
-pub use host::Host;
+pub use host::SystemHost;
 pub use offices::FileConnection;

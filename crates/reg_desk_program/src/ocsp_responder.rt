@@ -9,7 +9,7 @@ ghost use Rattle.reg_desk_cli.specs.declared.job.ResponderChoice.TheVariants.{Is
 
 use crate::crl_signer::key_signer;
 use crate::file_office::FileSigner;
-use crate::host::Host;
+use crate::host::SystemHost;
 use reg_core::{Fault, io_cause_of};
 use reg_crl::Signer;
 use reg_crl_signer::is_key_algorithm_identifier;
@@ -23,7 +23,7 @@ use std::io::ErrorKind;
 /// The issuer as responder: the signer of CRLs signs responses too. `path` (`--embed`): the file of a certificate that each signed response embeds.
 /// Errors: those of [`certificate_at`].
 pub(crate) fn issuer_responder(
-    host: &Host<'_>,
+    host: &SystemHost<'_>,
     path: &Option<Argument<'_>>,
 ) -> Result<Responder<FileSigner>, Failure>
     ensures ok { IfOk result (λ responder.
@@ -44,7 +44,7 @@ pub(crate) fn issuer_responder(
 /// A responder with its own key: its certificate is in the file at `path` (RFC 6960 4.2.2.2), and its signer is at `address`. Errors: those of
 /// [`certificate_at`]; `BadResponder` also if the certificate's key does not fit the signer's algorithm.
 pub(crate) fn delegate_responder(
-    host: &Host<'_>,
+    host: &SystemHost<'_>,
     path: &Argument<'_>,
     address: &SignerAddress<'_>,
 ) -> Result<Responder<FileSigner>, Failure>
@@ -70,7 +70,11 @@ pub(crate) fn delegate_responder(
 }
 
 /// Reads a certificate in DER; the option `location` names its file. `BadResponder` if invalid, or unreadable (the host keeps the cause); `Memory`.
-fn certificate_at(host: &Host<'_>, location: Location, path: &str) -> Result<Certificate, Failure>
+fn certificate_at(
+    host: &SystemHost<'_>,
+    location: Location,
+    path: &str,
+) -> Result<Certificate, Failure>
     ensures { IfErr result (λ why. (why ≡ Failure.Fault Fault.Memory) ⊎ (why ≡ Failure.BadResponder)) }
 {
     let der = match fs::read(&host.rt, path) {

@@ -10,7 +10,7 @@ ghost use Rattle.reg_desk_program.specs.Files.{MakesOver, OpensOver};
 
 use crate::crl_signer::signer_for;
 use crate::file_office::FileSigner;
-use crate::host::Host;
+use crate::host::SystemHost;
 use reg_core::Policy;
 use reg_crl::Signer;
 use reg_crl_signer::PresetSignature;
@@ -50,7 +50,7 @@ pub(crate) fn create_over<C: Alter, S: Signer + Drop>(
 
 /// Opens the register in a database, and returns its office. Errors, with the connection: `NotARegister`, `NewVersion`, and those of [`signer_for`].
 pub(crate) fn open_over<C: Alter>(
-    host: &Host<'_>,
+    host: &SystemHost<'_>,
     connection: Connection<C>,
     crl_signer: &CrlSignerChoice<'_>,
     responder: Responder<FileSigner>,

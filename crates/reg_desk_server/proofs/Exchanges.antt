@@ -59,14 +59,14 @@ module _ {S T L : Type 0} (g : Ghosts S T L) where
   -- the first lines were answered, or none was
   pub handled_answering : {P : Type 0} (Ends : List ℕ → ℕ → Type 0) (s t : S) (answered : ℕ) (old new : ControlConnection P)
       → AnswersUpTo Ends g.answers_lines s t old new → Handled g s t answered answered
-  handled_answering Ends s t answered old new (inl told) = handled_line s t answered (take told.0 old.arrived.items) (unsent_of new.unsent) told.3
+  handled_answering Ends s t answered old new (inl line) = handled_line s t answered (take line.0 old.arrived.items) (unsent_of new.unsent) line.3
   handled_answering Ends s t answered old new (inr silent) = handled_none s t answered answered silent.1 refl
 
   -- the same, or the handler failed and did not change
-  pub handled_told : {P U E : Type 0} (Q : Type 0) (r : Result U E) (s t : S) (answered : ℕ) (old new : ControlConnection P)
+  pub handled_first : {P U E : Type 0} (Q : Type 0) (r : Result U E) (s t : S) (answered : ℕ) (old new : ControlConnection P)
       → OnOk r (AnswersFirstLines g.answers_lines s t old new) → OnErr r (Q × (t ≡ s)) → Handled g s t answered answered
-  handled_told Q (Ok u) s t answered old new told stopped = handled_answering EndsLine s t answered old new told
-  handled_told Q (Err e) s t answered old new told stopped = handled_none s t answered answered stopped.1 refl
+  handled_first Q (Ok u) s t answered old new line stopped = handled_answering EndsLine s t answered old new line
+  handled_first Q (Err e) s t answered old new line stopped = handled_none s t answered answered stopped.1 refl
 
   -- the first line was deferred, or none was
   pub handled_deferring : {P : Type 0} (s t : S) (answered : ℕ) (old : ControlConnection P) → DefersFirstLine g.defers s t old → Handled g s t answered answered
@@ -79,8 +79,8 @@ module _ {S T L : Type 0} (g : Ghosts S T L) where
   handled_deferring s t answered old (inr same) = handled_none s t answered answered same refl
 
   -- a deferred line was answered or deferred again; or the handler failed and did not change
-  pub handled_told_later : {P U E : Type 0} (Q : Type 0) (r : Result U E) (s t : S) (answered : ℕ) (old new : ControlConnection P)
+  pub handled_deferred : {P U E : Type 0} (Q : Type 0) (r : Result U E) (s t : S) (answered : ℕ) (old new : ControlConnection P)
       → OnOk r (AnswersDeferred g.answers_lines g.defers s t old new) → OnErr r (Q × (t ≡ s)) → Handled g s t answered answered
-  handled_told_later Q (Ok u) s t answered old new (inl told) stopped = handled_answering FirstLineEnds s t answered old new told
-  handled_told_later Q (Ok u) s t answered old new (inr looked) stopped = handled_deferring s t answered old looked.0
-  handled_told_later Q (Err e) s t answered old new told stopped = handled_none s t answered answered stopped.1 refl
+  handled_deferred Q (Ok u) s t answered old new (inl line) stopped = handled_answering FirstLineEnds s t answered old new line
+  handled_deferred Q (Ok u) s t answered old new (inr looked) stopped = handled_deferring s t answered old looked.0
+  handled_deferred Q (Err e) s t answered old new line stopped = handled_none s t answered answered stopped.1 refl

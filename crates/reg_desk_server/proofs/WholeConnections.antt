@@ -50,21 +50,21 @@ part_on gone went rest text parted = ap (λ (l : List ℕ). gone ++ l) parted �
 
 module _ {S H : Type 0} (contents remaining : S → Option (List ℕ)) (answers_lines : H → List ℕ → List ℕ → H → Type 0) where
   -- on a connection that was just accepted, no line was answered
-  pub told_none : (connection : ControlConnection S) → IsFresh connection → HasAnsweredLines contents remaining answers_lines connection.stream connection [] []
-  told_none connection fresh = record {
+  pub lines_answered_none : (connection : ControlConnection S) → IsFresh connection → HasAnsweredLines contents remaining answers_lines connection.stream connection [] []
+  lines_answered_none connection fresh = record {
     arrived = [];
     gone = [];
     lost = [];
     since = nothing_yet;
-    told = ap (λ (l : List ℕ). l ++ []) (sym fresh.0);
+    arrived_is = ap (λ (l : List ℕ). l ++ []) (sym fresh.0);
     answered = sym fresh.1;
     each = tt;
     whole = inl refl;
   }
 
   -- the connection was advanced
-  pub told_on : AnswersNoMoreLines contents remaining answers_lines
-  told_on first old new lines replies was step =
+  pub lines_answered_on : AnswersNoMoreLines contents remaining answers_lines
+  lines_answered_on first old new lines replies was step =
       let it = step.gathered in
       let (lost, front, whole) =
       lost_on (concat lines) old.arrived.items new.arrived.items was.lost it.kept it.lost old.has_ended new.has_ended was.whole it.held it.whole step.over in
@@ -76,26 +76,26 @@ module _ {S H : Type 0} (contents remaining : S → Option (List ℕ)) (answers_
             more_received was.arrived (was.gone ++ step.went) (it.kept ++ it.lost) step.between new.stream
             (more_sent was.arrived was.gone step.went old.stream step.between was.since step.appended)
             it.consumed;
-        told = ap (λ (l : List ℕ). l ++ (it.kept ++ it.lost)) was.told ∙ front;
+        arrived_is = ap (λ (l : List ℕ). l ++ (it.kept ++ it.lost)) was.arrived_is ∙ front;
         answered = was.answered ∙ part_on was.gone step.went (unsent_of new.unsent) (unsent_of old.unsent) step.parted;
         each = was.each;
         whole = whole;
       }
 
   -- the first lines were answered
-  told_more : (first : S) (s t : H) (old new : ControlConnection S) (lines replies : List (List ℕ)) (end : ℕ)
+  lines_answered_more : (first : S) (s t : H) (old new : ControlConnection S) (lines replies : List (List ℕ)) (end : ℕ)
       → HasAnsweredLines contents remaining answers_lines first old lines replies → SameStreamAndEnd old new → IsWholeLines (take end old.arrived.items)
       → unsent_of old.unsent ≡ [] → answers_lines s (take end old.arrived.items) (unsent_of new.unsent) t → new.arrived.items ≡ drop end old.arrived.items
       → HasAnsweredLines contents remaining answers_lines first new (lines ++ take end old.arrived.items ∷ []) (replies ++ unsent_of new.unsent ∷ [])
-  told_more first s t old new lines replies end was same mark none step rest =
+  lines_answered_more first s t old new lines replies end was same mark none step rest =
       let held = old.arrived.items in
       record {
         arrived = was.arrived;
         gone = was.gone;
         lost = was.lost;
         since = subst (SinceOpened contents remaining first was.arrived was.gone) (sym same.0) was.since;
-        told =
-            was.told
+        arrived_is =
+            was.arrived_is
             ∙ ap (λ (l : List ℕ). l ++ was.lost)
             (ap (λ (l : List ℕ). concat lines ++ l) (sym (take-append-drop end held))
             ∙ sym (append_assoc (concat lines) (take end held) (drop end held))
@@ -109,34 +109,34 @@ module _ {S H : Type 0} (contents remaining : S → Option (List ℕ)) (answers_
       }
 
   -- neither the kept bytes nor the unsent ones changed
-  told_same : (first : S) (old new : ControlConnection S) (lines replies : List (List ℕ)) → SameStreamAndEnd old new → SameLines old new
+  lines_answered_same : (first : S) (old new : ControlConnection S) (lines replies : List (List ℕ)) → SameStreamAndEnd old new → SameLines old new
       → HasAnsweredLines contents remaining answers_lines first old lines replies → HasAnsweredLines contents remaining answers_lines first new lines replies
-  told_same first old new lines replies same as_held was = record {
+  lines_answered_same first old new lines replies same as_held was = record {
     arrived = was.arrived;
     gone = was.gone;
     lost = was.lost;
     since = subst (SinceOpened contents remaining first was.arrived was.gone) (sym same.0) was.since;
-    told = was.told ∙ ap (λ (l : List ℕ). concat lines ++ l ++ was.lost) (sym as_held.0);
+    arrived_is = was.arrived_is ∙ ap (λ (l : List ℕ). concat lines ++ l ++ was.lost) (sym as_held.0);
     answered = was.answered ∙ ap (λ (l : List ℕ). was.gone ++ l) (sym as_held.1);
     each = was.each;
     whole = subst (λ (ended : Bool). (was.lost ≡ []) ⊎ (ended ≡ true)) (sym same.1) was.whole;
   }
 
   -- the first lines were answered, or none was
-  pub told_next : AnswersMoreLines contents remaining answers_lines (AnswersFirstLines answers_lines) (λ s t _. t ≡ s)
-  told_next first s t old new lines replies was same (inl (end, mark, none, step, rest)) =
-      inl (take end old.arrived.items, step, told_more first s t old new lines replies end was same mark.1 none step rest)
-  told_next first s t old new lines replies was same (inr (none, nothing, as_held)) =
-      inr (nothing, told_same first old new lines replies same as_held was)
+  pub lines_answered_next : AnswersMoreLines contents remaining answers_lines (AnswersFirstLines answers_lines) (λ s t _. t ≡ s)
+  lines_answered_next first s t old new lines replies was same (inl (end, mark, none, step, rest)) =
+      inl (take end old.arrived.items, step, lines_answered_more first s t old new lines replies end was same mark.1 none step rest)
+  lines_answered_next first s t old new lines replies was same (inr (none, nothing, as_held)) =
+      inr (nothing, lines_answered_same first old new lines replies same as_held was)
 
   -- a deferred line was answered, or deferred again
-  pub told_later : (defers : H → List ℕ → H → Type 0) → AnswersMoreLines contents remaining answers_lines (AnswersDeferred answers_lines defers) (DefersFirstLine defers)
-  told_later defers first s t old new lines replies was same (inl (inl (end, mark, none, step, rest))) =
-      inl (take end old.arrived.items, step, told_more first s t old new lines replies end was same mark.here none step rest)
-  told_later defers first s t old new lines replies was same (inl (inr (none, nothing, as_held))) =
-      inr (inr nothing, told_same first old new lines replies same as_held was)
-  told_later defers first s t old new lines replies was same (inr (looked, as_held)) =
-      inr (looked, told_same first old new lines replies same as_held was)
+  pub lines_answered_later : (defers : H → List ℕ → H → Type 0) → AnswersMoreLines contents remaining answers_lines (AnswersDeferred answers_lines defers) (DefersFirstLine defers)
+  lines_answered_later defers first s t old new lines replies was same (inl (inl (end, mark, none, step, rest))) =
+      inl (take end old.arrived.items, step, lines_answered_more first s t old new lines replies end was same mark.here none step rest)
+  lines_answered_later defers first s t old new lines replies was same (inl (inr (none, nothing, as_held))) =
+      inr (inr nothing, lines_answered_same first old new lines replies same as_held was)
+  lines_answered_later defers first s t old new lines replies was same (inr (looked, as_held)) =
+      inr (looked, lines_answered_same first old new lines replies same as_held was)
 
 -- an answer that the handler finishes in this state is finished in some state
 pub finishes_once : {H T : Type 0} (finishes : H → T → List ℕ → Type 0) (s : H) (before after : Stage T)

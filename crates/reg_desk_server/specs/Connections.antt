@@ -32,7 +32,7 @@ module _ {S H : Type 0} (contents remaining : S → Option (List ℕ))
     pub gone : List ℕ
     pub lost : List ℕ
     pub since : SinceOpened contents remaining first arrived gone connection.stream
-    pub told : arrived ≡ concat lines ++ connection.arrived.items ++ lost
+    pub arrived_is : arrived ≡ concat lines ++ connection.arrived.items ++ lost
     pub answered : concat replies ≡ gone ++ unsent_of connection.unsent
     pub each : AllZip (IsAnsweredBy answers_lines) lines replies
     pub whole : (lost ≡ []) ⊎ (connection.has_ended ≡ true)

@@ -58,8 +58,8 @@ impl Acceptor {
     }
 
     /// Accepts connections until `limit` were accepted in all; at most [`MOST_ACCEPTS`] in one call. `now`: milliseconds of the handler's clock.
-    /// Evicts a connection if no slot is free, or if accept(2) fails while one is expected (not if a signal came, the client is gone or none waits).
-    /// If there is none to evict: after a lack of descriptors the next call tries again; any other error is an [`EventLoopFault`].
+    /// Evicts an open connection if no slot is free, or if accept(2) fails while a new one is expected (but not if a signal came, the client is gone
+    /// or no client waits). If none is open: after a lack of descriptors, the next call tries again; after any other such error, [`EventLoopFault`].
     pub(crate) fn accept_all<H: Handler>(
         &mut self,
         limit: u64,

@@ -34,7 +34,7 @@ pub struct ControlConnection<S: ClientStream> {
     /// The bytes that came and were not answered yet.
     pub(crate) arrived: Vec<u8>,
     pub(crate) unsent: Unsent,
-    /// Whether nothing more is received: the client has half-closed, a read failed, or there was no memory for what came (`fault` is then `Memory`).
+    /// Whether nothing more is received: the client has half-closed, a read failed, or there was no memory for what came (only this sets `fault`).
     pub(crate) has_ended: bool,
     pub(crate) fault: Option<ConnectionFault>,
     pub(crate) is_registered: bool,
@@ -235,7 +235,7 @@ impl<S: ClientStream> ControlConnection<S> {
         }
     }
 
-    /// Answers the first line, which was deferred, with the signature that `request` got, or without one. If there is no reply, the line stays due.
+    /// Answers the first line, which was deferred, with the signature of `request`, or without one. If another is needed by now, the line stays due.
     pub fn answer_deferred<H: Handler>(
         &mut self,
         handler: &mut H,

@@ -32,7 +32,7 @@ pub(crate) struct ControlConnections<H: Handler> {
     pub(crate) lacks_descriptors: bool,
     /// Whether a connection may have a whole line without a reply.
     has_lines: bool,
-    /// The slot that is answered first (modulo the number of slots): the one after the last line that waited for a signature. So all get a turn.
+    /// The slot that is answered first (modulo the number of slots): the one after that whose line last waited for a signature. So all get a turn.
     first_slot: usize,
 }
 
@@ -76,7 +76,7 @@ impl<H: Handler> ControlConnections<H> {
         }
     }
 
-    /// At the end of the loop: forgets that lines came, so that the loop can block, and closes the connection whose line waits for a signature.
+    /// While the last HTTP answers are sent: forgets lines that came, so that the next poll blocks, and closes the connection of a waiting line.
     pub(crate) fn stop(&mut self) {
         self.has_lines = false;
         self.waiting = None;
@@ -151,6 +151,7 @@ impl<H: Handler> ControlConnections<H> {
                     self.close_lost(slot, connection, shared, why);
                 }
             }
+            // Only HTTP connections are parked.
             NextStep::Park => self.slots.put(slot, connection),
             NextStep::Close => {
                 let why = connection.loss();
@@ -222,6 +223,7 @@ impl<H: Handler> ControlConnections<H> {
     {
         if waiting.is_due(now) {
             let (slot, mut connection, deferred, request) = waiting.into_parts();
+            // `desk` has connections here only with a control socket. But the contracts of `answer_deferred` and `answer_lines` require the check.
             if !handler.has_control_socket() {
                 self.close(slot, connection);
                 return Ok(());

@@ -59,9 +59,9 @@ impl<H: Handler> EventLoop<H> {
         })
     }
 
-    /// Answers HTTP requests until their count `answered` is `limit`, and control lines meanwhile. Each accepted HTTP connection is one request.
-    /// The handler gets it once: when it is whole, nothing more of it comes, its time is up, or its connection is evicted. If its answer needs a
-    /// signature, the loop requests that, and only this client waits. [`EventLoopFault`] if the system failed, or after 2^64 - 1 iterations.
+    /// Answers HTTP requests until their count `answered` is `limit`, and control lines meanwhile. Each HTTP connection has one request, which the
+    /// handler gets once: when it is whole, when nothing more of it can come, when its time is up, or when its connection is evicted. If its answer
+    /// needs a signature, the loop requests that, and only this client waits. [`EventLoopFault`] if the system failed, or after 2^64 - 1 iterations.
     #[tactic(auto, using(crate::proofs::Exchanges::exchanged_none))]
     pub fn serve_all(
         &mut self,
@@ -91,7 +91,7 @@ impl<H: Handler> EventLoop<H> {
         Err(EventLoopFault)
     }
 
-    /// Closes the HTTP connections that still receive a request, without an answer. Sends the other answers, once they are finished, until no HTTP
+    /// Closes the HTTP connections that still receive a request, without an answer. Finishes and sends the answers of the others, until no HTTP
     /// connection is left. Answers no more control lines. Reports lost connections to the handler. [`EventLoopFault`] if the system failed.
     pub fn finish(&mut self, handler: &H) -> Result<(), EventLoopFault> {
         // With this limit, no more HTTP connections are accepted.
@@ -321,7 +321,7 @@ impl<H: Handler> EventLoop<H> {
         }
     }
 
-    /// Finishes the answers whose signatures came or whose time is up; drops signature requests whose connections no longer wait.
+    /// Finishes the answers whose signatures came or whose time is up; drops signature requests whose HTTP connections no longer wait.
     fn finish_all(&mut self, handler: &H, now: u64) {
         for index in 0..MOST_SIGNATURES {
             self.finish_at(index, handler, now);

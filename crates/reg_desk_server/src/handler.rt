@@ -16,7 +16,7 @@ pub struct EventLoopFault;
 /// Why a connection was lost, or why no more of its request was received.
 #[derive(Clone, Copy, Debug, PartialEq, Eq)]
 pub enum ConnectionFault {
-    /// A read, write or poller registration failed before the whole answer was sent; or its client half-closed while it was queued to be signed.
+    /// A read, write or poller registration failed before the whole answer was sent; or the client half-closed while its signature was queued.
     Broken,
     /// The request was not whole, or its answer was not wholly sent, within 30 seconds.
     TimedOut,
@@ -103,7 +103,7 @@ pub trait Handler {
         ensures ok { OnOk result ((count : ℕ) → waited count → waited (count + 1)) }
         ensures err { OnErr result failed };
 
-    /// Accepts a connection. Errors of accept(2): none waits, a signal came, the client is gone, no file descriptor is left, or the system failed.
+    /// Accepts a connection. Errors of accept(2): no client waits, a signal came, the client is gone, no descriptor is left, or the system failed.
     fn accept(&self, listener: &TcpListener) -> io::Result<(TcpStream, SocketAddr)>
         ensures { IfErr result (AcceptFails failed) };
 
@@ -152,8 +152,8 @@ pub trait Handler {
     /// Connects to the signer for a line, without blocking. Errors: as for [`Handler::request_signature`].
     fn connect_to_signer(&self, ticket: &Self::ControlTicket) -> io::Result<SignatureRequest>;
 
-    /// Answers a line after `defer` made its message. `request` is the signature request, if it has ended, answered or not; `None` if connecting or
-    /// sending failed, or the time was up. Returns `None` if another message must be signed by now: call `defer` again. Errors: as `answer_lines`.
+    /// Answers a line after `defer` made its message. `request`: the signature request, if it has ended, answered or not; `None` if connecting or
+    /// sending failed, or time was up. Returns `None` if the message no longer fits register or clock: call `defer` again. Errors: as `answer_lines`.
     fn answer_deferred(
         &mut self,
         line: &[u8],

@@ -17,7 +17,7 @@ use std::io::{ErrorKind, Read};
 use std::net::SocketAddr;
 use std::{io, mem};
 
-/// The most milliseconds in `Receiving`, `Signing` or `Sending`. The event loop ends `Signing` after 10,000, unless a call blocks the loop.
+/// The most milliseconds in one [`Stage`] before `Draining`. The event loop ends `Signing` after 10,000 already, unless a call blocks the loop.
 const TIMEOUT_MILLIS: u64 = 30_000;
 
 /// After the answer was sent, the bytes that a client still sends are dropped for this many milliseconds.
@@ -129,8 +129,8 @@ impl<S: ClientStream, H: Handler> HttpConnection<S, H> {
         self.deadline <= now
     }
 
-    /// The fault of a connection whose request is to be answered now. If none is recorded yet, records `TimedOut` if the time is up before the
-    /// request is whole. A half-close within the request is no fault. `None` in a later stage.
+    /// The fault of a connection whose request is to be answered now. Records `TimedOut` first, if no fault is recorded yet and the time is up before
+    /// the request is whole. A half-close within the request is no fault. `None` in a later stage.
     pub fn record_fault(&mut self, now: u64) -> Option<ConnectionFault>
         ensures same_stream { self.new.stream ≡ self.old.stream }
         ensures kept { KeepsReceived self.old.stage self.new.stage }
@@ -204,7 +204,7 @@ impl<S: ClientStream, H: Handler> HttpConnection<S, H> {
         }
     }
 
-    /// Drops what a client sends while its answer waits for a signature, and notes a half-close. The next step depends on the signature (`Park`).
+    /// Drops what a client sends while its answer waits for a signature, and notes a half-close. `Park`: the connection waits for the signature.
     fn drop_received(&mut self, read_buffer: &mut [u8]) -> NextStep
         ensures { Drops S.Read.remaining self.old self.new }
     {

@@ -188,7 +188,7 @@ impl<H: Handler> HttpConnections<H> {
         }
     }
 
-    /// Closes connections whose time is up; makes those due that still receive. Does nothing if the last sweep was less than `SWEEP_MILLIS` ago.
+    /// If a connection's time is up, makes it due if it still receives, else closes it. Does nothing within `SWEEP_MILLIS` after the last sweep.
     pub(crate) fn sweep(&mut self, shared: &mut Shared, now: u64) {
         if now.saturating_sub(self.swept) < SWEEP_MILLIS {
             return;
@@ -234,7 +234,7 @@ impl<H: Handler> HttpConnections<H> {
         }
     }
 
-    /// `EventLoop::finish`, which awaits no more requests, calls this and `close_due`. They close connections that still receive, and report none.
+    /// Closes each connection that still receives (`close_due`: each due one), for `EventLoop::finish`. `close` reports none, whatever its `why`.
     pub(crate) fn close_all_receiving(&mut self, shared: &mut Shared) {
         for slot in 0..self.slots.entries.len() {
             self.close_if_receiving(slot, shared);

@@ -11,7 +11,7 @@ use std::net::{Net, SocketAddr};
 
 const BUFFER_SIZE: usize = 65_536;
 
-/// The poller; the faults to report (`lost`: `new` reserves room for `connections` reports); and the buffer of a read, which the next one overwrites.
+/// The poller; the faults to report (`lost`); and the buffer of a read, which the next read overwrites. `new`: with room for `connections` faults.
 #[derive(Drop)]
 pub(crate) struct Shared {
     pub(crate) alloc: Global,

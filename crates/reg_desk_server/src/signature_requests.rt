@@ -13,7 +13,7 @@ pub(crate) const TIMEOUT_MILLIS: u64 = 10_000;
 /// After a request to the signer would have blocked, no signature is requested for this many milliseconds.
 pub(crate) const PAUSE_MILLIS: u64 = 10;
 
-/// How many polls after a request don't block. They take 100 to 200 microseconds, in which most signatures come. A wake-up takes as long as signing.
+/// How many polls after a request don't block. Together they take 0.1 to 0.2 ms, in which most signatures come. A wake-up takes as long as signing.
 const POLLS: u32 = 100;
 
 /// An HTTP connection that waits for a signature: its slot, and its number, which no other connection has.
@@ -31,7 +31,7 @@ pub(crate) struct PendingSignature {
 }
 
 /// A place for one signature request. It is free while `pending` is `None`. A free place may have an answered `request`, whose connection to the
-/// signer is used again by the next request. `has_arrived`: the whole answer has come from the signer, or none will.
+/// signer is used again by the next request. `has_arrived`: the signer's whole answer has come, or reading it failed.
 #[derive(Drop)]
 struct SignatureSlot {
     pending: Option<PendingSignature>,

@@ -12,7 +12,7 @@ use std::io::ErrorKind;
 /// How many milliseconds a signature may take, from the event loop's iteration in which its message was made.
 const TIMEOUT_MILLIS: u64 = 10_000;
 
-/// The progress of a signature: its message is not wholly sent; the answer is awaited; it has come, or can't any more; connecting or sending failed.
+/// The message is not wholly sent; its answer is awaited; the answer has come, or reading it failed; connecting, sending or polling failed.
 #[derive(Clone, Copy)]
 enum SignatureProgress {
     Sending,

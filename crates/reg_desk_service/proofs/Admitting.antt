@@ -13,7 +13,7 @@ use Rattle.reg_http.specs.Added.{AddsARequestAtMost}
 use Rattle.reg_http.specs.Answers.{BeginsTo}
 use Rattle.reg_http.specs.RoutedRequests.{RoutedRequest, requested_serial}
 use Rattle.reg_http.specs.AnswerEffects.{answer_effects}
-use Rattle.reg_http.specs.declared.answered.Answered.{Answered}
+use Rattle.reg_http.specs.declared.answered.HttpAnswer.{HttpAnswer}
 use Rattle.reg_http.proofs.PublicLaws.{nothing_added}
 use Rattle.reg_ocsp.specs.Drafts.{Drafted}
 use Rattle.reg_io.specs.declared.begun.ReadyOrUnsigned.{ReadyOrUnsigned}
@@ -29,20 +29,20 @@ was_counted (Err memory) counted admission admission' is = inr is
 
 module _ {S : Type 0} (is_clean : S → Type 0) (stands : OfficeSigners → S → Records → Type 0) (admission : Admission) (signs : Signs) (now : ℕ) (what : RoutedRequest) where
   -- what the register begins, and what it adds
-  abbrev pub Begins : ReadyOrUnsigned Answered Drafted → OfficeSigners → Records → Records → Type 0
+  abbrev pub Begins : ReadyOrUnsigned HttpAnswer Drafted → OfficeSigners → Records → Records → Type 0
   Begins begun signers before after =
       BeginsTo (Runs signs signers) Asks (Replies signs signers) GivesCrl (Drafts signers) now before what begun after × AddsARequestAtMost now before after
 
-  abbrev pub Admits : Result (ReadyOrUnsigned Answered Drafted) NoMemory → OfficeSigners → Records → Records → Type 0
+  abbrev pub Admits : Result (ReadyOrUnsigned HttpAnswer Drafted) NoMemory → OfficeSigners → Records → Records → Type 0
   Admits result signers before after = BeginsAdmitted admission signs now signers before what result after
 
-  begun_within : (begun : ReadyOrUnsigned Answered Drafted) (signers : OfficeSigners) (before after : Records) → IsWithin admission before now (requested_serial what)
+  begun_within : (begun : ReadyOrUnsigned HttpAnswer Drafted) (signers : OfficeSigners) (before after : Records) → IsWithin admission before now (requested_serial what)
       → Begins begun signers before after → Admits (Ok begun) signers before after
   begun_within (Ready answered) signers before after within (begins, adds) = (inl (within, begins), adds)
   begun_within (Unsigned draft) signers before after within (begins, adds) = begins
 
   -- the register is asked after a look at the limits
-  pub admitted : (result : Result (ReadyOrUnsigned Answered Drafted) NoMemory) (s m t : S)
+  pub admitted : (result : Result (ReadyOrUnsigned HttpAnswer Drafted) NoMemory) (s m t : S)
       → Looks is_clean stands (λ records. IsWithin admission records now (requested_serial what)) s m
       → IfOk result (λ begun. Leads is_clean stands (Begins begun) m t) → OnErr result (t ≡ m) → Leads is_clean stands (Admits result) s t
   admitted (Ok begun) s m t look begins same =
@@ -65,7 +65,7 @@ module _ {S : Type 0} (is_clean : S → Type 0) (stands : OfficeSigners → S �
       (let P : S → Type 0 = λ v. Looks is_clean stands (λ records. IsWithin admission records now (requested_serial what)) s v in subst P (sym same) look)
 
   -- no limit is looked at for any other request
-  pub unlimited : (result : Result (ReadyOrUnsigned Answered Drafted) NoMemory) (s t : S) → None ≡ requested_serial what
+  pub unlimited : (result : Result (ReadyOrUnsigned HttpAnswer Drafted) NoMemory) (s t : S) → None ≡ requested_serial what
       → IfOk result (λ begun. Leads is_clean stands (Begins begun) s t) → OnErr result (t ≡ s) → Leads is_clean stands (Admits result) s t
   unlimited result s t none begins same =
       admitted result s s t
@@ -93,7 +93,7 @@ module _ {S : Type 0} (is_clean : S → Type 0) (stands : OfficeSigners → S �
       look
 
   -- a request for a serial number that a limit refuses
-  pub refused : (serial : ℕ) (answered : Answered) (s t : S) → Some serial ≡ requested_serial what
+  pub refused : (serial : ℕ) (answered : HttpAnswer) (s t : S) → Some serial ≡ requested_serial what
       → Looks is_clean stands (λ records. ChecksLimits admission records now serial (Some answered)) s t → Leads is_clean stands (Admits (Ok (Ready answered))) s t
   refused serial answered s t some look =
       follows is_clean stands

@@ -16,7 +16,7 @@ use Rattle.reg_http.specs.Bodies.{http_refusal}
 use Rattle.reg_http.specs.Exchanges.{BeginsExchange}
 use Rattle.reg_http.specs.RouteNames.{route_at}
 use Rattle.reg_http.specs.AnswerEffects.{plain, answer_effects}
-use Rattle.reg_http.specs.declared.answered.Answered.{Answered}
+use Rattle.reg_http.specs.declared.answered.HttpAnswer.{HttpAnswer}
 use Rattle.reg_http.specs.declared.exchange.Exchange.{Exchange}
 use Rattle.reg_http.specs.declared.exchange.UnsignedResponse.{UnsignedResponse}
 use Rattle.reg_http.specs.declared.route.Route.{Route}
@@ -40,7 +40,7 @@ use Rattle.reg_desk_service.proofs.Finishing.{left_exchange}
 
 -- what is begun behind the limits of an open desk is begun there
 pub limited_begins : (admission : Admission) (is_open : Bool) (signs : Signs) (now : ℕ) (signers : OfficeSigners) (before : Records) (method target body : List ℕ)
-    (begun : Result (ReadyOrUnsigned Answered Drafted) NoMemory) (after : Records) → dispatch is_open (route_at (path_of target)) ≡ ToLimits
+    (begun : Result (ReadyOrUnsigned HttpAnswer Drafted) NoMemory) (after : Records) → dispatch is_open (route_at (path_of target)) ≡ ToLimits
     → BeginsAdmitted admission signs now signers before (asks_for method target body) begun after
     → BeginsAt is_open signs now admission signers before method target body begun after
 limited_begins admission is_open signs now signers before method target body (Ok (Ready answered)) after to (says, adds) =
@@ -77,45 +77,45 @@ module _ {S : Type 0} (is_clean : S → Type 0) (stands : OfficeSigners → S �
     Answer begun signers before after = AnswersBegun signer_answered is_open signs now admission admission' signers before line_outcome begun after
 
     -- a request that asks something
-    pub asked_answers : (method target body : List ℕ) (route : Route) (begun : Result (ReadyOrUnsigned Answered Drafted) NoMemory) (made : ReadyOrUnsigned Exchange UnsignedResponse)
+    pub asked_answers : (method target body : List ℕ) (route : Route) (begun : Result (ReadyOrUnsigned HttpAnswer Drafted) NoMemory) (made : ReadyOrUnsigned Exchange UnsignedResponse)
         → ∥ HoldsRequest line_outcome (asked method target body) ∥₁ → BeginsExchange now route begun made
         → CountsRequest begun (admission_after is_open now (asked method target body) admission) admission admission'
         → Leads is_clean stands (λ signers before after. BeginsAt is_open signs now admission signers before method target body begun after) s t
         → Leads is_clean stands (Answer made) s t
-    asked_answers method target body route (Ok (Ready answered)) (Ready exchange) holds tells counted moved =
+    asked_answers method target body route (Ok (Ready answered)) (Ready exchange) holds answers counted moved =
         follows is_clean stands _ _
-        (λ signers before after said. (inl (asked method target body, answer_effects answered, holds, said.0, tells.1, counted), said.1)) s t moved
-    asked_answers method target body route (Ok (Ready answered)) (Unsigned left) holds tells counted moved = absurd tells
-    asked_answers method target body route (Ok (Unsigned draft)) (Ready exchange) holds tells counted moved = absurd tells
-    asked_answers method target body route (Ok (Unsigned draft)) (Unsigned left) holds tells counted moved =
+        (λ signers before after said. (inl (asked method target body, answer_effects answered, holds, said.0, answers.1, counted), said.1)) s t moved
+    asked_answers method target body route (Ok (Ready answered)) (Unsigned left) holds answers counted moved = absurd answers
+    asked_answers method target body route (Ok (Unsigned draft)) (Ready exchange) holds answers counted moved = absurd answers
+    asked_answers method target body route (Ok (Unsigned draft)) (Unsigned left) holds answers counted moved =
         follows is_clean stands _ _
         (λ signers before after (to, (request, asks_it, drafted)).
         let P : Drafted → Type 0 = λ it. Drafts signers before now request it after in (
           (λ text finished. left_exchange signs signer_answered answer_in_form_signs now signers before after admission admission' is_open line_outcome method target body request text left.draft holds to asks_it
-              (subst P (sym tells.1) drafted) finished counted),
+              (subst P (sym answers.1) drafted) finished counted),
           nothing_added now before after drafted.1,
         ))
         s t moved
-    asked_answers method target body route (Err memory) (Ready exchange) holds tells counted moved =
+    asked_answers method target body route (Err memory) (Ready exchange) holds answers counted moved =
         follows is_clean stands _ _
         (λ signers before after same.
-        (inr (tells.2, inr tells.1, same, may_count is_open now line_outcome method target body admission admission' holds counted), nothing_added now before after same))
+        (inr (answers.2, inr answers.1, same, may_count is_open now line_outcome method target body admission admission' holds counted), nothing_added now before after same))
         s t moved
-    asked_answers method target body route (Err memory) (Unsigned left) holds tells counted moved = absurd tells
+    asked_answers method target body route (Err memory) (Unsigned left) holds answers counted moved = absurd answers
 
     -- one that is refused before any route
-    pub refused_answers : (status : ℕ) (route : Route) (answered : Result Answered NoMemory) (made : ReadyOrUnsigned Exchange UnsignedResponse)
+    pub refused_answers : (status : ℕ) (route : Route) (answered : Result HttpAnswer NoMemory) (made : ReadyOrUnsigned Exchange UnsignedResponse)
         → ∥ HoldsRequest line_outcome (refused status) ∥₁ → IfOk answered (λ it. answer_effects it ≡ plain (http_refusal status)) → BeginsExchange now route (ready_of answered) made
         → admission' ≡ admission → t ≡ s → Leads is_clean stands (Answer made) s t
-    refused_answers status route (Ok answered) (Ready exchange) holds is tells uncounted same =
+    refused_answers status route (Ok answered) (Ready exchange) holds is answers uncounted same =
         follows is_clean stands _ _
-        (λ signers before after stayed. (inl (refused status, answer_effects answered, holds, (is, stayed), tells.1, uncounted), nothing_added now before after stayed)) s t
+        (λ signers before after stayed. (inl (refused status, answer_effects answered, holds, (is, stayed), answers.1, uncounted), nothing_added now before after stayed)) s t
         (stays is_clean stands s t same)
-    refused_answers status route (Ok answered) (Unsigned left) holds is tells uncounted same = absurd tells
-    refused_answers status route (Err memory) (Ready exchange) holds is tells uncounted same =
+    refused_answers status route (Ok answered) (Unsigned left) holds is answers uncounted same = absurd answers
+    refused_answers status route (Err memory) (Ready exchange) holds is answers uncounted same =
         follows is_clean stands _ _
-        (λ signers before after stayed. (inr (tells.2, inr tells.1, stayed, inl uncounted), nothing_added now before after stayed)) s t (stays is_clean stands s t same)
-    refused_answers status route (Err memory) (Unsigned left) holds is tells uncounted same = absurd tells
+        (λ signers before after stayed. (inr (answers.2, inr answers.1, stayed, inl uncounted), nothing_added now before after stayed)) s t (stays is_clean stands s t same)
+    refused_answers status route (Err memory) (Unsigned left) holds is answers uncounted same = absurd answers
 
     -- what was begun and counted meets what is wanted of its text
     pub answers_meet : (clock : ℕ → Type 0) (begun : ReadyOrUnsigned Exchange UnsignedResponse) (outcome : Outcome UnsignedOf) (before_it after_answer : Tally)

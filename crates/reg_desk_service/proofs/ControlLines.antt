@@ -25,18 +25,18 @@ use Rattle.reg_desk_service.specs.declared.control_reply.LineOutcome.TheVariants
 -- ---- replies
 
 -- what is told of a word that came to this
-pub came_told : (bytes : List ℕ) (line_outcome : LineOutcome) (text : List ℕ) (told : LineOutcome) → IsReplyWith bytes line_outcome text told → ReportsLineOutcome line_outcome bytes → ReportsLineOutcome told text
-came_told bytes line_outcome text told (inl (is, same)) shown = subst (λ c. ReportsLineOutcome c text) (sym same) (subst (ReportsLineOutcome line_outcome) (sym is) shown)
-came_told bytes line_outcome text told (inr (none, silent)) shown = subst (λ c. ReportsLineOutcome c text) (sym silent) none
+pub outcome_is : (bytes : List ℕ) (line_outcome : LineOutcome) (text : List ℕ) (outcome : LineOutcome) → IsReplyWith bytes line_outcome text outcome → ReportsLineOutcome line_outcome bytes → ReportsLineOutcome outcome text
+outcome_is bytes line_outcome text outcome (inl (is, same)) shown = subst (λ c. ReportsLineOutcome c text) (sym same) (subst (ReportsLineOutcome line_outcome) (sym is) shown)
+outcome_is bytes line_outcome text outcome (inr (none, silent)) shown = subst (λ c. ReportsLineOutcome c text) (sym silent) none
 
-pub fault_came : (why : Fault) (text : List ℕ) (told : LineOutcome) → IsReplyWith (fault_line why ++ 10 ∷ []) (Failed (failure.Fault why)) text told → ReportsLineOutcome told text
+pub fault_came : (why : Fault) (text : List ℕ) (outcome : LineOutcome) → IsReplyWith (fault_line why ++ 10 ∷ []) (Failed (failure.Fault why)) text outcome → ReportsLineOutcome outcome text
 unfolding failure_line
-fault_came why text told is = came_told (fault_line why ++ 10 ∷ []) (Failed (failure.Fault why)) text told is refl
+fault_came why text outcome is = outcome_is (fault_line why ++ 10 ∷ []) (Failed (failure.Fault why)) text outcome is refl
 
 -- the bytes are told, or nothing
-pub meaning_in_fields : (bytes : List ℕ) (line_outcome : LineOutcome) (text : List ℕ) (told : LineOutcome) → IsReplyWith bytes line_outcome text told → IsReplyText bytes text
-meaning_in_fields bytes line_outcome text told (inl (is, same)) = inl is
-meaning_in_fields bytes line_outcome text told (inr (none, silent)) = inr none
+pub meaning_in_fields : (bytes : List ℕ) (line_outcome : LineOutcome) (text : List ℕ) (outcome : LineOutcome) → IsReplyWith bytes line_outcome text outcome → IsReplyText bytes text
+meaning_in_fields bytes line_outcome text outcome (inl (is, same)) = inl is
+meaning_in_fields bytes line_outcome text outcome (inr (none, silent)) = inr none
 
 -- a text that begins with a later letter than b is accepted
 later_accepted : (text : List ℕ) → 98 < get_or text 0 0 → ReportsLineOutcome Done text
@@ -64,18 +64,18 @@ row_accepted row = later_accepted (row_text Json row) (lit< tt)
 -- ---- lines
 
 -- a line that says a word, which is told
-pub told_word : {S : Type 0} (is_clean : S → Type 0) (stands : OfficeSigners → S → Records → Type 0) (accepted : Option ℕ) (signs : Signs) (now : ℕ) (s t : S)
+pub word_answered : {S : Type 0} (is_clean : S → Type 0) (stands : OfficeSigners → S → Records → Type 0) (accepted : Option ℕ) (signs : Signs) (now : ℕ) (s t : S)
     (line text : List ℕ) (word : WordMeaning) → meaning_in line ≡ word
     → Leads is_clean stands (λ identity before after. AnswersWord accepted signs now identity before line word text after) s t
     → Leads is_clean stands (λ identity before after. AnswersLineAt accepted signs now identity before line text after) s t
-told_word is_clean stands accepted signs now s t line text word is told =
+word_answered is_clean stands accepted signs now s t line text word is answers =
     follows is_clean stands
     (λ identity before after. AnswersWord accepted signs now identity before line word text after)
     (λ identity before after. AnswersLineAt accepted signs now identity before line text after)
     (λ identity before after made. inl (subst (λ w. AnswersWord accepted signs now identity before line w text after) (sym is) made))
     s
     t
-    told
+    answers
 
 -- a command line, without its end
 pub entered : {S : Type 0} (is_clean : S → Type 0) (stands : OfficeSigners → S → Records → Type 0) (accepted : Option ℕ) (signs : Signs) (now : ℕ) (s t : S)
@@ -83,7 +83,7 @@ pub entered : {S : Type 0} (is_clean : S → Type 0) (stands : OfficeSigners →
     → Leads is_clean stands (λ identity before after. LineAt accepted signs now identity before command text after) s t
     → Leads is_clean stands (λ identity before after. AnswersLineAt accepted signs now identity before line text after) s t
 entered is_clean stands accepted signs now s t line text command is same short ran =
-    told_word is_clean stands accepted signs now s t line text commands is
+    word_answered is_clean stands accepted signs now s t line text commands is
     (follows is_clean stands
     (λ identity before after. LineAt accepted signs now identity before command text after)
     (λ identity before after. AnswersWord accepted signs now identity before line commands text after)
@@ -96,12 +96,12 @@ entered is_clean stands accepted signs now s t line text command is same short r
 pub copied : {S : Type 0} (is_clean : S → Type 0) (stands : OfficeSigners → S → Records → Type 0) (accepted : Option ℕ) (signs : Signs) (now : ℕ) (s t : S) (line text : List ℕ)
     → meaning_in line ≡ copies → t ≡ s → AnswersCopy (λ bytes. Unit {0}) text
     → Leads is_clean stands (λ identity before after. AnswersLineAt accepted signs now identity before line text after) s t
-copied is_clean stands accepted signs now s t line text is same told =
-    told_word is_clean stands accepted signs now s t line text copies is
+copied is_clean stands accepted signs now s t line text is same answers =
+    word_answered is_clean stands accepted signs now s t line text copies is
     (follows is_clean stands
     (λ identity before after. after ≡ before)
     (λ identity before after. AnswersCopy (λ bytes. Unit {0}) text × (after ≡ before))
-    (λ identity before after stayed. (told, stayed))
+    (λ identity before after stayed. (answers, stayed))
     s
     t
     (stays is_clean stands s t same))
@@ -110,12 +110,12 @@ copied is_clean stands accepted signs now s t line text is same told =
 pub helped : {S : Type 0} (is_clean : S → Type 0) (stands : OfficeSigners → S → Records → Type 0) (accepted : Option ℕ) (signs : Signs) (now : ℕ) (s t : S) (line text : List ℕ)
     → meaning_in line ≡ helps → t ≡ s → IsReplyText (help_text ++ 10 ∷ []) text
     → Leads is_clean stands (λ identity before after. AnswersLineAt accepted signs now identity before line text after) s t
-helped is_clean stands accepted signs now s t line text is same told =
-    told_word is_clean stands accepted signs now s t line text helps is
+helped is_clean stands accepted signs now s t line text is same answers =
+    word_answered is_clean stands accepted signs now s t line text helps is
     (follows is_clean stands
     (λ identity before after. after ≡ before)
     (λ identity before after. IsReplyText (help_text ++ 10 ∷ []) text × (after ≡ before))
-    (λ identity before after stayed. (told, stayed))
+    (λ identity before after stayed. (answers, stayed))
     s
     t
     (stays is_clean stands s t same))

@@ -210,11 +210,11 @@ module _ {S : Type 0} (is_clean : S → Type 0) (stands : OfficeSigners → S �
   -- the row is shown
   pub shown_by_row : (shown : RowKey) (found : Result (Option Row) Fault) (text : List ℕ) (s t : S) → Sees (λ records. row_with_key records now shown) found s t
       → IsReplyText (found_text shown found) text → Leads is_clean stands (λ identity before after. AnswersShow before now shown text × (after ≡ before)) s t
-  shown_by_row shown found text s t seen told =
+  shown_by_row shown found text s t seen shows =
       follows is_clean stands
       (λ identity before after. IsSoundLookUp before now (row_with_key before now shown) found × (after ≡ before))
       (λ identity before after. AnswersShow before now shown text × (after ≡ before))
-      (λ identity before after made. ((found, made.0.1, told), made.1))
+      (λ identity before after made. ((found, made.0.1, shows), made.1))
       s
       t
       seen

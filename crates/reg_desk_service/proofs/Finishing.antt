@@ -77,10 +77,10 @@ module _ (signs : Signs) (signer_answered : List ℕ → List ℕ → Type 0)
         (subst P (sym made) (response_of signers.answers before now request draft signature left signed), same)
     replies_of request draft signature (Err memory) (left, same) signed made = same
 
-    told_of : (signature : Option (List ℕ)) (given : Result (List ℕ) NoMemory) (exchange : Exchange) → AnswersText now (ocsp_reply given) exchange
+    given_text : (signature : Option (List ℕ)) (given : Result (List ℕ) NoMemory) (exchange : Exchange) → AnswersText now (ocsp_reply given) exchange
         → AnswersText now (ocsp_effects (kinded signature given)).response exchange
-    told_of signature (Ok bytes) exchange tells = tells
-    told_of signature (Err memory) exchange tells = tells
+    given_text signature (Ok bytes) exchange has_text = has_text
+    given_text signature (Err memory) exchange has_text = has_text
 
     -- what the register says to an OCSP request is said at a desk, also behind its limits
     says_left : (admission : Admission) (by : Dispatch) (method target body request : List ℕ) (it : AnswerEffects) → MayNeedSignature by → asks_for method target body ≡ ocsp_of request
@@ -120,7 +120,7 @@ module _ (signs : Signs) (signer_answered : List ℕ → List ℕ → Type 0)
             holds,
             says_left admission (dispatch is_open (route_at (path_of target))) method target body request (ocsp_effects given) to asks_it
                 (subst P (sym asks_it) (given, replies, refl)),
-            (refl, refl, refl, told_of it.signature it.finished.given it.exchange it.finished.tells),
+            (refl, refl, refl, given_text it.signature it.finished.given it.exchange it.finished.answer_text),
             counted,
           );
           text_is = it.text_is;
@@ -134,20 +134,20 @@ items_made draft (Ok bytes) first second same is = is ∙ ap (λ (signature : Op
 items_made draft (Err memory) first second same is = tt
 
 -- what is asked at a path is asked at the one that was told, where that is it
-pub asked_at : {A E : Type 0} (told : Option (List ℕ)) (path : List ℕ) (Was : List ℕ → Type 0) (Is : List ℕ → A → Type 0) (result : Result A E) → told ≡ Some path
-    → OnOk result (Was path) → IfOk result (Is path) → IfOk result (λ sent_request. AtGivenPath told (λ it. Was it × Is it sent_request))
-asked_at told path Was Is (Ok sent_request) same was is = (path, same, (was, is))
-asked_at told path Was Is (Err error) same was is = tt
+pub asked_at : {A E : Type 0} (socket : Option (List ℕ)) (path : List ℕ) (Was : List ℕ → Type 0) (Is : List ℕ → A → Type 0) (result : Result A E) → socket ≡ Some path
+    → OnOk result (Was path) → IfOk result (Is path) → IfOk result (λ sent_request. AtGivenPath socket (λ it. Was it × Is it sent_request))
+asked_at socket path Was Is (Ok sent_request) same was is = (path, same, (was, is))
+asked_at socket path Was Is (Err error) same was is = tt
 
 -- What was given at the path that was told, was given.
-module _ (signer_answered : List ℕ → List ℕ → List ℕ → Type 0) (told : Option (List ℕ)) where
-  signed_somewhere : (draft : Drafted) (signature : Option (List ℕ)) → IsSignatureOf (AnsweredAtPath signer_answered told) draft signature
+module _ (signer_answered : List ℕ → List ℕ → List ℕ → Type 0) (socket : Option (List ℕ)) where
+  signed_somewhere : (draft : Drafted) (signature : Option (List ℕ)) → IsSignatureOf (AnsweredAtPath signer_answered socket) draft signature
       → IsSignatureOf (AnsweredAtSomePath signer_answered) draft signature
   signed_somewhere draft (Some signature) (given, form) = ((given.0, given.2), form)
   signed_somewhere draft None given = given
 
   -- what finishes an answer with a signature from there finishes it
-  finished_somewhere : (unsigned : Unsigned) (text : List ℕ) → FinishesUnsigned (AnsweredAtPath signer_answered told) unsigned text → FinishesUnsigned (AnsweredAtSomePath signer_answered) unsigned text
+  finished_somewhere : (unsigned : Unsigned) (text : List ℕ) → FinishesUnsigned (AnsweredAtPath signer_answered socket) unsigned text → FinishesUnsigned (AnsweredAtSomePath signer_answered) unsigned text
   finished_somewhere unsigned text it =
       record {
         signature = it.signature;
@@ -157,24 +157,24 @@ module _ (signer_answered : List ℕ → List ℕ → List ℕ → Type 0) (told
         text_is = it.text_is;
       }
 
-  pub meets_told : (wanted : List ℕ → Type 0) (outcome : Outcome Unsigned) → Meets (FinishesUnsigned (AnsweredAtSomePath signer_answered)) wanted outcome
-      → Meets (FinishesUnsigned (AnsweredAtPath signer_answered told)) wanted outcome
-  meets_told wanted (said text) met = met
-  meets_told wanted (pending unsigned) met = λ text finished. met text (finished_somewhere unsigned text finished)
-  meets_told wanted later met = met
+  pub meets_at_path : (wanted : List ℕ → Type 0) (outcome : Outcome Unsigned) → Meets (FinishesUnsigned (AnsweredAtSomePath signer_answered)) wanted outcome
+      → Meets (FinishesUnsigned (AnsweredAtPath signer_answered socket)) wanted outcome
+  meets_at_path wanted (said text) met = met
+  meets_at_path wanted (pending unsigned) met = λ text finished. met text (finished_somewhere unsigned text finished)
+  meets_at_path wanted later met = met
 
 -- What stands in an office before and after.
 module _ {S : Type 0} (is_clean : S → Type 0) (stands : OfficeSigners → S → Records → Type 0) (s t : S) where
   -- where what finishes an answer has its signature from some path, so where it is the one that was told
-  pub told_moves : (signer_answered : List ℕ → List ℕ → List ℕ → Type 0) (told : Option (List ℕ)) (wanted : OfficeSigners → Records → Records → List ℕ → Type 0)
+  pub path_moves : (signer_answered : List ℕ → List ℕ → List ℕ → Type 0) (socket : Option (List ℕ)) (wanted : OfficeSigners → Records → Records → List ℕ → Type 0)
       (outcome : Outcome Unsigned)
       → Leads is_clean stands (λ identity before after. Meets (FinishesUnsigned (AnsweredAtSomePath signer_answered)) (λ text. wanted identity before after text) outcome) s t
-      → Leads is_clean stands (λ identity before after. Meets (FinishesUnsigned (AnsweredAtPath signer_answered told)) (λ text. wanted identity before after text) outcome) s t
-  told_moves signer_answered told wanted outcome moved =
+      → Leads is_clean stands (λ identity before after. Meets (FinishesUnsigned (AnsweredAtPath signer_answered socket)) (λ text. wanted identity before after text) outcome) s t
+  path_moves signer_answered socket wanted outcome moved =
       follows is_clean stands
       (λ identity before after. Meets (FinishesUnsigned (AnsweredAtSomePath signer_answered)) (λ text. wanted identity before after text) outcome)
-      (λ identity before after. Meets (FinishesUnsigned (AnsweredAtPath signer_answered told)) (λ text. wanted identity before after text) outcome)
-      (λ identity before after. meets_told signer_answered told (λ text. wanted identity before after text) outcome)
+      (λ identity before after. Meets (FinishesUnsigned (AnsweredAtPath signer_answered socket)) (λ text. wanted identity before after text) outcome)
+      (λ identity before after. meets_at_path signer_answered socket (λ text. wanted identity before after text) outcome)
       s
       t
       moved

@@ -158,7 +158,7 @@ module _ (records : Records) (now : ℕ) where
   certificate_seen sound serial after more is =
       one_seen (λ (c : CertRow). c.serial) serial (certificate_row records now) (has_key (Certificate serial))
       (λ c row made. certificate_fits serial c (listed_certificate records now c)
-      (λ line told. owned_line c (subscriber_of_order records c.order) _ (λ s. refl) line told) row made)
+      (λ line made_of. owned_line c (subscriber_of_order records c.order) _ (λ s. refl) line made_of) row made)
       (past (λ (c : CertRow). c.serial) (key_of after) records.certificates)
       ∙ ap (option_and_then (certificate_row records now))
       (ap (λ n. first_with (λ (c : CertRow). c.serial) serial (past (λ (c : CertRow). c.serial) n records.certificates)) is

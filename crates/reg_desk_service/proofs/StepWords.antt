@@ -8,12 +8,12 @@ use Rattle.reg_desk_cli.proofs.PublicLaws.{shifted}
 abbrev pub SoFar : List (List ℕ) → List (List ℕ) → List (ℕ × ℕ) → Type 0
 SoFar fields left steps = steps_of fields ≡ option_map (λ rest. steps ++ rest) (steps_of left)
 
-same : (o : Option (List (ℕ × ℕ))) → o ≡ option_map (λ rest. [] ++ rest) o
-same None = refl
-same (Some steps) = refl
+steps_alone : (o : Option (List (ℕ × ℕ))) → o ≡ option_map (λ rest. [] ++ rest) o
+steps_alone None = refl
+steps_alone (Some steps) = refl
 
 pub begins : (fields : List (List ℕ)) (steps : List (ℕ × ℕ)) → steps ≡ [] → SoFar fields fields steps
-begins fields steps none = rw none (same (steps_of fields))
+begins fields steps none = rw none (steps_alone (steps_of fields))
 
 -- the fields from one on
 from_here : (left next : List (List ℕ)) (field : List ℕ) (step : Option (ℕ × ℕ)) → left ≡ field ∷ next → step ≡ step_of field

@@ -15,7 +15,7 @@ use Rattle.reg_http.specs.Answers.{Answers, BeginsTo}
 use Rattle.reg_http.specs.RoutedRequests.{RoutedRequest, requested_serial}
 use Rattle.reg_http.specs.Bodies.{http_refusal}
 use Rattle.reg_http.specs.AnswerEffects.{AnswerEffects, fault_effects, plain, answer_effects}
-use Rattle.reg_http.specs.declared.answered.Answered.{Answered}
+use Rattle.reg_http.specs.declared.answered.HttpAnswer.{HttpAnswer}
 use Rattle.reg_desk_metrics.specs.Ahead.{is_ahead}
 use Rattle.reg_ocsp.specs.Drafts.{Drafted}
 use Rattle.reg_io.specs.declared.begun.ReadyOrUnsigned.{ReadyOrUnsigned}
@@ -89,13 +89,13 @@ RefusesAtLimit admission records now None it = ⊥
 RefusesAtLimit admission records now (Some serial) it = RefusesSerial admission records now serial it
 
 -- how a request for a serial number is refused, or that it is within the limits
-abbrev pub ChecksLimits : Admission → Records → ℕ → ℕ → Option Answered → Type 0
+abbrev pub ChecksLimits : Admission → Records → ℕ → ℕ → Option HttpAnswer → Type 0
 ChecksLimits admission records now serial (Some answered) =
     RefusesSerial admission records now serial (answer_effects answered)
 ChecksLimits admission records now serial None = limit_at admission records now serial ≡ None
 
 -- there is an answer, which refuses with this status
-abbrev pub IsRefusedBy : ℕ → Option Answered → Type 0
+abbrev pub IsRefusedBy : ℕ → Option HttpAnswer → Type 0
 IsRefusedBy status (Some answered) = answer_effects answered ≡ plain (http_refusal status)
 IsRefusedBy status None = ⊥
 
@@ -110,7 +110,7 @@ AnswersAdmitted admission signs now signers before what it after =
 -- the same for an answer that is ready, and adds at most one request; or a response is left to be signed; or out of memory, and no record changes
 abbrev pub BeginsAdmitted
     : Admission → Signs → ℕ → OfficeSigners → Records → RoutedRequest
-    → Result (ReadyOrUnsigned Answered Drafted) NoMemory
+    → Result (ReadyOrUnsigned HttpAnswer Drafted) NoMemory
     → Records → Type 0
 BeginsAdmitted admission signs now signers before what (Ok (Ready answered)) after =
     AnswersAdmitted admission signs now signers before what (answer_effects answered) after

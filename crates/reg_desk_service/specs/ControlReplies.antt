@@ -50,8 +50,8 @@ ReportsLineOutcome Silent text = text ≡ []
 
 -- the reply is these bytes, with the result `line_outcome`; or there was no memory for it
 abbrev pub IsReplyWith : List ℕ → LineOutcome → List ℕ → LineOutcome → Type 0
-IsReplyWith bytes line_outcome text told =
-    ((text ≡ bytes) × (told ≡ line_outcome)) ⊎ ((text ≡ []) × (told ≡ Silent))
+IsReplyWith bytes line_outcome text reported =
+    ((text ≡ bytes) × (reported ≡ line_outcome)) ⊎ ((text ≡ []) × (reported ≡ Silent))
 
 -- the same for a reply of this line and an LF
 abbrev pub IsLineReply : List ℕ → LineOutcome → ControlReply → Type 0

@@ -30,7 +30,7 @@ pub record IsFinished (draft : Drafted) (moment : ℕ) (signature : Option (List
     (exchange : Exchange) : Type 0 where
   pub given : Result (List ℕ) NoMemory
   pub made : IfOk given (λ bytes. bytes ≡ drafted_response draft signature)
-  pub tells : AnswersText moment (ocsp_reply given) exchange
+  pub answer_text : AnswersText moment (ocsp_reply given) exchange
   pub signature_outcome : exchange.signature ≡ outcome_of_signature signature
   pub store : exchange.store ≡ Unwritten
 

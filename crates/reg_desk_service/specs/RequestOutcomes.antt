@@ -10,7 +10,7 @@ use Rattle.reg_http.specs.Added.{AddsARequestAtMost}
 use Rattle.reg_http.specs.RoutedRequests.{ocsp_of, path_of, asked as asks_for}
 use Rattle.reg_http.specs.RouteNames.{route_at}
 use Rattle.reg_http.specs.AnswerEffects.{answer_effects}
-use Rattle.reg_http.specs.declared.answered.Answered.{Answered}
+use Rattle.reg_http.specs.declared.answered.HttpAnswer.{HttpAnswer}
 use Rattle.reg_http.specs.declared.exchange.Exchange.{Exchange}
 use Rattle.reg_http.specs.declared.exchange.UnsignedResponse.{UnsignedResponse}
 use Rattle.reg_ocsp.specs.Drafts.{Drafted}
@@ -23,7 +23,7 @@ use Rattle.reg_desk_service.specs.declared.http_exchanges.Dispatch.{Dispatch}
 use Rattle.reg_desk_service.specs.declared.http_exchanges.Dispatch.TheVariants.{ToRegister, ToLimits}
 
 -- an answer that is ready, or out of memory
-abbrev pub ready_of : Result Answered NoMemory → Result (ReadyOrUnsigned Answered Drafted) NoMemory
+abbrev pub ready_of : Result HttpAnswer NoMemory → Result (ReadyOrUnsigned HttpAnswer Drafted) NoMemory
 ready_of (Ok answered) = Ok (Ready answered)
 ready_of (Err memory) = Err memory
 
@@ -36,7 +36,7 @@ MayNeedSignature other = ⊥
 -- the outcome of a request that was read: an answer; or, only by the register, a response to be signed; or out of memory
 abbrev pub BeginsAt
     : Bool → Signs → ℕ → Admission → OfficeSigners → Records → List ℕ → List ℕ → List ℕ
-    → Result (ReadyOrUnsigned Answered Drafted) NoMemory → Records → Type 0
+    → Result (ReadyOrUnsigned HttpAnswer Drafted) NoMemory → Records → Type 0
 BeginsAt is_open signs now admission signers before method target body (Ok (Ready answered)) after =
     Says signs now admission signers before (answer_effects answered) after is_open
     (asked method target body)

@@ -9,7 +9,7 @@ use crate::machine::Machine;
 use http::Method;
 use reg_core::{Memory, Moment, Serial};
 use reg_desk_metrics::is_ahead;
-use reg_http::{Answered, begin, refuse, report_fault, serial_of};
+use reg_http::{HttpAnswer, begin, refuse, report_fault, serial_of};
 use reg_http_head::status;
 use reg_io::ReadyOrUnsigned;
 use reg_ocsp::Draft;
@@ -83,7 +83,7 @@ pub(crate) fn begin_admitted<M: Machine>(
     method: &Method,
     target: &str,
     body: &[u8],
-) -> Result<ReadyOrUnsigned<Answered, Draft>, Memory>
+) -> Result<ReadyOrUnsigned<HttpAnswer, Draft>, Memory>
     ensures moves { LeadsIn M.Office.Office
         (λ signers before after.
         BeginsAdmitted admission.old M.Office.signs now signers before
@@ -109,7 +109,7 @@ fn refusal_of<M: Machine>(
     admission: &mut Admission,
     now: Moment,
     serial: Serial,
-) -> Result<Option<Answered>, Memory>
+) -> Result<Option<HttpAnswer>, Memory>
     ensures looks { LooksIn M.Office.Office
         (λ records. IfOk result (ChecksLimits admission.old records now serial)) office.old office.new }
     ensures counted { admission.new ≡ after_request now admission.old }
@@ -130,7 +130,7 @@ fn refusal_of<M: Machine>(
     }
 }
 
-fn refused(alloc: Global, status: u16) -> Result<Option<Answered>, Memory>
+fn refused(alloc: Global, status: u16) -> Result<Option<HttpAnswer>, Memory>
     ensures { IfOk result (IsRefusedBy status) }
 {
     Ok(Some(refuse(alloc, status)?))

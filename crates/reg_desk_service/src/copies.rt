@@ -35,7 +35,7 @@ pub(crate) fn answer_copy<M: Machine>(
     last_reason: &mut Vec<u8>,
 ) -> ControlReply
     ensures copied { AnswersCopy (M.copied_open file.now) result.text.items }
-    ensures told { AnswersCopy (λ bytes. Unit {0}) result.text.items }
+    ensures reply_text { AnswersCopy (λ bytes. Unit {0}) result.text.items }
     ensures line_outcome { ReportsLineOutcome result.line_outcome result.text.items }
 {
     let began = machine.micros();

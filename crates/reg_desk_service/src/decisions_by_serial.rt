@@ -70,7 +70,7 @@ fn answer_run<M: Machine>(
 
 /// Refuses a line whose request is for another serial number, and keeps that number for the line `why`. `b""`: this reason has no indent.
 fn answer_other(alloc: Global, request: RequestRow, last_reason: &mut Vec<u8>) -> ControlReply
-    ensures told { ReportsFault (Fault.Refused Refusal.NoRequest) result.text.items }
+    ensures reply_text { ReportsFault (Fault.Refused Refusal.NoRequest) result.text.items }
     ensures line_outcome { ReportsLineOutcome result.line_outcome result.text.items }
 {
     let reply = ControlReply::fault(alloc, Fault::Refused(Refusal::NoRequest));

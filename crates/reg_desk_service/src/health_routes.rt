@@ -29,7 +29,7 @@ use reg_desk_cli::{ResponderChoice, VERSION};
 use reg_desk_metrics::{
     ConnectionTotals, CrlSigning, Health, Numbers, NumbersResult, ReadCrl, Requests, Tally, metrics,
 };
-use reg_http::{Answered, json, only_get};
+use reg_http::{HttpAnswer, json, only_get};
 use reg_http_head::{Answer, status};
 use reg_lines::LineKind;
 use reg_office_api::Office;
@@ -45,7 +45,7 @@ pub(crate) fn answer_health<M: Machine>(
     now: Moment,
     tally: &mut Tally,
     accepted: Option<Moment>,
-) -> Result<Answered, Memory>
+) -> Result<HttpAnswer, Memory>
     ensures moves { LooksIn M.Office.Office
         (λ records.
         IfOk result (λ answered.
@@ -65,7 +65,7 @@ fn health_at<M: Machine>(
     now: Moment,
     tally: &mut Tally,
     accepted: Option<Moment>,
-) -> Result<Answered, Memory>
+) -> Result<HttpAnswer, Memory>
     ensures moves { LooksIn M.Office.Office
         (λ records. IfOk result (λ answered. AnswersHealth accepted now records (answer_effects answered)))
         office.old office.new }
@@ -83,7 +83,7 @@ pub(crate) fn answer_metrics<M: Machine>(
     now: Moment,
     tally: &mut Tally,
     connection_totals: ConnectionTotals,
-) -> Result<Answered, Memory>
+) -> Result<HttpAnswer, Memory>
     ensures moves { LooksIn M.Office.Office
         (λ records.
         IfOk result (λ answered. ByGet method.now (AnswersMetrics now records) (answer_effects answered)))
@@ -102,7 +102,7 @@ fn metrics_at<M: Machine>(
     now: Moment,
     tally: &mut Tally,
     connection_totals: ConnectionTotals,
-) -> Result<Answered, Memory>
+) -> Result<HttpAnswer, Memory>
     ensures moves { LooksIn M.Office.Office
         (λ records. IfOk result (λ answered. AnswersMetrics now records (answer_effects answered)))
         office.old office.new }
@@ -364,11 +364,11 @@ fn requests_at<M: Machine>(
     })
 }
 
-fn health_answer(alloc: Global, health: &Health) -> Result<Answered, Memory>
+fn health_answer(alloc: Global, health: &Health) -> Result<HttpAnswer, Memory>
     ensures { IfOk result (λ answered. answer_effects answered ≡ plain (health_response health.now)) }
 {
     match health.text(alloc) {
-        Ok(body) => Ok(Answered::plain(json(status_of(health.is_well()), body))),
+        Ok(body) => Ok(HttpAnswer::plain(json(status_of(health.is_well()), body))),
         Err(_) => Err(Memory),
     }
 }
@@ -389,13 +389,13 @@ fn metrics_answer(
     found: &NumbersResult,
     tally: &Tally,
     connection_totals: ConnectionTotals,
-) -> Result<Answered, Memory>
+) -> Result<HttpAnswer, Memory>
     ensures { IfOk result (λ answered.
         answer_effects answered
         ≡ plain (metrics_response (metrics_text VERSION.now now found.now tally.now connection_totals))) }
 {
     match metrics(alloc, VERSION, now, found, tally, connection_totals) {
-        Ok(body) => Ok(Answered::plain(Answer {
+        Ok(body) => Ok(HttpAnswer::plain(Answer {
             status: status::OK,
             kind: PROMETHEUS,
             allow: None,

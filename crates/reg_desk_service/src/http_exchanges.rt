@@ -1,5 +1,5 @@
-//! Answers the bytes that came on an HTTP connection. `Answered` is a finished answer, and `Exchange` has its text. `Draft` is an OCSP response to be
-//! signed; `UnsignedResponse` has its route, too, and `Unsigned` also the data for the log and the counts.
+//! Answers the bytes that came on an HTTP connection. `HttpAnswer` is a finished answer, and `Exchange` has its text. `Draft` is an OCSP response to
+//! be signed; `UnsignedResponse` has its route, too, and `Unsigned` also the data for the log and the counts.
 
 ghost use Rattle.std.specs.Prelude.{◌≡◌};
 ghost use Rattle.reg_office_api.specs.Calls.{LeadsIn};
@@ -29,7 +29,7 @@ use http::Method;
 use reg_core::{Fault, Memory, Moment};
 use reg_desk_metrics::{ConnectionTotals, Tally};
 use reg_http::{
-    Answered, Exchange, Route, UnsignedResponse, answer_changes, answer_list, begin,
+    Exchange, HttpAnswer, Route, UnsignedResponse, answer_changes, answer_list, begin,
     begun_exchange, refuse, text_buffer,
 };
 use reg_http_head::{Collected, RequestRef};
@@ -191,7 +191,7 @@ fn empty(alloc: Global, request: &Collected) -> Exchange
     Exchange::empty(alloc, route, SignatureOutcome::NotRequested)
 }
 
-fn ready(answered: Result<Answered, Memory>) -> Result<ReadyOrUnsigned<Answered, Draft>, Memory>
+fn ready(answered: Result<HttpAnswer, Memory>) -> Result<ReadyOrUnsigned<HttpAnswer, Draft>, Memory>
     ensures { result ≡ ready_of answered }
 {
     match answered {
@@ -213,7 +213,7 @@ fn begin_at<M: Machine>(
     method: &Method,
     target: &str,
     body: &[u8],
-) -> Result<ReadyOrUnsigned<Answered, Draft>, Memory>
+) -> Result<ReadyOrUnsigned<HttpAnswer, Draft>, Memory>
     requires { route ≡ route_at (path_of target.now) }
     ensures moves { LeadsIn M.Office.Office
         (λ signers before after.

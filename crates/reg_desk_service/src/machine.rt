@@ -23,8 +23,8 @@ use std::time::Duration;
 /// A job reaches a register's files only by these methods, and by the office that they open. The methods that create such files, open them for
 /// writing or remove them take `&mut self`, except `copy_open`. A job's contract relates the machine before the job to the one after it, so the job
 /// calls these methods only at the paths that its contract names. A method's relation (`ghost`), such as `claimed` of `claim`, states that the method
-/// did what its comment says; no proof covers what the system does. `Machine` is a trait, though only the program's `Host` implements it: so its
-/// relations are opaque to the proofs. A comment may leave out the system's errors, and `Memory` and `Store` in a [`Failure`] or [`CopyFault`].
+/// did what its comment says; no proof covers what the system does. `Machine` is a trait, though only the program's `SystemHost` implements it: so
+/// its relations are opaque to the proofs. A comment may leave out the system's errors, and `Memory` and `Store` in a [`Failure`] or [`CopyFault`].
 pub trait Machine {
     ghost use Rattle.std.specs.Prelude.{◌≡◌, ◌≤◌, ◌+◌, ◌⊎◌, ℕ, List, [], IsTrue, IsFalse, MatchBool, OnOk, OnErr, IfOk, IfErr, IfSome, length};
     ghost use Rattle.reg_office_api.specs.Calls.{KeepsIn};
@@ -165,7 +165,7 @@ pub trait Machine {
     /// Reads the OCSP responder's certificate, if one is given. `BadResponder`: it can't be read, or a delegate's key is not of the given algorithm.
     fn read_responder(&self, responder: &ResponderChoice<'_>) -> Result<Self::Responder, Failure>
         ensures certified { IfOk result (certified responder.now) }
-        ensures told { OnErr result (HasCertificate responder.now) }
+        ensures has_certificate { OnErr result (HasCertificate responder.now) }
         ensures faults { IfErr result IsOpenFailure };
 
     /// Opens the register of a database, with `crls` to sign CRLs. If that fails, the database is closed. `NotARegister` if it has no register;
@@ -226,7 +226,7 @@ pub trait Machine {
     /// The whole seconds of the clock since the start of 1970; 0 if it shows an earlier time.
     fn seconds(&self) -> io::Result<u64>
         ensures stood { IfOk result clock_read }
-        ensures told { IfOk result (λ seconds. (now : ℕ) → now ≤ seconds → clock_reached now) }
+        ensures by_clock { IfOk result (λ seconds. (now : ℕ) → now ≤ seconds → clock_reached now) }
         ensures fails { OnErr result failed };
 
     /// The microseconds of the monotonic clock; 0 if it can't be read.
@@ -332,7 +332,7 @@ pub trait Machine {
 
     /// The moment of the clock, or the last possible moment if the clock is past it; `Read` if the clock can't be read.
     final fn moment(&self) -> Result<Moment, Fault>
-        ensures told { IfOk result clock_reached }
+        ensures by_clock { IfOk result clock_reached }
         ensures exact { IfOk result (IsClockMoment clock_read) }
         ensures err { IfErr result (λ fault. fault ≡ Fault.Read) }
         ensures fails { OnErr result failed }

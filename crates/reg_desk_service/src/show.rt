@@ -26,7 +26,7 @@ const HELP_LINE: &[u8] =
     b"help: subscriber NAME | order SUBSCRIBER DAYS | register ORDER SERIAL NOTBEFORE NOTAFTER | request SERIAL GROUND | decline REQUEST [SERIAL] | revoke REQUEST [SERIAL] | crl | status SERIAL | counts | listing SERIAL | overdue | next-crl | ocsp HEX | show request REQUEST | show SERIAL | show subscriber NAME | why | accept-clock MOMENT | schedule MOMENT=DAYS .. | copy PATH | help";
 
 pub(crate) fn answer_help(alloc: Global) -> ControlReply
-    ensures told { IsReplyText (help_text ++ 10 ∷ []) result.text.items }
+    ensures reply_text { IsReplyText (help_text ++ 10 ∷ []) result.text.items }
     ensures line_outcome { ReportsLineOutcome result.line_outcome result.text.items }
 {
     ControlReply::line(alloc, HELP_LINE, LineOutcome::Done)
@@ -55,7 +55,7 @@ fn answer_found(
     found: Result<Option<Row>, Fault>,
     last_reason: &mut Vec<u8>,
 ) -> ControlReply
-    ensures told { IsReplyText (found_text shown.now found) result.text.items }
+    ensures reply_text { IsReplyText (found_text shown.now found) result.text.items }
     ensures line_outcome { ReportsLineOutcome result.line_outcome result.text.items }
 {
     match found {
@@ -66,7 +66,7 @@ fn answer_found(
 }
 
 pub(crate) fn report_fault(alloc: Global, fault: Fault, last_reason: &mut Vec<u8>) -> ControlReply
-    ensures told { ReportsFault fault result.text.items }
+    ensures reply_text { ReportsFault fault result.text.items }
     ensures line_outcome { ReportsLineOutcome result.line_outcome result.text.items }
 {
     let reply = ControlReply::fault(alloc, fault);

@@ -46,7 +46,7 @@ const REGISTER: &[CommandField] = &[
 
 const REQUEST: &[CommandField] = &[CommandField::Serial, CommandField::Ground];
 
-/// The fields of `revoke` and `decline`. The serial number is optional, but a line that lacks only this can be read: `wrong_field` never gets it.
+/// The fields of `revoke` and `decline`. A line that lacks only the serial number can be read, so `wrong_field` isn't called for it.
 const DECISION: &[CommandField] = &[CommandField::Request, CommandField::Serial];
 
 const STATUS: &[CommandField] = &[CommandField::Serial];

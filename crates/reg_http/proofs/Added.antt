@@ -39,7 +39,7 @@ one_added now before after row same = record {
 step_adds : (signed : CertList → List ℕ → Type 0) (now serial : ℕ) (word : List ℕ) (before after : Records) (outcome : Result Reply Fault) (found : Option Refusal)
     → StepBy signed found before now (Request serial word) outcome after → AddsARequestAtMost now before after
 step_adds signed now serial word before after outcome (Some why) step = nothing_added now before after step.1
-step_adds signed now serial word before after outcome None (bytes, told, unsigned, same) =
+step_adds signed now serial word before after outcome None (bytes, replies, unsigned, same) =
     one_added now before after (request_row before now serial word) same
 
 -- a request for revocation

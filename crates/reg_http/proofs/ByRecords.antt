@@ -18,7 +18,7 @@ use Rattle.reg_http.specs.Added.{AddsARequestAtMost}
 use Rattle.reg_http.specs.Answers.{Answers, BeginsIn, BeginsTo, RespondsIn, RespondsTo, BeginsOcsp, of_any_kind}
 use Rattle.reg_http.specs.RoutedRequests.{RoutedRequest, refused, method_not_allowed, unreadable, malformed, ocsp_of, crl_of, status_of, counts_of, request_of}
 use Rattle.reg_http.specs.AnswerEffects.{AnswerEffects, answer_effects}
-use Rattle.reg_http.specs.declared.answered.Answered.{Answered}
+use Rattle.reg_http.specs.declared.answered.HttpAnswer.{HttpAnswer}
 use Rattle.reg_crl.specs.Signing.{signed_by}
 use Rattle.reg_http.proofs.Added.{nothing_added, ocsp_stays, replies_stay, request_adds}
 use Rattle.reg_ocsp.specs.Drafts.{Drafted}
@@ -81,10 +81,10 @@ module _ {O : Type 0} (office : Office O) (now : ℕ) (s t : O) where
       (answer_leads (λ signers. of_any_kind (AnswersOcsp office.signs signers)) (ocsp_stays office.signs) asks it answered)
 
   -- the answer, or what is left to be signed for it
-  pub begins_to : (what asks : RoutedRequest) (begun : ReadyOrUnsigned Answered Drafted) → what ≡ asks → BeginsIn office now s what begun t → BeginsIn office now s asks begun t
+  pub begins_to : (what asks : RoutedRequest) (begun : ReadyOrUnsigned HttpAnswer Drafted) → what ≡ asks → BeginsIn office now s what begun t → BeginsIn office now s asks begun t
   begins_to what asks begun is = subst (λ a. BeginsIn office now s a begun t) is
 
-  pub begin_leads : (asks : RoutedRequest) (begun : ReadyOrUnsigned Answered Drafted) → BeginsIn office now s asks begun t
+  pub begin_leads : (asks : RoutedRequest) (begun : ReadyOrUnsigned HttpAnswer Drafted) → BeginsIn office now s asks begun t
       → Leads office.is_clean office.stands
       (λ signers before after. BeginsTo (Runs office.signs signers) Asks (Replies office.signs signers) GivesCrl (Drafts signers) now before asks begun after
       × AddsARequestAtMost now before after)
@@ -94,7 +94,7 @@ module _ {O : Type 0} (office : Office O) (now : ℕ) (s t : O) where
       follows office.is_clean office.stands _ _ (λ signers before after made. ((request, is, made), nothing_added now before after made.1)) s t drafted
 
   -- an OCSP request, as the office begins its response
-  pub begins_ocsp : (request : List ℕ) (given : Result (ReadyOrUnsigned OcspResponse Drafted) NoMemory) (begun : ReadyOrUnsigned Answered Drafted)
+  pub begins_ocsp : (request : List ℕ) (given : Result (ReadyOrUnsigned OcspResponse Drafted) NoMemory) (begun : ReadyOrUnsigned HttpAnswer Drafted)
       → Leads office.is_clean office.stands (λ signers before after. Begins (Replies office.signs signers) (Drafts signers) before now request given after) s t
       → BeginsOcsp given begun → BeginsIn office now s (ocsp_of request) begun t
   begins_ocsp request (Ok (Ready response)) (Ready answered) came it = (Ok (response.kind, response.bytes.items), came, it)

@@ -13,7 +13,7 @@ use Rattle.reg_core.specs.declared.refusal.Fault.{Fault}
 use Rattle.reg_core.specs.declared.refusal.Fault.TheVariants.{Memory, Store}
 use Rattle.reg_http_head.specs.Response.{Response, shown}
 use Rattle.reg_http.specs.Bodies.{counts_text, der, due_text, fault_response, json, status_text}
-use Rattle.reg_http.specs.declared.answered.Answered.{Answered}
+use Rattle.reg_http.specs.declared.answered.HttpAnswer.{HttpAnswer}
 use Rattle.reg_http.specs.declared.answered.LoggedRevocationRequest.{LoggedRevocationRequest}
 
 -- the response of an answer, and its effects
@@ -23,8 +23,8 @@ pub record AnswerEffects : Type 0 where
   pub store : StoreEffect
   pub named : Option LoggedRevocationRequest
 
--- the response and the effects of an `Answered`
-abbrev pub answer_effects : Answered → AnswerEffects
+-- the response and the effects of an `HttpAnswer`
+abbrev pub answer_effects : HttpAnswer → AnswerEffects
 answer_effects answered = record {
   response = shown answered.answer;
   signature = answered.signature;

@@ -18,7 +18,7 @@ use Rattle.reg_http.specs.RoutedRequests.{RoutedRequest, refused, method_not_all
 use Rattle.reg_http.specs.Bodies.{http_refusal, fault_response, der, malformed_text}
 use Rattle.reg_http.specs.Bodies.{method_not_allowed as only_response}
 use Rattle.reg_http.specs.AnswerEffects.{AnswerEffects, plain, outcome_effects, request_effects, crl_effects, ocsp_effects, answer_effects}
-use Rattle.reg_http.specs.declared.answered.Answered.{Answered}
+use Rattle.reg_http.specs.declared.answered.HttpAnswer.{HttpAnswer}
 use Rattle.reg_ocsp.specs.Drafts.{Drafted}
 use Rattle.reg_io.specs.declared.begun.ReadyOrUnsigned.{ReadyOrUnsigned}
 use Rattle.reg_io.specs.declared.begun.ReadyOrUnsigned.TheVariants.{Ready, Unsigned}
@@ -50,7 +50,7 @@ module _ {S : Type 0} (runs : S → ℕ → Command → Result Reply Fault → S
 
   -- the answer to a request; or the draft of a response to be signed, if it is an OCSP request
   abbrev pub BeginsTo
-      : (S → ℕ → List ℕ → Drafted → S → Type 0) → ℕ → S → RoutedRequest → ReadyOrUnsigned Answered Drafted → S
+      : (S → ℕ → List ℕ → Drafted → S → Type 0) → ℕ → S → RoutedRequest → ReadyOrUnsigned HttpAnswer Drafted → S
       → Type 0
   BeginsTo drafts now s what (Ready answered) t = Answers now s what (answer_effects answered) t
   BeginsTo drafts now s what (Unsigned draft) t =
@@ -58,7 +58,7 @@ module _ {S : Type 0} (runs : S → ℕ → Command → Result Reply Fault → S
 
 -- the answer with the OCSP response that the office began; or the draft, if the response is to be signed
 abbrev pub BeginsOcsp
-    : Result (ReadyOrUnsigned OcspResponse Drafted) NoMemory → ReadyOrUnsigned Answered Drafted → Type 0
+    : Result (ReadyOrUnsigned OcspResponse Drafted) NoMemory → ReadyOrUnsigned HttpAnswer Drafted → Type 0
 BeginsOcsp (Ok (Ready response)) (Ready answered) =
     answer_effects answered ≡ ocsp_effects (Ok (response.kind, response.bytes.items))
 BeginsOcsp (Ok (Ready response)) (Unsigned draft) = ⊥
@@ -94,7 +94,7 @@ AnswersIn office = Answers (RunsIn office) (AsksIn office) (RepliesIn office) (G
 
 -- the same, or the draft of a response to be signed
 abbrev pub BeginsIn
-    : {O : Type 0} → Office O → ℕ → O → RoutedRequest → ReadyOrUnsigned Answered Drafted → O → Type 0
+    : {O : Type 0} → Office O → ℕ → O → RoutedRequest → ReadyOrUnsigned HttpAnswer Drafted → O → Type 0
 BeginsIn office =
     BeginsTo (RunsIn office) (AsksIn office) (RepliesIn office) (GivesCrlIn office) (DraftsIn office)
 

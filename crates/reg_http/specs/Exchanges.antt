@@ -6,7 +6,7 @@ use Rattle.reg_office_api.specs.declared.effects.StoreEffect.TheVariants.{Unwrit
 use Rattle.reg_core.specs.declared.memory.Memory.{Memory as NoMemory}
 use Rattle.reg_http_head.specs.Response.{IsText, Response, memory_text}
 use Rattle.reg_http.specs.AnswerEffects.{AnswerEffects, answer_effects}
-use Rattle.reg_http.specs.declared.answered.Answered.{Answered}
+use Rattle.reg_http.specs.declared.answered.HttpAnswer.{HttpAnswer}
 use Rattle.reg_http.specs.declared.route.Route.{Route}
 use Rattle.reg_ocsp.specs.Drafts.{Drafted}
 use Rattle.reg_io.specs.declared.begun.ReadyOrUnsigned.{ReadyOrUnsigned}
@@ -51,7 +51,7 @@ HasNoEffects exchange = HasOnlySignature NotRequested exchange
 
 -- the outcome of a request, as an exchange at this route: the answer; or the response that is to be signed; or there was no memory
 abbrev pub BeginsExchange
-    : ℕ → Route → Result (ReadyOrUnsigned Answered Drafted) NoMemory
+    : ℕ → Route → Result (ReadyOrUnsigned HttpAnswer Drafted) NoMemory
     → ReadyOrUnsigned Exchange UnsignedResponse → Type 0
 BeginsExchange now route (Ok (Ready answered)) (Ready exchange) =
     (exchange.route ≡ route) × HasEffects now (answer_effects answered) exchange

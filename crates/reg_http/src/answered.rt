@@ -27,25 +27,25 @@ pub struct LoggedRevocationRequest {
 
 /// An answer, the outcome of its signature, and what the store did. `named` is the request for revocation that was entered: the log names it.
 #[derive(Drop)]
-pub struct Answered {
+pub struct HttpAnswer {
     pub answer: Answer,
     pub signature: SignatureOutcome,
     pub store: StoreEffect,
     pub named: Option<LoggedRevocationRequest>,
 }
 
-impl Answered {
+impl HttpAnswer {
     /// An answer that needs no signature and had no effect on the store.
-    pub fn plain(answer: Answer) -> Answered
+    pub fn plain(answer: Answer) -> HttpAnswer
         ensures { answer_effects result ≡ plainly (shown answer) }
     {
-        Answered::unsigned(answer, StoreEffect::Unwritten)
+        HttpAnswer::unsigned(answer, StoreEffect::Unwritten)
     }
 
-    fn unsigned(answer: Answer, store: StoreEffect) -> Answered
+    fn unsigned(answer: Answer, store: StoreEffect) -> HttpAnswer
         ensures { answer_effects result ≡ unsigned_effects (shown answer) store }
     {
-        Answered {
+        HttpAnswer {
             answer,
             signature: SignatureOutcome::NotRequested,
             store,
@@ -55,17 +55,17 @@ impl Answered {
 }
 
 /// The answer with a refusal or a fault: its line (such as `E22 syntax`) in a JSON body, written into the reserved `buffer`.
-pub(crate) fn answer_of_fault(buffer: Vec<u8>, fault: Fault) -> Answered
+pub(crate) fn answer_of_fault(buffer: Vec<u8>, fault: Fault) -> HttpAnswer
     requires empty { buffer.items ≡ [] }
     requires buffer { 256 ≤ vec_capacity buffer }
     ensures { answer_effects result ≡ fault_effects fault }
 {
     let store = StoreEffect::of_fault(&fault);
-    Answered::unsigned(fault_answer(buffer, fault), store)
+    HttpAnswer::unsigned(fault_answer(buffer, fault), store)
 }
 
 /// The answer with the reply to a query for a status or the counts, or to a request for revocation. `_`: no office gives another reply to these.
-fn reply_answer(mut buffer: Vec<u8>, reply: Reply) -> Answered
+fn reply_answer(mut buffer: Vec<u8>, reply: Reply) -> HttpAnswer
     requires empty { buffer.items ≡ [] }
     requires buffer { 256 ≤ vec_capacity buffer }
     ensures { answer_effects result ≡ reply_effects reply }
@@ -73,21 +73,21 @@ fn reply_answer(mut buffer: Vec<u8>, reply: Reply) -> Answered
     match reply {
         Reply::Status(status) => {
             put_status(&mut buffer, status);
-            Answered::plain(json(status::OK, buffer))
+            HttpAnswer::plain(json(status::OK, buffer))
         }
         Reply::Counts(counts) => {
             put_counts(&mut buffer, counts);
-            Answered::plain(json(status::OK, buffer))
+            HttpAnswer::plain(json(status::OK, buffer))
         }
         Reply::Request { id, due } => {
             put_due(&mut buffer, id, due);
-            Answered::unsigned(json(status::OK, buffer), StoreEffect::Written)
+            HttpAnswer::unsigned(json(status::OK, buffer), StoreEffect::Written)
         }
         _ => answer_of_fault(buffer, Fault::Store),
     }
 }
 
-pub(crate) fn outcome_answer(buffer: Vec<u8>, outcome: Outcome) -> Answered
+pub(crate) fn outcome_answer(buffer: Vec<u8>, outcome: Outcome) -> HttpAnswer
     requires empty { buffer.items ≡ [] }
     requires buffer { 256 ≤ vec_capacity buffer }
     ensures { answer_effects result ≡ outcome_effects outcome }
@@ -104,7 +104,7 @@ pub(crate) fn request_answer(
     serial: Serial,
     word: Label,
     outcome: Outcome,
-) -> Answered
+) -> HttpAnswer
     requires empty { buffer.items ≡ [] }
     requires buffer { 256 ≤ vec_capacity buffer }
     ensures { answer_effects result ≡ request_effects serial word outcome }
@@ -132,22 +132,22 @@ fn entered_request(
     }
 }
 
-pub(crate) fn crl_answer(buffer: Vec<u8>, crl: Result<Vec<u8>, Fault>) -> Answered
+pub(crate) fn crl_answer(buffer: Vec<u8>, crl: Result<Vec<u8>, Fault>) -> HttpAnswer
     requires empty { buffer.items ≡ [] }
     requires buffer { 256 ≤ vec_capacity buffer }
     ensures { answer_effects result ≡ crl_effects (items_of crl) }
 {
     match crl {
-        Ok(bytes) => Answered::plain(der(PKIX_CRL, bytes)),
+        Ok(bytes) => HttpAnswer::plain(der(PKIX_CRL, bytes)),
         Err(fault) => answer_of_fault(buffer, fault),
     }
 }
 
-fn ocsp_answered(response: OcspResponse) -> Answered
+fn ocsp_answered(response: OcspResponse) -> HttpAnswer
     ensures { answer_effects result ≡ ocsp_effects (Ok (response.kind, response.bytes.items)) }
 {
     let OcspResponse { bytes, kind } = response;
-    Answered {
+    HttpAnswer {
         answer: der(OCSP_RESPONSE, bytes),
         signature: kind.signature(),
         store: kind.store(),
@@ -159,7 +159,7 @@ fn ocsp_answered(response: OcspResponse) -> Answered
 pub(crate) fn begun_answer(
     buffer: Vec<u8>,
     given: Result<ReadyOrUnsigned<OcspResponse, Draft>, Memory>,
-) -> ReadyOrUnsigned<Answered, Draft>
+) -> ReadyOrUnsigned<HttpAnswer, Draft>
     requires empty { buffer.items ≡ [] }
     requires buffer { 256 ≤ vec_capacity buffer }
     ensures { BeginsOcsp given result }

@@ -5,7 +5,7 @@ ghost use Rattle.reg_office_api.specs.Calls.{LooksIn};
 ghost use Rattle.reg_http.specs.AnswerEffects.{answer_effects};
 ghost use Rattle.reg_http.specs.Changes.{RespondsChanges, changes_in, changes_request, changes_wanted, given_changes, positions_after};
 
-use crate::answered::Answered;
+use crate::answered::HttpAnswer;
 use crate::bodies::{der, diverged_answer, json_buffer};
 use crate::routes::{only_get, report_fault};
 use http::Method;
@@ -34,7 +34,7 @@ pub fn answer_changes<O: Office>(
     method: &Method,
     target: &str,
     office: &mut O,
-) -> Result<Answered, Memory>
+) -> Result<HttpAnswer, Memory>
     ensures { LooksIn O.Office
         (λ records. IfOk result
         (λ answered. RespondsChanges records (changes_request method.now target.now) (answer_effects answered)))
@@ -96,12 +96,12 @@ fn positions_after(query: &[u8]) -> Option<Positions>
 }
 
 /// The answer with a page, with the office's fault, or with `diverged`: the positions are not in the history of this register.
-fn answer_given(alloc: Global, given: Result<Changes, Fault>) -> Result<Answered, Memory>
+fn answer_given(alloc: Global, given: Result<Changes, Fault>) -> Result<HttpAnswer, Memory>
     ensures { IfOk result (λ answered. answer_effects answered ≡ given_changes given) }
 {
     match given {
-        Ok(Changes::Page(text)) => Ok(Answered::plain(der(PAGE, text))),
-        Ok(Changes::Diverged) => Ok(Answered::plain(diverged_answer(json_buffer(alloc)?))),
+        Ok(Changes::Page(text)) => Ok(HttpAnswer::plain(der(PAGE, text))),
+        Ok(Changes::Diverged) => Ok(HttpAnswer::plain(diverged_answer(json_buffer(alloc)?))),
         Err(fault) => report_fault(alloc, fault),
     }
 }

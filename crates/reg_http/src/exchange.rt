@@ -7,7 +7,7 @@ ghost use Rattle.reg_http.specs.Bodies.{ocsp_reply};
 ghost use Rattle.reg_http.specs.Exchanges.{IsEmpty, IsMemoryAnswer, PutsText, HasNoEffects, HasOnlySignature, HasEffects, BeginsExchange, AnswersText};
 ghost use Rattle.reg_http.specs.AnswerEffects.{answer_effects};
 
-use crate::answered::{Answered, LoggedRevocationRequest, ocsp_answer};
+use crate::answered::{HttpAnswer, LoggedRevocationRequest, ocsp_answer};
 use crate::bodies::json_buffer;
 use crate::route::Route;
 use reg_core::{Memory, Moment};
@@ -79,13 +79,13 @@ impl Exchange {
     }
 
     /// An exchange with this answer, dated `now`, written into `buffer`; or the constant text of status code 500, if out of memory for the body.
-    pub fn of(route: Route, mut buffer: Vec<u8>, answered: Answered, now: Moment) -> Exchange
+    pub fn of(route: Route, mut buffer: Vec<u8>, answered: HttpAnswer, now: Moment) -> Exchange
         requires empty { buffer.items ≡ [] }
         requires buffer { 512 ≤ vec_capacity buffer }
-        ensures tells { HasEffects now (answer_effects answered) result }
+        ensures effects { HasEffects now (answer_effects answered) result }
         ensures route { result.route ≡ route }
     {
-        let Answered {
+        let HttpAnswer {
             answer,
             signature,
             store,
@@ -111,14 +111,14 @@ impl Exchange {
         response: Result<Vec<u8>, Memory>,
         signature: SignatureOutcome,
     ) -> Exchange
-        ensures tells { AnswersText now (ocsp_reply (items_of response)) result }
+        ensures answer_text { AnswersText now (ocsp_reply (items_of response)) result }
         ensures effects { HasOnlySignature signature result }
         ensures route { result.route ≡ route }
     {
         let (Ok(text), Ok(body)) = (text_buffer(alloc), json_buffer(alloc)) else {
             return Exchange::empty(alloc, route, signature);
         };
-        let answered = Answered {
+        let answered = HttpAnswer {
             answer: ocsp_answer(body, response),
             signature,
             store: StoreEffect::Unwritten,
@@ -139,7 +139,7 @@ pub struct UnsignedResponse {
 pub fn begun_exchange(
     route: Route,
     buffer: Vec<u8>,
-    begun: Result<ReadyOrUnsigned<Answered, Draft>, Memory>,
+    begun: Result<ReadyOrUnsigned<HttpAnswer, Draft>, Memory>,
     now: Moment,
 ) -> ReadyOrUnsigned<Exchange, UnsignedResponse>
     requires empty { buffer.items ≡ [] }

@@ -13,7 +13,7 @@ mod route;
 pub mod routes;
 mod serve;
 
-pub use answered::{Answered, LoggedRevocationRequest};
+pub use answered::{HttpAnswer, LoggedRevocationRequest};
 pub use bodies::json;
 pub use changes::answer_changes;
 pub use exchange::{Exchange, UnsignedResponse, begun_exchange, text_buffer};

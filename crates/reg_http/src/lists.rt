@@ -6,7 +6,7 @@ ghost use Rattle.reg_office_api.specs.Calls.{LooksIn};
 ghost use Rattle.reg_http.specs.Lists.{RespondsList, given_page, list_request, page_in, page_of_path, wanted_body};
 ghost use Rattle.reg_http.specs.AnswerEffects.{fault_effects, answer_effects};
 
-use crate::answered::{Answered, answer_of_fault};
+use crate::answered::{HttpAnswer, answer_of_fault};
 use crate::bodies::{json, json_buffer};
 use crate::routes::only_get;
 use http::Method;
@@ -32,7 +32,7 @@ pub fn answer_list<O: Office>(
     target: &str,
     now: Moment,
     office: &mut O,
-) -> Result<Answered, Memory>
+) -> Result<HttpAnswer, Memory>
     ensures { LooksIn O.Office
         (λ records. IfOk result
         (λ answered. RespondsList records now (list_request method.now target.now) (answer_effects answered)))
@@ -93,12 +93,12 @@ fn answer_page(
     alloc: Global,
     wanted: &PageQuery,
     given: &Result<Page, Fault>,
-) -> Result<Answered, Memory>
+) -> Result<HttpAnswer, Memory>
     ensures { IfOk result (λ answered. answer_effects answered ≡ given_page wanted.now given.now) }
 {
     match given {
         Ok(page) => match filtered_text(alloc, wanted, page) {
-            Ok(text) => Ok(Answered::plain(json(status::OK, text))),
+            Ok(text) => Ok(HttpAnswer::plain(json(status::OK, text))),
             Err(_) => Err(Memory),
         },
         Err(fault) => report_fault(alloc, *fault),
@@ -112,7 +112,7 @@ fn filtered_text(alloc: Global, wanted: &PageQuery, page: &Page) -> Result<Vec<u
     page_text(alloc, wanted.from, &rows, page.next)
 }
 
-fn report_fault(alloc: Global, fault: Fault) -> Result<Answered, Memory>
+fn report_fault(alloc: Global, fault: Fault) -> Result<HttpAnswer, Memory>
     ensures { IfOk result (λ answered. answer_effects answered ≡ fault_effects fault) }
 {
     Ok(answer_of_fault(json_buffer(alloc)?, fault))

@@ -7,7 +7,7 @@ ghost use Rattle.reg_http.specs.Bodies.{der, malformed_text};
 ghost use Rattle.reg_http.specs.Meanings.{request_of_call};
 ghost use Rattle.reg_http.specs.AnswerEffects.{answer_effects};
 
-use crate::answered::{Answered, answer_of_fault, crl_answer, outcome_answer, request_answer};
+use crate::answered::{HttpAnswer, answer_of_fault, crl_answer, outcome_answer, request_answer};
 use crate::bodies::{OCSP_RESPONSE, der, method_not_allowed, refusal};
 use crate::meaning::Call;
 use reg_core::{Command, Fault, Moment, Query, Refusal};
@@ -35,17 +35,17 @@ pub(crate) fn respond<O: Office>(
     call: Call,
     now: Moment,
     office: &mut O,
-) -> Answered
+) -> HttpAnswer
     requires empty { buffer.items ≡ [] }
     requires buffer { 256 ≤ vec_capacity buffer }
     ensures { AnswersIn O.Office now office.old (request_of_call call) (answer_effects result) office.new }
 {
     match call {
-        Call::Refused(status) => Answered::plain(refusal(buffer, status)),
-        Call::OnlyGet => Answered::plain(method_not_allowed(buffer, "GET")),
-        Call::OnlyPost => Answered::plain(method_not_allowed(buffer, "POST")),
+        Call::Refused(status) => HttpAnswer::plain(refusal(buffer, status)),
+        Call::OnlyGet => HttpAnswer::plain(method_not_allowed(buffer, "GET")),
+        Call::OnlyPost => HttpAnswer::plain(method_not_allowed(buffer, "POST")),
         Call::Unreadable => answer_of_fault(buffer, Fault::Refused(Refusal::Syntax)),
-        Call::Malformed => Answered::plain(malformed(buffer)),
+        Call::Malformed => HttpAnswer::plain(malformed(buffer)),
         Call::Crl(number) => crl_answer(buffer, office.crl_bytes(alloc, number)),
         Call::Status(serial) => {
             let query = Query::Status(serial);

@@ -13,7 +13,7 @@ ghost use Rattle.reg_http.specs.Bodies.{http_refusal, method_not_allowed as only
 ghost use Rattle.reg_http.specs.Meanings.{request_of_call};
 ghost use Rattle.reg_http.specs.AnswerEffects.{fault_effects, plain, answer_effects};
 
-use crate::answered::{Answered, answer_of_fault, begun_answer, ocsp_answer};
+use crate::answered::{HttpAnswer, answer_of_fault, begun_answer, ocsp_answer};
 use crate::bodies::{json_buffer, method_not_allowed, refusal};
 use crate::meaning::{Call, Meaning, meaning_of};
 use crate::respond::respond;
@@ -61,7 +61,7 @@ pub fn begin<O: Office>(
     body: &[u8],
     now: Moment,
     office: &mut O,
-) -> Result<ReadyOrUnsigned<Answered, Draft>, Memory>
+) -> Result<ReadyOrUnsigned<HttpAnswer, Draft>, Memory>
     ensures ok { IfOk result (λ begun. LeadsIn O.Office
         (λ signers before after.
         BeginsTo (Runs O.signs signers) Asks (Replies O.signs signers) GivesCrl (Drafts signers) now
@@ -116,22 +116,22 @@ fn serial_in(call: Call) -> Option<Serial>
 }
 
 /// The answer to a request that ended in this fault, with the line of the fault. [`Memory`] if out of memory.
-pub fn report_fault(alloc: Global, fault: Fault) -> Result<Answered, Memory>
+pub fn report_fault(alloc: Global, fault: Fault) -> Result<HttpAnswer, Memory>
     ensures { IfOk result (λ answered. answer_effects answered ≡ fault_effects fault) }
 {
     Ok(answer_of_fault(json_buffer(alloc)?, fault))
 }
 
 /// The answer to a request that is refused with this status code, without a call of the office. [`Memory`] if out of memory.
-pub fn refuse(alloc: Global, status: u16) -> Result<Answered, Memory>
+pub fn refuse(alloc: Global, status: u16) -> Result<HttpAnswer, Memory>
     ensures { IfOk result (λ answered. answer_effects answered ≡ plain (http_refusal status)) }
 {
-    Ok(Answered::plain(refusal(json_buffer(alloc)?, status)))
+    Ok(HttpAnswer::plain(refusal(json_buffer(alloc)?, status)))
 }
 
 /// The answer to another method than GET at a route that has only GET (RFC 9110 15.5.6). [`Memory`] if out of memory.
-pub fn only_get(alloc: Global) -> Result<Answered, Memory>
+pub fn only_get(alloc: Global) -> Result<HttpAnswer, Memory>
     ensures { IfOk result (λ answered. answer_effects answered ≡ plain (only_response (codes "GET"))) }
 {
-    Ok(Answered::plain(method_not_allowed(json_buffer(alloc)?, "GET")))
+    Ok(HttpAnswer::plain(method_not_allowed(json_buffer(alloc)?, "GET")))
 }

@@ -29,10 +29,10 @@ refused_long bytes long none =
     (long, inl (refl, (length-take-le longest_head bytes long, no_delimiter_in_prefix blank_line bytes longest_head none)))
 
 -- what is told is known
-pub known_of_told : (bytes : List ℕ) (known : ScanState) → IsAllKnown bytes known → Knows bytes known
-known_of_told bytes (NoHeadEnd count) told = (omega (arith, told.0), told.2)
-known_of_told bytes (Refused count status) told = told
-known_of_told bytes (Valid head) told = told
+pub known_of_all : (bytes : List ℕ) (known : ScanState) → IsAllKnown bytes known → Knows bytes known
+known_of_all bytes (NoHeadEnd count) all_known = (omega (arith, all_known.0), all_known.2)
+known_of_all bytes (Refused count status) all_known = all_known
+known_of_all bytes (Valid head) all_known = all_known
 
 -- what is known stays so, however the bytes go on
 pub known_of_more : (bytes more : List ℕ) (known : ScanState) → Knows bytes known → Knows (bytes ++ more) known
@@ -123,11 +123,11 @@ exact_of_needs bytes it needs all =
 
 -- no head yet, or a head with less than its body
 pub unfinished_of_no_end : (bytes : List ℕ) (count : ℕ) → IsAllKnown bytes (NoHeadEnd count) → IsUnfinished bytes
-unfinished_of_no_end bytes count told =
+unfinished_of_no_end bytes count all_known =
     let P : List ℕ → Type 0 = λ b. HasNoDelimiter blank_line b in
     inl (
-      omega (arith, told.0, told.1),
-      subst P (take_all count bytes (omega (arith, told.0))) (no_delimiter_in_prefix blank_line bytes count told.2),
+      omega (arith, all_known.0, all_known.1),
+      subst P (take_all count bytes (omega (arith, all_known.0))) (no_delimiter_in_prefix blank_line bytes count all_known.2),
     )
 
 pub unfinished_of_needs : (bytes : List ℕ) (it : HeadState) → NeedsBytes bytes it → length bytes < it.needed → IsUnfinished bytes

@@ -19,7 +19,7 @@ pub(crate) enum Values {
     Several,
 }
 
-/// Adds this field's value, if the field has this `name`, to `earlier`: the values of the fields before it. Ignores letter case (RFC 9110 5.1).
+/// The values in `earlier` (of fields with this `name` before this field), and this field's if it has that name in any letter case (RFC 9110 5.1).
 fn with_field(head: &[u8], field: &HeaderSpan, name: &[u8], earlier: Values) -> Values
     requires { IsHeaderWithin (length head.now) field.now }
     ensures { (before : List (List ℕ)) → HasFieldValues head.now before earlier
@@ -47,7 +47,7 @@ fn values_of(head: &[u8], fields: &[HeaderSpan], name: &[u8]) -> Values
     values
 }
 
-/// The length in bytes of a POST's body (RFC 9112 6.3), or the status code that refuses it: 411 also for any transfer coding (`chunked`).
+/// The length in bytes of a POST's body (RFC 9112 6.3), or the status code that refuses the POST: 411 also with a Transfer-Encoding (`chunked`).
 pub(crate) fn post_size(head: &[u8], fields: &[HeaderSpan]) -> Result<u64, u16>
     requires { All (IsHeaderWithin (length head.now)) fields.now }
     ensures { result ≡ size_by

@@ -44,8 +44,8 @@ impl HeadSpans {
     }
 }
 
-/// Reads a whole head, with its empty line. The error is the status code that refuses the head: 431 for more than 64 fields, or 400 for bytes that
-/// are no head (if both apply, one of the two); or the error of [`post_size`].
+/// Reads a whole head, through its first CRLF CRLF. The error is the status code that refuses the head: 431 for more than 64 fields, or 400 for bytes
+/// that are no head (if both apply, one of the two); or the error of [`post_size`].
 pub(crate) fn read_head(head: &[u8]) -> Result<HeadSpans, u16>
     ensures ok { IfOk result (HoldsHead head.now) }
     ensures small { IfOk result (λ spans. spans.size ≤ longest_body) }
@@ -61,7 +61,8 @@ pub(crate) fn read_head(head: &[u8]) -> Result<HeadSpans, u16>
                 size,
             })
         }
-        // `Complete`: the parser takes a lone LF as a line end, so it found an earlier end. `Partial`: the head has only empty lines, which it skips.
+        // `Complete`: the parser also takes a lone LF as a line end, so it took an earlier empty line as the end.
+        // `Partial`: the head has only empty lines, which the parser skips.
         Ok(Status::Complete(_)) => Err(status::BAD_REQUEST),
         Ok(Status::Partial) => Err(status::BAD_REQUEST),
         Err(Error::TooManyHeaders) => Err(status::HEADERS_TOO_LARGE),

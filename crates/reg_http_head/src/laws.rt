@@ -2,7 +2,7 @@
 
 ghost use Rattle.reg_http_head.specs.Laws.{ArePhrases, IsOneRequest, IsOneText};
 
-/// The reason phrases of the desk's status codes (RFC 9112 4) are those of the crate `http`. The law leaves out 429, for which it would hold, too.
+/// The reason phrases of the desk's status codes (RFC 9112 4) are those of the crate `http`. The law leaves out 429, which was added later.
 pub fn phrases()
     ensures { ArePhrases }
 {}

@@ -25,7 +25,7 @@ pub(crate) struct HeadState {
     pub(crate) needed: usize,
 }
 
-/// Searches for the end of the head, from where the last search (`known`) stopped, and reads the head.
+/// `known` itself, if it has a head. Else searches for the end of the head, from where the last search (`known`) stopped, and reads the head.
 pub(crate) fn scan_all(bytes: &[u8], known: ScanState) -> ScanState
     requires { ∥ Knows bytes.now known ∥₁ }
     ensures { ∥ IsAllKnown bytes.now result ∥₁ }

@@ -9,7 +9,7 @@ pub const NOT_FOUND: u16 = 404;
 
 /// 405: the route has another method, which Allow names.
 pub const METHOD_NOT_ALLOWED: u16 = 405;
-/// 409: the register refuses the request; or, for the changes feed, its history doesn't have the positions that the client sent (`diverged`).
+/// 409: the register refuses the request; or, for the changes feed, the register's history doesn't have the client's positions (`diverged`).
 pub const CONFLICT: u16 = 409;
 /// 411: a POST has no Content-Length, or has a Transfer-Encoding.
 pub const LENGTH_REQUIRED: u16 = 411;

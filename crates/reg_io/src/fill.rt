@@ -6,7 +6,7 @@ ghost use Rattle.reg_io.specs.Fill.{Fills, FillsShort, FillsTo};
 use crate::streams::Source;
 use std::io::Read;
 
-/// A read fails if the reader failed (even with `Interrupted`), ended before the buffer was full ([`fill_exact`]), or filled it ([`fill_to_end`]).
+/// The reader failed (even with `Interrupted`), ended before the buffer was full (in [`fill_exact`]), or filled the buffer (in [`fill_to_end`]).
 #[derive(Clone, Copy, PartialEq, Eq)]
 pub struct ReadFault;
 

@@ -1,4 +1,4 @@
-//! Laws of reads, writes and runs: contracts of functions that do nothing. Proofs in other crates cite them by `proofs/PublicLaws.antt`.
+//! Theorems about reads, writes and runs of requests, as contracts of functions that do nothing. Other proofs cite them by `proofs/PublicLaws.antt`.
 
 ghost use Rattle.reg_io.specs.Fill.{KeepsWhatWasTaken, SplitsAtDelimiter};
 ghost use Rattle.reg_io.specs.Delimiter.{OneFirstDelimiter, FirstDelimiterOfAppend, FirstDelimiterInPrefix, NoDelimiterInPrefix, FirstDelimiterOfByte, NoDelimiterOfByte};
@@ -14,7 +14,7 @@ pub fn one_first_delimiter()
     ensures none { NoDelimiterInPrefix }
 {}
 
-/// The first delimiter of one byte is the first such byte; bytes without such a delimiter don't contain the byte.
+/// If the delimiter is one byte, the first delimiter is the first such byte. Bytes without the delimiter don't contain the byte.
 pub fn delimiters_of_one_byte()
     ensures first { FirstDelimiterOfByte }
     ensures none { NoDelimiterOfByte }
@@ -26,7 +26,7 @@ pub fn kept_is_what_was_taken()
     ensures parts { SplitsAtDelimiter }
 {}
 
-/// If a proper prefix of `first` was appended, or `first` and a proper prefix of `second`, the appended bytes are a proper prefix of both together.
+/// If a writer stops before the end of `first`, or after `first` before the end of `second`, it has appended a proper prefix of both together.
 pub fn prefixes_of_two_parts()
     ensures first { PrefixOfFirst }
     ensures second { PrefixOfSecond }

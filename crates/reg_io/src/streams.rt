@@ -2,7 +2,7 @@ use crate::fill::ReadFault;
 use crate::put::WriteFault;
 use std::io::{Read, Write};
 
-/// A reader whose failure a contract can state: `R.failed`, for any `R: Source`. `read_once` ensures this if it fails; no other call does.
+/// A reader whose failure a contract can state: `R.failed` for any `R: Source`. Its call `read_once` ensures this, if it fails; no other call does.
 pub trait Source: Read {
     ghost use Rattle.std.specs.Prelude.{OnErr};
     ghost use Rattle.std.specs.Io.{ReadsAtMost};
@@ -18,7 +18,7 @@ pub trait Source: Read {
 }
 
 impl<R: Read> Source for R {
-    // Here `failed` always holds, so it tells nothing: no clause can state what a call did outside the program.
+    // Always true: no clause can state what a call did outside the program. A function that is generic in `R: Source` can't rely on that.
     ghost failed = { Unit {0} };
 
     fn read_once(&mut self, buf: &mut [u8]) -> Result<usize, ReadFault> {
@@ -29,7 +29,7 @@ impl<R: Read> Source for R {
     }
 }
 
-/// A writer whose failure a contract can state: `W.failed`, for any `W: Sink`. `write_once` ensures this if it fails or takes 0 of some bytes.
+/// A writer whose failure a contract can state: `W.failed` for any `W: Sink`. `write_once` ensures this if it fails, or takes 0 of some bytes.
 pub trait Sink: Write {
     ghost use Rattle.std.specs.Prelude.{◌≡◌, ◌<◌, length, IfOk, OnErr};
     ghost use Rattle.std.specs.Io.{WritesAtMost};

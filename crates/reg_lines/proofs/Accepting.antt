@@ -24,13 +24,13 @@ use Rattle.reg_lines.specs.declared.answered.LineKind.{LineKind}
 use Rattle.reg_lines.specs.declared.answered.LineKind.TheVariants.{Nothing, Command, Query}
 
 -- where a command was refused, the reply tells why
-pub told_why : (answered : Answered) → GivesReason (refused_of answered) (reply_of answered)
+pub gives_reason : (answered : Answered) → GivesReason (refused_of answered) (reply_of answered)
 unfolding outcome_line fault_line
-told_why (Completed (Command command) (Err (Refused why))) = refl
-told_why (Completed (Command command) (Err other)) = tt
-told_why (Completed (Command command) (Ok reply)) = tt
-told_why (Completed what outcome) = tt
-told_why (Response reply) = tt
+gives_reason (Completed (Command command) (Err (Refused why))) = refl
+gives_reason (Completed (Command command) (Err other)) = tt
+gives_reason (Completed (Command command) (Ok reply)) = tt
+gives_reason (Completed what outcome) = tt
+gives_reason (Response reply) = tt
 
 -- ---- the first byte of a reply
 
@@ -95,23 +95,23 @@ response_agrees response reply is =
     ((λ accepted. subst IsAccepted (sym is.line) (later_accepted (with_lf (codes "ocsp " ++ encode_lower response)) (lit< tt))), (λ accepted. refl))
 
 given_agrees : (given : Result (List ℕ) NoMemory) (answered : Answered) → OcspLineComesTo given answered → Agrees answered
-given_agrees given (Completed what outcome) told = outcome_agrees what outcome
-given_agrees (Ok response) (Response reply) told = response_agrees response reply told
-given_agrees (Err memory) (Response reply) told = absurd told
+given_agrees given (Completed what outcome) given_so = outcome_agrees what outcome
+given_agrees (Ok response) (Response reply) given_so = response_agrees response reply given_so
+given_agrees (Err memory) (Response reply) given_so = absurd given_so
 
 module _ {S : Type 0} (answers : S → ℕ → Call → S → Type 0) where
   asked_agrees : (now : ℕ) (s : S) (meaning : Meaning) (answered : Answered) (t : S) → OfficeAnswers answers now s meaning answered t → Agrees answered
   asked_agrees now s (means_command command) answered t (outcome, did, is) = subst Agrees (sym is) (outcome_agrees (Command command) outcome)
   asked_agrees now s (means_query query) answered t (outcome, did, is) = subst Agrees (sym is) (outcome_agrees (Query query) outcome)
-  asked_agrees now s (is_ocsp_line request) answered t (given, did, told) = given_agrees given answered told
+  asked_agrees now s (is_ocsp_line request) answered t (given, did, given_so) = given_agrees given answered given_so
 
   comes_agrees : (now : ℕ) (s : S) (line : List ℕ) (answered : Answered) (t : S) → ComesTo answers now s line answered t → Agrees answered
   comes_agrees now s line answered t (inl (meaning, means, did)) = asked_agrees now s meaning answered t did
   comes_agrees now s line answered t (inr (unread, is, same)) = subst Agrees (sym is) (outcome_agrees Nothing (Err (Refused refused.Syntax)))
 
-  pub line_agrees : (told : ℕ → Type 0) (is_clocked : Bool) (s : S) (line : List ℕ) (answered : Answered) (t : S)
-      → LineComesTo answers told is_clocked s line answered t → Agrees answered
-  line_agrees told true s line answered t (now, at, comes) = comes_agrees now s line answered t comes
-  line_agrees told false s line answered t (inl (now, command, begins, comes)) = comes_agrees now s command answered t comes
-  line_agrees told false s line answered t (inr (unread, is, same)) =
+  pub line_agrees : (clock : ℕ → Type 0) (is_clocked : Bool) (s : S) (line : List ℕ) (answered : Answered) (t : S)
+      → LineComesTo answers clock is_clocked s line answered t → Agrees answered
+  line_agrees clock true s line answered t (now, at, comes) = comes_agrees now s line answered t comes
+  line_agrees clock false s line answered t (inl (now, command, begins, comes)) = comes_agrees now s command answered t comes
+  line_agrees clock false s line answered t (inr (unread, is, same)) =
       subst Agrees (sym is) (outcome_agrees Nothing (Err (Refused refused.Syntax)))

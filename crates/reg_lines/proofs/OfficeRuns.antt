@@ -24,27 +24,27 @@ line_leads office s t now line came comes =
 module _ {O E W : Type 0} (office : Office O) (remaining : E → Option (List ℕ)) (contents : W → Option (List ℕ))
     (s t : O) (reader reader' : E) (writer writer' : W) where
   -- a run of lines leads from records to records
-  pub lines_lead : (input_failed output_failed : Type 0) (told : ℕ → Type 0) (clock_failed : Type 0) (is_clocked is_strict : Bool) (result : Result Ended Fault)
-      → LinesEnd (LineCalls office) remaining contents input_failed output_failed s t reader reader' writer writer' told clock_failed is_clocked is_strict result
+  pub lines_lead : (input_failed output_failed : Type 0) (clock : ℕ → Type 0) (clock_failed : Type 0) (is_clocked is_strict : Bool) (result : Result Ended Fault)
+      → LinesEnd (LineCalls office) remaining contents input_failed output_failed s t reader reader' writer writer' clock clock_failed is_clocked is_strict result
       → Leads office.is_clean office.stands
       (λ signers before after.
       LinesEnd (Lines office.signs signers) remaining contents input_failed output_failed before after reader reader' writer writer'
-      told clock_failed is_clocked is_strict result) s t
-  lines_lead input_failed output_failed told clock_failed is_clocked is_strict result ends =
+      clock clock_failed is_clocked is_strict result) s t
+  lines_lead input_failed output_failed clock clock_failed is_clocked is_strict result ends =
       input_moves office.is_clean office.stands (LineCalls office) (Lines office.signs) (λ v now call w called. called.0)
-      told clock_failed is_clocked is_strict remaining contents input_failed output_failed s t reader reader' writer writer' result ends
+      clock clock_failed is_clocked is_strict remaining contents input_failed output_failed s t reader reader' writer writer' result ends
 
   -- a script leads so too
-  pub script_leads : (input_failed output_failed : Type 0) (told : ℕ → Type 0) (clock_failed : Type 0) (ran : Result Ended Fault)
+  pub script_leads : (input_failed output_failed : Type 0) (clock : ℕ → Type 0) (clock_failed : Type 0) (ran : Result Ended Fault)
       (result : Result (Unit {0}) Fault) → result ≡ done_of ran
       → Leads office.is_clean office.stands
       (λ signers before after.
       LinesEnd (Lines office.signs signers) remaining contents input_failed output_failed before after reader reader' writer writer'
-      told clock_failed false false ran) s t
+      clock clock_failed false false ran) s t
       → Leads office.is_clean office.stands
       (λ signers before after.
       ScriptEnds (Lines office.signs signers) remaining contents input_failed output_failed before after reader reader' writer writer' result) s t
-  script_leads input_failed output_failed told clock_failed ran result is =
+  script_leads input_failed output_failed clock clock_failed ran result is =
       follows office.is_clean office.stands _ _ (λ signers before after ends. (ran, ends, is)) s t
 
   -- an import

@@ -17,20 +17,20 @@ use Rattle.reg_lines.proofs.RowLemmas.{Place, data_push, header_first, place_fir
 pub record WritingLines (text lines : List ℕ) (source : Option (List ℕ)) (state : State) (index : ℕ) : Type 0 where
   pub rows : List Row
   pub place : Place text rows source state index
-  pub told : lines ≡ all_row_lines (data_rows rows)
+  pub lines_are : lines ≡ all_row_lines (data_rows rows)
 
 pub writing_start : (text lines : List ℕ) (source : Option (List ℕ)) (state : State)
     → source ≡ Some (strip_bom text) → state ≡ st.StartRecord → lines ≡ [] → WritingLines text lines source state 0
-writing_start text lines source state known is none = record { rows = []; place = place_first text source state known is; told = none }
+writing_start text lines source state known is none = record { rows = []; place = place_first text source state known is; lines_are = none }
 
 rows_push : (rows : List Row) (row : Row) → all_row_lines (rows ++ row ∷ []) ≡ all_row_lines rows ++ row_line (four row)
 rows_push [] row = append-nil (row_line (four row))
 rows_push (first ∷ rest) row =
     ap (λ l. row_line (four first) ++ l) (rows_push rest row) ∙ sym (append_assoc (row_line (four first)) (all_row_lines rest) (row_line (four row)))
 
-told_push : (rows : List Row) (row : Row) (index : ℕ) → length rows ≡ index
+lines_push : (rows : List Row) (row : Row) (index : ℕ) → length rows ≡ index
     → all_row_lines (data_rows rows) ++ line_added (index == 0) row ≡ all_row_lines (data_rows (rows ++ row ∷ []))
-told_push rows row index counted = by ((index == 0) && is_header row) refl
+lines_push rows row index counted = by ((index == 0) && is_header row) refl
   where
     by : (b : Bool) → ((index == 0) && is_header row) ≡ b
         → all_row_lines (data_rows rows) ++ cond ((index == 0) && is_header row) [] (row_line (four row)) ≡ all_row_lines (data_rows (rows ++ row ∷ []))
@@ -48,21 +48,21 @@ module _ {R : Type 0} (text : List ℕ) (rem : R → Option (List ℕ)) (a b : R
   writing_more more t config read is = record {
     rows = t.rows ++ row ∷ [];
     place = place_next text rem a b row t.rows index t.place config read;
-    told = is ∙ ap (λ l. l ++ line_added (index == 0) row) t.told ∙ told_push t.rows row index t.place.counted;
+    lines_are = is ∙ ap (λ l. l ++ line_added (index == 0) row) t.lines_are ∙ lines_push t.rows row index t.place.counted;
   }
 
   -- no row is left
   pub writing_all : WritingLines text lines (source_of rem a) a.state index → a.config ≡ default_config → ReadRecord rem a b false row → ListsRows text lines
-  writing_all t config read = (t.rows, rows_all text rem a b row t.rows index t.place config read, t.told)
+  writing_all t config read = (t.rows, rows_all text rem a b row t.rows index t.place config read, t.lines_are)
 
 -- how the telling of an input ends whose text was read, or was not
-pub told_text : (failed : Type 0) (input input' : Option (List ℕ)) (text : List ℕ) (result : Result (Vec ℕ Global) Fault) → TookAll input input' text
+pub lists_text : (failed : Type 0) (input input' : Option (List ℕ)) (text : List ℕ) (result : Result (Vec ℕ Global) Fault) → TookAll input input' text
     → MatchResult result (λ lines. ListsRows text lines.items) (λ fault. fault ≡ Memory)
     → ListingEnds failed input input' (result_map_both (λ lines. lines.items) (λ fault. fault) result)
-told_text failed input input' text (Ok lines) took told = (text, took, told)
-told_text failed input input' text (Err fault) took none = subst (λ f. ListingEnds failed input input' (Err f)) (sym none) (inr (text, took))
+lists_text failed input input' text (Ok lines) took lines_are = (text, took, lines_are)
+lists_text failed input input' text (Err fault) took none = subst (λ f. ListingEnds failed input input' (Err f)) (sym none) (inr (text, took))
 
-pub told_read : (failed : Type 0) (input input' : Option (List ℕ)) (fault : Fault) → TextRead failed input input' (Err fault) → ListingEnds failed input input' (Err fault)
-told_read failed input input' Read ends = ends
-told_read failed input input' Memory ends = inl ends
-told_read failed input input' other ends = absurd ends
+pub lists_unread : (failed : Type 0) (input input' : Option (List ℕ)) (fault : Fault) → TextRead failed input input' (Err fault) → ListingEnds failed input input' (Err fault)
+lists_unread failed input input' Read ends = ends
+lists_unread failed input input' Memory ends = inl ends
+lists_unread failed input input' other ends = absurd ends

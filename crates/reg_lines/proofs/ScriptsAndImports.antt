@@ -50,14 +50,14 @@ module _ {S I R : Type 0} (is_clean : S → Type 0) (stands : I → S → R → 
   run_moves input_failed clock_failed output_failed is_strict (Err other) ends = absurd ends
 
 -- a run for which there was memory
-pub lines_end : {S E W : Type 0} (answers : S → ℕ → Call → S → Type 0) (told : ℕ → Type 0) (remaining : E → Option (List ℕ)) (contents : W → Option (List ℕ))
+pub lines_end : {S E W : Type 0} (answers : S → ℕ → Call → S → Type 0) (time : ℕ → Type 0) (remaining : E → Option (List ℕ)) (contents : W → Option (List ℕ))
     (input_failed output_failed : Type 0) (s t : S) (reader reader' : E) (writer writer' : W) (clock_failed : Type 0) (is_clocked is_strict : Bool)
     (result : Result Ended Fault)
-    → RunEnds (longest_of is_clocked) (remaining reader) (remaining reader') (contents writer) (contents writer') (LineReplies answers told is_clocked)
+    → RunEnds (longest_of is_clocked) (remaining reader) (remaining reader') (contents writer) (contents writer') (LineReplies answers time is_clocked)
     s t input_failed (ClockFails clock_failed is_clocked) output_failed is_strict result
-    → LinesEnd answers remaining contents input_failed output_failed s t reader reader' writer writer' told clock_failed is_clocked is_strict result
-lines_end answers told remaining contents input_failed output_failed s t reader reader' writer writer' clock_failed is_clocked is_strict (Err Memory) ends = absurd ends
-lines_end answers told remaining contents input_failed output_failed s t reader reader' writer writer' clock_failed is_clocked is_strict result ends = ends
+    → LinesEnd answers remaining contents input_failed output_failed s t reader reader' writer writer' time clock_failed is_clocked is_strict result
+lines_end answers time remaining contents input_failed output_failed s t reader reader' writer writer' clock_failed is_clocked is_strict (Err Memory) ends = absurd ends
+lines_end answers time remaining contents input_failed output_failed s t reader reader' writer writer' clock_failed is_clocked is_strict result ends = ends
 
 -- ---- by what the office is asked
 
@@ -71,8 +71,8 @@ module _ {S I R : Type 0} (is_clean : S → Type 0) (stands : I → S → R → 
       follows is_clean stands _ _ (λ i before after made. (outcome, made, is)) s t (lifts s now (ran command outcome) t did)
   asked_moves now s (means_query query) came t (outcome, did, is) =
       follows is_clean stands _ _ (λ i before after made. (outcome, made, is)) s t (lifts s now (asked query outcome) t did)
-  asked_moves now s (is_ocsp_line request) came t (given, did, told) =
-      follows is_clean stands _ _ (λ i before after made. (given, made, told)) s t (lifts s now (responded request given) t did)
+  asked_moves now s (is_ocsp_line request) came t (given, did, given_so) =
+      follows is_clean stands _ _ (λ i before after made. (given, made, given_so)) s t (lifts s now (responded request given) t did)
 
   -- an untimed line at a moment
   pub comes_moves : (now : ℕ) (s : S) (line : List ℕ) (came : LineOutcome) (t : S) → ComesTo answers now s line came t
@@ -83,43 +83,43 @@ module _ {S I R : Type 0} (is_clean : S → Type 0) (stands : I → S → R → 
       follows is_clean stands _ _ (λ i before after stayed. inr (unread, is, stayed)) s t (stays is_clean stands s t same)
 
   -- a line of an input, and with its reply
-  line_moves : (told : ℕ → Type 0) (is_clocked : Bool) (s : S) (line : List ℕ) (came : LineOutcome) (t : S) → LineComesTo answers told is_clocked s line came t
-      → Leads is_clean stands (λ i before after. LineComesTo (kept i) told is_clocked before line came after) s t
-  line_moves told true s line came t (now, at, comes) =
+  line_moves : (time : ℕ → Type 0) (is_clocked : Bool) (s : S) (line : List ℕ) (came : LineOutcome) (t : S) → LineComesTo answers time is_clocked s line came t
+      → Leads is_clean stands (λ i before after. LineComesTo (kept i) time is_clocked before line came after) s t
+  line_moves time true s line came t (now, at, comes) =
       follows is_clean stands _ _ (λ i before after made. (now, at, made)) s t (comes_moves now s line came t comes)
-  line_moves told false s line came t (inl (now, command, begins, comes)) =
+  line_moves time false s line came t (inl (now, command, begins, comes)) =
       follows is_clean stands _ _ (λ i before after made. inl (now, command, begins, made)) s t (comes_moves now s command came t comes)
-  line_moves told false s line came t (inr (unread, is, same)) =
+  line_moves time false s line came t (inr (unread, is, same)) =
       follows is_clean stands _ _ (λ i before after stayed. inr (unread, is, stayed)) s t (stays is_clean stands s t same)
 
-  reply_moves : (told : ℕ → Type 0) (is_clocked : Bool) (s : S) (line reply : List ℕ) (t : S) → LineReplies answers told is_clocked s line reply t
-      → Leads is_clean stands (λ i before after. LineReplies (kept i) told is_clocked before line reply after) s t
-  reply_moves told is_clocked s line reply t (came, comes, is) =
-      follows is_clean stands _ _ (λ i before after made. (came, made, is)) s t (line_moves told is_clocked s line came t comes)
+  reply_moves : (time : ℕ → Type 0) (is_clocked : Bool) (s : S) (line reply : List ℕ) (t : S) → LineReplies answers time is_clocked s line reply t
+      → Leads is_clean stands (λ i before after. LineReplies (kept i) time is_clocked before line reply after) s t
+  reply_moves time is_clocked s line reply t (came, comes, is) =
+      follows is_clean stands _ _ (λ i before after made. (came, made, is)) s t (line_moves time is_clocked s line came t comes)
 
   -- a run of lines
-  pub input_moves : {E W : Type 0} (told : ℕ → Type 0) (clock_failed : Type 0) (is_clocked is_strict : Bool)
+  pub input_moves : {E W : Type 0} (time : ℕ → Type 0) (clock_failed : Type 0) (is_clocked is_strict : Bool)
       (remaining : E → Option (List ℕ)) (contents : W → Option (List ℕ)) (input_failed output_failed : Type 0)
       (s t : S) (reader reader' : E) (writer writer' : W) (result : Result Ended Fault)
-      → LinesEnd answers remaining contents input_failed output_failed s t reader reader' writer writer' told clock_failed is_clocked is_strict result
+      → LinesEnd answers remaining contents input_failed output_failed s t reader reader' writer writer' time clock_failed is_clocked is_strict result
       → Leads is_clean stands
       (λ i before after.
-      LinesEnd (kept i) remaining contents input_failed output_failed before after reader reader' writer writer' told clock_failed is_clocked is_strict result) s t
-  input_moves told clock_failed is_clocked is_strict remaining contents input_failed output_failed s t reader reader' writer writer' (Err Memory) ends =
+      LinesEnd (kept i) remaining contents input_failed output_failed before after reader reader' writer writer' time clock_failed is_clocked is_strict result) s t
+  input_moves time clock_failed is_clocked is_strict remaining contents input_failed output_failed s t reader reader' writer writer' (Err Memory) ends =
       follows is_clean stands _ _ (λ i before after stayed. (stayed, ends.1, ends.2)) s t (stays is_clean stands s t ends.0)
-  input_moves told clock_failed is_clocked is_strict remaining contents input_failed output_failed s t reader reader' writer writer' result ends =
-      run_moves is_clean stands (LineReplies answers told is_clocked) (λ i. LineReplies (kept i) told is_clocked) (reply_moves told is_clocked)
+  input_moves time clock_failed is_clocked is_strict remaining contents input_failed output_failed s t reader reader' writer writer' result ends =
+      run_moves is_clean stands (LineReplies answers time is_clocked) (λ i. LineReplies (kept i) time is_clocked) (reply_moves time is_clocked)
       (longest_of is_clocked) s t (remaining reader) (remaining reader') (contents writer) (contents writer')
       input_failed (ClockFails clock_failed is_clocked) output_failed is_strict result ends
 
   -- one row of an import
   row_moves : (now : ℕ) (s : S) (row : Row) (reply : List ℕ) (t : S) → RowReplies answers now s row reply t
       → Leads is_clean stands (λ i before after. RowReplies (kept i) now before row reply after) s t
-  row_moves now s row reply t (inl (command, outcome, means, answered, told)) =
-      follows is_clean stands _ _ (λ i before after made. inl (command, outcome, means, made, told)) s t
+  row_moves now s row reply t (inl (command, outcome, means, answered, replied)) =
+      follows is_clean stands _ _ (λ i before after made. inl (command, outcome, means, made, replied)) s t
       (lifts s now (ran command outcome) t answered)
-  row_moves now s row reply t (inr (unreadable, told, same)) =
-      follows is_clean stands _ _ (λ i before after stayed. inr (unreadable, told, stayed)) s t (stays is_clean stands s t same)
+  row_moves now s row reply t (inr (unreadable, replied, same)) =
+      follows is_clean stands _ _ (λ i before after stayed. inr (unreadable, replied, stayed)) s t (stays is_clean stands s t same)
 
   -- all rows of a text, its first rows, or its first rows and one whose reply was cut
   rows_move : (now : ℕ) (s t : S) (rows : List Row) (replies : List (List ℕ)) → Answered (RowReplies answers now) s rows replies t

@@ -146,8 +146,8 @@ module _ {S : Type 0} (runs : S → List ℕ → List ℕ → S → Type 0) (lon
   -- ---- at the end of the input
 
   module _ (now : ℕ) (to : FillsTo (10 ∷ []) input left before after buffered (End now)) where
-    same : take now after ≡ take buffered before ++ to.took
-    same = keeps_what_was_taken (10 ∷ []) input left before after buffered (End now) to
+    taken_is : take now after ≡ take buffered before ++ to.took
+    taken_is = keeps_what_was_taken (10 ∷ []) input left before after buffered (End now) to
 
     free : HasNoLf (take now after)
     free = no_delimiter_of_byte 10 (take now after) to.rests.1
@@ -166,11 +166,11 @@ module _ {S : Type 0} (runs : S → List ℕ → List ℕ → S → Type 0) (lon
         took = to.took;
         consumed = to.fills.consumed;
         at_end = to.rests.2;
-        free = subst HasNoLf same free;
-        short = rw (sym same) short;
-        ran = rw (sym same) ran;
+        free = subst HasNoLf taken_is free;
+        short = rw (sym taken_is) short;
+        ran = rw (sym taken_is) ran;
       },
-      sym same,
+      sym taken_is,
     )
 
     -- nothing is left
@@ -194,12 +194,12 @@ module _ {S : Type 0} (runs : S → List ℕ → List ℕ → S → Type 0) (lon
       record {
         took = to.took;
         consumed = to.fills.consumed;
-        little = omega (arith, short, ap length same);
+        little = omega (arith, short, ap length taken_is);
         office = stays;
         wrote = kept;
       },
       strict,
-      subst IsCut same (free, some more),
+      subst IsCut taken_is (free, some more),
       to.rests.2,
     )
 
@@ -214,7 +214,7 @@ module _ {S : Type 0} (runs : S → List ℕ → List ℕ → S → Type 0) (lon
         rest = [];
         reply = reply;
         consumed = to.fills.consumed;
-        cut = sym same ∙ sym (append-nil (take now after));
+        cut = sym taken_is ∙ sym (append-nil (take now after));
         ends = inr ((free, some more), refl, to.rests.2);
         short = omega (arith, short, ap length (strip_free (take now after) free));
         replied = subst (λ l. runs s l reply t) (sym (line_free (take now after) free)) replied;
@@ -226,7 +226,7 @@ module _ {S : Type 0} (runs : S → List ℕ → List ℕ → S → Type 0) (lon
       record {
         took = to.took;
         consumed = to.fills.consumed;
-        little = omega (arith, short, ap length same);
+        little = omega (arith, short, ap length taken_is);
         office = stays;
         wrote = kept;
       },

@@ -124,10 +124,10 @@ of_row signed records now certificate outcome after happens =
     go (Changes bytes accepted is over made) = by_repeat (is_repeat records (register certificate)) is
 
 -- so no text that begins with a later letter tells either
-no_fault_told
-    : (fault : Fault) (told : List ℕ) → with_lf (outcome_line (Err fault)) ≡ told → 70 < get_or told 0 0 → ⊥
-no_fault_told fault told same later =
-    let first : get_or (with_lf (outcome_line (Err fault))) 0 0 ≡ get_or told 0 0 = ap (λ text. get_or text 0 0) same in
+no_fault_line
+    : (fault : Fault) (reply : List ℕ) → with_lf (outcome_line (Err fault)) ≡ reply → 70 < get_or reply 0 0 → ⊥
+no_fault_line fault reply same later =
+    let first : get_or (with_lf (outcome_line (Err fault))) 0 0 ≡ get_or reply 0 0 = ap (λ text. get_or text 0 0) same in
     elim (fault_begins fault) [ inl refusal ↦ omega (arith, first, refusal) | inr other ↦ omega (arith, first, other) ]
 
 -- texts that differ at a place are not the same
@@ -139,17 +139,17 @@ apart place text other same differs =
     cc both
 
 -- a row's line that tells `registered` is that of this reply, and so is one that tells `same`
-row_told : (outcome : Result Reply Fault) → IsOfRow outcome
+outcome_of_line : (outcome : Result Reply Fault) → IsOfRow outcome
     → (with_lf (outcome_line outcome) ≡ with_lf (codes "registered") → outcome ≡ Ok Registered)
     × (with_lf (outcome_line outcome) ≡ with_lf (codes "same") → outcome ≡ Ok Same)
 unfolding with_lf outcome_line reply_line
-row_told outcome (inl is) =
-    ((λ told. is), (λ told. absurd (apart 0 _ _ (ap (λ o. with_lf (outcome_line o)) (sym is) ∙ told) refl)))
-row_told outcome (inr (inl is)) =
-    ((λ told. absurd (apart 0 _ _ (ap (λ o. with_lf (outcome_line o)) (sym is) ∙ told) refl)), (λ told. is))
-row_told outcome (inr (inr its)) = (
-  (λ told. absurd (no_fault_told its.0 (with_lf (codes "registered")) (ap (λ o. with_lf (outcome_line o)) (sym its.1) ∙ told) (lit< tt))),
-  (λ told. absurd (no_fault_told its.0 (with_lf (codes "same")) (ap (λ o. with_lf (outcome_line o)) (sym its.1) ∙ told) (lit< tt))),
+outcome_of_line outcome (inl is) =
+    ((λ line_is. is), (λ line_is. absurd (apart 0 _ _ (ap (λ o. with_lf (outcome_line o)) (sym is) ∙ line_is) refl)))
+outcome_of_line outcome (inr (inl is)) =
+    ((λ line_is. absurd (apart 0 _ _ (ap (λ o. with_lf (outcome_line o)) (sym is) ∙ line_is) refl)), (λ line_is. is))
+outcome_of_line outcome (inr (inr its)) = (
+  (λ line_is. absurd (no_fault_line its.0 (with_lf (codes "registered")) (ap (λ o. with_lf (outcome_line o)) (sym its.1) ∙ line_is) (lit< tt))),
+  (λ line_is. absurd (no_fault_line its.0 (with_lf (codes "same")) (ap (λ o. with_lf (outcome_line o)) (sym its.1) ∙ line_is) (lit< tt))),
 )
 
 same_line : with_lf (outcome_line (Ok Same)) ≡ with_lf (codes "same")
@@ -158,16 +158,16 @@ same_line = refl
 
 -- the reply tells the outcome
 abbrev IsStatusFor : Result Reply Fault → List ℕ → Type 0
-IsStatusFor outcome told = told ≡ with_lf (outcome_line outcome)
+IsStatusFor outcome reply = reply ≡ with_lf (outcome_line outcome)
 
 -- outcomes that are answered again, by the replies that tell them
-replied_again : (first second : Result Reply Fault) (told other : List ℕ)
-    → IsOfRow first → IsStatusFor first told → IsStatusFor second other → AnsweredAgain first second → RepliedAgain told other
-replied_again first second told other of is is' again said =
+replied_again : (first second : Result Reply Fault) (reply other : List ℕ)
+    → IsOfRow first → IsStatusFor first reply → IsStatusFor second other → AnsweredAgain first second → RepliedAgain reply other
+replied_again first second reply other of is is' again said =
     let outcome : (first ≡ Ok Registered) ⊎ (first ≡ Ok Same) =
     elim said [
-      | inl new ↦ inl ((row_told first of).0 (sym is ∙ new))
-      | inr old ↦ inr ((row_told first of).1 (sym is ∙ old))
+      | inl new ↦ inl ((outcome_of_line first of).0 (sym is ∙ new))
+      | inr old ↦ inr ((outcome_of_line first of).1 (sym is ∙ old))
     ]
     in
     elim (again outcome) [
@@ -179,16 +179,16 @@ all_again : (firsts : List (Result Reply Fault)) (replies : List (List ℕ)) (se
     → AllByRecursion IsOfRow firsts → AllZip IsStatusFor firsts replies → AllZip IsStatusFor seconds others → AllZip AnsweredAgain firsts seconds
     → AllZip RepliedAgain replies others
 all_again [] [] [] [] of a b again = tt
-all_again (first ∷ firsts) (told ∷ replies) (second ∷ seconds) (other ∷ others) of a b again =
-    (replied_again first second told other of.0 a.0 b.0 again.0, all_again firsts replies seconds others of.1 a.1 b.1 again.1)
+all_again (first ∷ firsts) (reply ∷ replies) (second ∷ seconds) (other ∷ others) of a b again =
+    (replied_again first second reply other of.0 a.0 b.0 again.0, all_again firsts replies seconds others of.1 a.1 b.1 again.1)
 all_again firsts replies seconds others of a b again = absurd (assumption)
 
 -- where no reply tells a fault, no outcome is one
 no_faults : (outcomes : List (Result Reply Fault)) (replies : List (List ℕ))
-    → AllZip IsStatusFor outcomes replies → AllByRecursion (λ told. ¬ IsFaultLine told) replies
+    → AllZip IsStatusFor outcomes replies → AllByRecursion (λ reply. ¬ IsFaultLine reply) replies
     → AllByRecursion (λ outcome. IsFault outcome → ⊥) outcomes
 no_faults [] [] is none = tt
-no_faults (outcome ∷ outcomes) (told ∷ replies) is none =
+no_faults (outcome ∷ outcomes) (reply ∷ replies) is none =
     ((λ fault. none.0 (outcome, is.0, fault)), no_faults outcomes replies is.1 none.1)
 no_faults outcomes replies is none = absurd is
 
@@ -199,15 +199,15 @@ record RowsRan (signed : CertList → List ℕ → Type 0) (records : Records) (
   outcomes : List (Result Reply Fault)
   imports : Imports signed records now (map spelled rows) outcomes after
   of_rows : AllByRecursion IsOfRow outcomes
-  told : AllZip IsStatusFor outcomes replies
+  replies_are : AllZip IsStatusFor outcomes replies
 
 module _ (signed : CertList → List ℕ → Type 0) (answers : Records → ℕ → Call → Records → Type 0)
     (by_rules : (s : Records) (now : ℕ) (command : Command) (outcome : Result Reply Fault) (t : Records)
     → answers s now (calls.ran command outcome) t → Happens signed s now command outcome t) where
   ran : (records after : Records) (now : ℕ) (rows : List Row) (replies : List (List ℕ))
       → Answered (RowReplies answers now) records rows replies after → RowsRan signed records now rows replies after
-  ran records after now [] [] same = record { outcomes = []; imports = same; of_rows = tt; told = tt }
-  ran records after now (row ∷ rows) (told ∷ replies) (next, inl (command, outcome, means, happened, is), answered) =
+  ran records after now [] [] same = record { outcomes = []; imports = same; of_rows = tt; replies_are = tt }
+  ran records after now (row ∷ rows) (reply ∷ replies) (next, inl (command, outcome, means, happened, is), answered) =
       let spells = means_spells row command means in
       let rest = ran next after now rows replies answered in
       let P : Command → Type 0 = λ c. Happens signed records now c outcome next in
@@ -216,9 +216,9 @@ module _ (signed : CertList → List ℕ → Type 0) (answers : Records → ℕ 
         outcomes = outcome ∷ rest.outcomes;
         imports = subst Q (sym spells.is) (next, happens, rest.imports);
         of_rows = (of_row signed records now spells.certificate outcome next happens, rest.of_rows);
-        told = (is, rest.told);
+        replies_are = (is, rest.replies_are);
       }
-  ran records after now (row ∷ rows) (told ∷ replies) (next, inr (unread, is, same), answered) =
+  ran records after now (row ∷ rows) (reply ∷ replies) (next, inr (unread, is, same), answered) =
       let P : Records → Type 0 = λ r. Answered (RowReplies answers now) r rows replies after in
       let rest = ran records after now rows replies (subst P same answered) in
       let outcome : Result Reply Fault = Err (Refused refused.Syntax) in
@@ -226,7 +226,7 @@ module _ (signed : CertList → List ℕ → Type 0) (answers : Records → ℕ 
         outcomes = outcome ∷ rest.outcomes;
         imports = subst Q (sym (unread_spells row unread)) (refl, rest.imports);
         of_rows = (inr (inr (Refused refused.Syntax, refl)), rest.of_rows);
-        told = (is, rest.told);
+        replies_are = (is, rest.replies_are);
       }
   ran records after now rows replies answered = absurd answered
 
@@ -234,7 +234,7 @@ module _ (signed : CertList → List ℕ → Type 0) (answers : Records → ℕ 
   pub comes_twice : (records between after : Records) (now : ℕ) (text : List ℕ) (out out' again again' : Option (List ℕ))
       → Sound signed records
       → (first : AllRan answers now records between out out' text)
-      → AllByRecursion (λ told. ¬ IsFaultLine told) first.0.replies
+      → AllByRecursion (λ reply. ¬ IsFaultLine reply) first.0.replies
       → (second : AllRan answers now between after again again' text)
       → (after.certificates ≡ between.certificates) × AllZip RepliedAgain first.0.replies second.0.replies
   comes_twice records between after now text out out' again again' sound first none second =
@@ -244,5 +244,5 @@ module _ (signed : CertList → List ℕ → Type 0) (answers : Records → ℕ 
       let two = ran between after now (data_rows first.0.rows) second.0.replies (subst P same second.1) in
       let both =
       imports_twice signed records between after now (map spelled (data_rows first.0.rows)) one.outcomes two.outcomes sound one.imports
-      (no_faults one.outcomes first.0.replies one.told none) two.imports in
-      (both.0, all_again one.outcomes first.0.replies two.outcomes second.0.replies one.of_rows one.told two.told both.1)
+      (no_faults one.outcomes first.0.replies one.replies_are none) two.imports in
+      (both.0, all_again one.outcomes first.0.replies two.outcomes second.0.replies one.of_rows one.replies_are two.replies_are both.1)

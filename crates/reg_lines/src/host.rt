@@ -20,7 +20,7 @@ pub trait Host {
 
     /// The moment of the clock; [`Fault::Read`] if the clock can't be read.
     fn moment(&self) -> Result<Moment, Fault>
-        ensures told { IfOk result clock_reached }
+        ensures by_clock { IfOk result clock_reached }
         ensures err { IfErr result (λ fault. fault ≡ Read) }
         ensures fails { OnErr result clock_failed };
 

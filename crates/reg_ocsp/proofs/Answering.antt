@@ -20,14 +20,14 @@ answered_total (x ∷ answers) =
 
 -- what can be answered is within the bounds of what is answered
 pub few_answers : (answers : List (CertId × Status)) (nonce : Option (List ℕ)) → CanBeAnswered (ids_model (answered answers)) nonce → length answers ≤ 65536
-few_answers answers told can = omega (arith, can.few, length-map answers (λ answer. answer.0), length-map (answered answers) id_model)
+few_answers answers repeats can = omega (arith, can.few, length-map answers (λ answer. answer.0), length-map (answered answers) id_model)
 
 pub short_answers : (answers : List (CertId × Status)) (nonce : Option (List ℕ)) → CanBeAnswered (ids_model (answered answers)) nonce → sum_by answered_length answers ≤ 65536
-short_answers answers told can = omega (arith, can.short, answered_total answers)
+short_answers answers repeats can = omega (arith, can.short, answered_total answers)
 
 -- and what answers just these CertIDs is within them
 pub answers_fit : (answers : List (CertId × Status)) (ids : List CertId) (nonce : Option (List ℕ)) → answered answers ≡ ids → CanBeAnswered (ids_model ids) nonce → CanBeAnswered (ids_model (answered answers)) nonce
-answers_fit answers ids told same can = subst (λ (asked : List CertId). CanBeAnswered (ids_model asked) told) (sym same) can
+answers_fit answers ids repeats same can = subst (λ (asked : List CertId). CanBeAnswered (ids_model asked) repeats) (sym same) can
 
 -- ---- one answer more
 

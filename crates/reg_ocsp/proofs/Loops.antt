@@ -24,11 +24,11 @@ found_in nonce read = read >>= λ es. Some (found_first nonce es)
 
 -- what is found, with what was found before, is what is found in the whole list
 pub record LooksFor (nonce : Option (List ℕ)) (rest list : List ℕ) : Type 0 where
-  pub told : found_in nonce (all_at extension_at rest) ≡ found_in None (all_at extension_at list)
+  pub found_is : found_in nonce (all_at extension_at rest) ≡ found_in None (all_at extension_at list)
   pub each : IsBytes rest
 
 pub nonce_begins : (bytes list : List ℕ) → IsBytes bytes → whole_at 0x30 bytes ≡ Some list → LooksFor None list list
-nonce_begins bytes list each read = record { told = refl; each = (whole_takes 0x30 bytes list each read).inner }
+nonce_begins bytes list each read = record { found_is = refl; each = (whole_takes 0x30 bytes list each read).inner }
 
 regroup : (nonce nonce2 : Option (List ℕ)) (e : Extension) (read : Option (List Extension)) → ((es : List Extension) → found_first nonce (e ∷ es) ≡ found_first nonce2 es)
     → found_in nonce (read >>= λ es. Some (e ∷ es)) ≡ found_in nonce2 read
@@ -40,7 +40,7 @@ pub nonce_goes_on : (nonce nonce2 : Option (List ℕ)) (rest after list : List �
 nonce_goes_on nonce nonce2 rest after list e same some read so_far =
     let step = all_step extension_at request_extension same_extension IsExtension extension_reads rest e after so_far.each some read in
     record {
-      told = sym (ap (found_in nonce) step ∙ regroup nonce nonce2 e (all_at extension_at after) same) ∙ so_far.told;
+      found_is = sym (ap (found_in nonce) step ∙ regroup nonce nonce2 e (all_at extension_at after) same) ∙ so_far.found_is;
       each = (extension_takes rest (e, after) so_far.each read).taken.each;
     }
 
@@ -66,7 +66,7 @@ abbrev pub with_front : List Id → Option (List Id) → Option (List Id)
 with_front front read = read >>= λ ids. Some (front ++ ids)
 
 pub record Lists (front : List Id) (rest list : List ℕ) : Type 0 where
-  pub told : with_front front (all_at single_at rest) ≡ all_at single_at list
+  pub read_is : with_front front (all_at single_at rest) ≡ all_at single_at list
   pub each : IsBytes rest
 
 push_front : (front : List Id) (id : Id) (read : Option (List Id)) → with_front front (read >>= λ ids. Some (id ∷ ids)) ≡ with_front (front ++ id ∷ []) read
@@ -77,6 +77,6 @@ pub ids_go_on : (front : List Id) (rest after list : List ℕ) (id : Id) → 1 �
 ids_go_on front rest after list id some read so_far =
     let step = all_step single_at single cert_id_in IsSingle single_reads rest id after so_far.each some read in
     record {
-      told = sym (ap (with_front front) step ∙ push_front front id (all_at single_at after)) ∙ so_far.told;
+      read_is = sym (ap (with_front front) step ∙ push_front front id (all_at single_at after)) ∙ so_far.read_is;
       each = (single_takes rest (id, after) so_far.each read).taken.each;
     }

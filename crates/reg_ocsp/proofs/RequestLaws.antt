@@ -280,8 +280,8 @@ spelling_reads f allowed small =
     rw (e0, e1) refl
 
 -- the same up to equations of its parts
-reading_is : (bytes text : List ℕ) (ids asked : List Id) (nonce told : Option (List ℕ)) → bytes ≡ text → ids ≡ asked → nonce ≡ told → request_at text ≡ Some (asked, told) → request_at bytes ≡ Some (ids, nonce)
-reading_is bytes text ids asked repeats told e f g read = rw (e, f, g) read
+reading_is : (bytes text : List ℕ) (ids asked : List Id) (nonce repeats : Option (List ℕ)) → bytes ≡ text → ids ≡ asked → nonce ≡ repeats → request_at text ≡ Some (asked, repeats) → request_at bytes ≡ Some (ids, nonce)
+reading_is bytes text ids asked nonce repeats e f g read = rw (e, f, g) read
 
 pub request_reads : (bytes : List ℕ) (ids : List Id) (nonce : Option (List ℕ)) → IsOcspRequest bytes ids nonce → request_at bytes ≡ Some (ids, nonce)
 request_reads bytes ids nonce is =
@@ -341,10 +341,10 @@ nonce_fits None is = tt
 nonce_fits (Some value) is = is.short
 
 pub repeats_nonce : (bytes : List ℕ) (ids : List Id) (nonce : Option (List ℕ)) → IsOcspRequest bytes ids nonce → IfSome nonce IsNonce
-repeats_nonce bytes ids told is = subst (λ (n : Option (List ℕ)). IfSome n IsNonce) (sym is.built.repeats) (nonce_short is.form.extensions)
+repeats_nonce bytes ids nonce is = subst (λ (n : Option (List ℕ)). IfSome n IsNonce) (sym is.built.repeats) (nonce_short is.form.extensions)
 
 pub asks_some : (bytes : List ℕ) (ids : List Id) (nonce : Option (List ℕ)) → IsOcspRequest bytes ids nonce → 1 ≤ length ids
-asks_some bytes ids told is =
+asks_some bytes ids nonce is =
     let one = is.built.allowed.some in
     let same = ap length is.built.asks in
     omega (arith, length-map is.form.singles cert_id_in)
@@ -364,8 +364,8 @@ can_be_answered bytes ids nonce is =
     } in
     answered_same asked ids (nonce_of f.extensions) nonce (sym is.built.asks) (sym is.built.repeats) made
   where
-    answered_same : (asked ids : List Id) (told nonce : Option (List ℕ)) → asked ≡ ids → told ≡ nonce → CanBeAnswered asked told → CanBeAnswered ids nonce
-    answered_same asked ids told repeats e f can = rw (← e, ← f) can
+    answered_same : (asked ids : List Id) (repeats nonce : Option (List ℕ)) → asked ≡ ids → repeats ≡ nonce → CanBeAnswered asked repeats → CanBeAnswered ids nonce
+    answered_same asked ids repeats other e f can = rw (← e, ← f) can
 
 -- ---- what the reader gives
 

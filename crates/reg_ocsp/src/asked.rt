@@ -2,12 +2,12 @@
 #[derive(Drop)]
 pub struct Asked<'a> {
     pub ids: Vec<CertId<'a>>,
-    /// The contents of extnValue of the first nonce in requestExtensions, if 1 to 131 bytes (RFC 9654 2.1); else `None`. The response repeats them.
+    /// The contents of the first nonce's extnValue in requestExtensions, to repeat; `None` unless 1 to 131 bytes (128 octets in DER, RFC 9654 2.1).
     pub nonce: Option<&'a [u8]>,
 }
 
-/// A certificate by its issuer's hashes and its serial number (CertID, RFC 6960 4.1.1). `raw` is the whole DER value, which the response repeats, and
-/// `algorithm` that of hashAlgorithm. The others are the contents of issuerNameHash, issuerKeyHash, and serialNumber (in the fewest octets).
+/// A CertID (RFC 6960 4.1.1). `raw` is its whole DER value, which the response repeats, and `algorithm` the whole DER value of hashAlgorithm. The
+/// other fields are the contents of issuerNameHash, issuerKeyHash, and serialNumber (in the fewest octets).
 #[derive(Clone, Copy)]
 pub struct CertId<'a> {
     pub raw: &'a [u8],

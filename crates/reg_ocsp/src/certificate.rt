@@ -31,7 +31,7 @@ impl From<AllocError> for CertificateFault {
     }
 }
 
-/// A certificate for the field `certs` of responses (RFC 6960 4.2.1): the responder's, or the issuer's. Contracts see the bytes of its fields.
+/// A certificate for the field `certs` of responses (RFC 6960 4.2.1): the responder's, or the issuer's. Contracts see the bytes of the three vectors.
 #[derive(Drop)]
 pub struct Certificate {
     der: Vec<u8>,
@@ -111,7 +111,7 @@ pub fn subject_public_key(certificate: &[u8]) -> Option<SubjectPublicKey<'_>>
     read_certificate(certificate)
 }
 
-// `expect` (the value must be there), `optional` and `whole` (nothing may follow) read the first DER value of some bytes, if it has a given tag.
+// Each reads a DER value with a given tag. `expect`: it must be there; `optional`; `whole`: nothing may follow, and the result is its contents.
 #[tactic(auto, unfolding(crate::specs::Certificate::certificate_at))]
 fn read_certificate(bytes: &[u8]) -> Option<SubjectPublicKey<'_>>
     ensures { AgreesWith key_model result (certificate_at bytes.now) }

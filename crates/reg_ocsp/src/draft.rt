@@ -11,7 +11,7 @@ use std::alloc::Global;
 use std::marker::Model;
 
 /// The fields of a BasicOCSPResponse except the signature (RFC 6960 4.2.1): ResponseData (`message`), signatureAlgorithm, the certificate in `certs`
-/// (if any). `key` is the signer's public key, to check the signature's form. No later step reads the register: it may change before the signature.
+/// (if any). `key` is the signer's public key, to check the signature's form. The register may change before the signature: no later step reads it.
 #[derive(Drop)]
 pub struct Draft {
     message: Vec<u8>,

@@ -1,5 +1,5 @@
-//! Checks the extensions of an OCSP request, and finds the nonce. The first DER value of some bytes is read by `expect` (it must be there),
-//! `optional`, `whole` (nothing may follow) or `last` (as `whole`, or there are no bytes), if it has a given tag.
+//! Checks the extensions of an OCSP request, and finds the nonce. The functions `expect` (the value must be there), `optional`, `whole` (nothing may
+//! follow) and `last` (as `whole`, or there are no bytes) read the first DER value of some bytes, if it has a given tag.
 
 ghost use Rattle.std.specs.Prelude.{◌≡◌, ◌<◌, length, IfSome, option_copied};
 ghost use Rattle.reg_der.specs.ValueReading.{AgreesWith};
@@ -13,8 +13,8 @@ use reg_der::values::{expect, last, optional, whole};
 /// The contents of the OID id-pkix-ocsp-nonce, 1.3.6.1.5.5.7.48.1.2 (RFC 6960 4.4.1).
 pub(crate) const NONCE: [u8; 9] = [0x2B, 0x06, 0x01, 0x05, 0x05, 0x07, 0x30, 0x01, 0x02];
 
-/// An Extension (RFC 5280 4.1) of an OCSP request that is the nonce or not critical: the contents of extnID, `critical` as it is encoded (`None` if
-/// it is left out, which means `false`), and the contents of extnValue.
+/// An Extension (RFC 5280 4.1) of an OCSP request: the contents of extnID, `critical` as it is encoded (`None` if it is left out, which means
+/// `false`), and the contents of extnValue. Only the nonce may be critical ([`is_refused`]).
 #[derive(Clone, Copy)]
 pub(crate) struct Extension<'a> {
     identifier: &'a [u8],

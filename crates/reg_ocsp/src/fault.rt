@@ -6,7 +6,7 @@ use std::alloc::{AllocError, AllocFailed};
 /// Why a request could not be read.
 #[derive(Clone, Copy, PartialEq, Eq)]
 pub enum RequestFault {
-    /// The bytes are no OCSP request (RFC 6960 4.1.1), or one that [`read_request`](crate::read_request) refuses, as for a critical extension.
+    /// The bytes are no OCSP request (RFC 6960 4.1.1), or [`read_request`](crate::read_request) refuses them, as for a critical extension.
     Malformed,
     Memory,
 }

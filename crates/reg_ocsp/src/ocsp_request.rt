@@ -132,7 +132,7 @@ fn ids(alloc: Global, bytes: &[u8]) -> Result<Vec<CertId<'_>>, RequestFault>
     Ok(ids)
 }
 
-/// The CertID of the first Request, and the bytes after that Request. Its extensions are only checked: no nonce in them is repeated.
+/// The CertID of the first Request, and the bytes after that Request. Its extensions are only checked: a response repeats no nonce in them.
 #[tactic(auto, unfolding(crate::specs::RequestReading::single_at))]
 fn single(bytes: &[u8]) -> Option<(CertId<'_>, &[u8])>
     ensures exact { AgreesWith (λ x. (id_model x.0, x.1.now)) result (single_at bytes.now) }

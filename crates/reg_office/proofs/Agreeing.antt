@@ -28,24 +28,24 @@ one_match issuer id first second here there =
     one_number first second (omega arith) (omega arith) (sym here.spelled ∙ there.spelled)
 
 -- a CertID that names one is told its status
-told_status
-    : (records : Records) (now : ℕ) (id : Id) (told : Status)
-    → IsStatusFor records now id told
+status_of_match
+    : (records : Records) (now : ℕ) (id : Id) (reported : Status)
+    → IsStatusFor records now id reported
     → (serial : ℕ)
     → IsMatch records.issuer id serial
-    → told ≡ status records serial now
-told_status records now id told (inl named) serial match =
+    → reported ≡ status records serial now
+status_of_match records now id reported (inl named) serial match =
     named.2 ∙ ap (λ (n : ℕ). status records n now) (one_match records.issuer id named.0 serial named.1 match)
-told_status records now id told (inr unnamed) serial match = absurd (unnamed.0 serial match)
+status_of_match records now id reported (inr unnamed) serial match = absurd (unnamed.0 serial match)
 
 -- and one that names none is told unknown
-told_unknown
-    : (records : Records) (now : ℕ) (id : Id) (told : Status)
-    → IsStatusFor records now id told
+status_of_none
+    : (records : Records) (now : ℕ) (id : Id) (reported : Status)
+    → IsStatusFor records now id reported
     → ((serial : ℕ) → ¬ (IsMatch records.issuer id serial))
-    → told ≡ Unknown
-told_unknown records now id told (inl named) none = absurd (none named.0 named.1)
-told_unknown records now id told (inr unnamed) none = unnamed.1
+    → reported ≡ Unknown
+status_of_none records now id reported (inl named) none = absurd (none named.0 named.1)
+status_of_none records now id reported (inr unnamed) none = unnamed.1
 
 good_either : (past : Bool) → cert_status (cond past Expired Good) ≡ cert_status Good
 good_either true = refl
@@ -73,7 +73,7 @@ status_unknown records now serial none =
 revoked_by : (entry : Entry) (serial : ℕ) (revocation : RevocationRow)
     → entry ≡ record { serial = serial; at = revocation.at; reason = revocation.reason }
     → Revoked revocation.at revocation.reason ≡ Revoked entry.at entry.reason
-revoked_by entry serial revocation told = sym (ap (λ (e : Entry). Revoked e.at e.reason) told)
+revoked_by entry serial revocation entry_is = sym (ap (λ (e : Entry). Revoked e.at e.reason) entry_is)
 
 agrees
     : (records : Records) (now : ℕ) (id : Id) (answer : SingleAnswer)
@@ -84,17 +84,17 @@ agrees records now id answer sound its = record {
   repeated = its.repeated;
   revoked = revoked;
   good = λ serial certificate match found none.
-      ap cert_status (told_status records now id answer.status its.told serial match)
+      ap cert_status (status_of_match records now id answer.status its.status_is serial match)
       ∙ status_good records now serial certificate found none;
   unregistered = λ serial match none.
-      told_status records now id answer.status its.told serial match ∙ status_unknown records now serial none;
-  unmatched = told_unknown records now id answer.status its.told;
+      status_of_match records now id answer.status its.status_is serial match ∙ status_unknown records now serial none;
+  unmatched = status_of_none records now id answer.status its.status_is;
   listed = λ n.
       all_weaker
       (IsDueEntry records n)
       (λ entry. IsMatch records.issuer id entry.serial → answer.status ≡ Revoked entry.at entry.reason)
       (λ entry due match.
-      revoked entry.serial due.revocation match due.revoked ∙ revoked_by entry entry.serial due.revocation due.told)
+      revoked entry.serial due.revocation match due.revoked ∙ revoked_by entry entry.serial due.revocation due.entry_is)
       (entries records n)
       (due_entries records n sound);
 }
@@ -105,7 +105,7 @@ agrees records now id answer sound its = record {
         → revocation_in records.revocations serial ≡ Some revocation
         → answer.status ≡ Revoked revocation.at revocation.reason
     revoked serial revocation match found =
-        told_status records now id answer.status its.told serial match
+        status_of_match records now id answer.status its.status_is serial match
         ∙ revoked_for_good records serial revocation sound found now
 
 all_agree

@@ -83,7 +83,7 @@ module _ {C : Type 0} (g : Ghosts C) (signs : Identity → List ℕ → List ℕ
   run_more records [] [] middle after timed outcome same happens = (after, subst (λ (r : Records). Happens (signed_by signs identity) r timed.0 timed.1 outcome after) same happens, refl)
   run_more records [] (first ∷ outcomes) middle after timed outcome run happens = absurd run
   run_more records (first ∷ commands) [] middle after timed outcome run happens = absurd run
-  run_more records (first ∷ commands) (told ∷ outcomes) middle after timed outcome (next, here, rest) happens = (next, here, run_more next commands outcomes middle after timed outcome rest happens)
+  run_more records (first ∷ commands) (first_outcome ∷ outcomes) middle after timed outcome (next, here, rest) happens = (next, here, run_more next commands outcomes middle after timed outcome rest happens)
 
   pub one_more_within : (old mid new : Held C) (commands : List (ℕ × Command)) (outcomes : List (Result Reply Fault)) (timed : ℕ × Command) (outcome : Result Reply Fault)
       → StepsWithin g old mid → StepsWithin g mid new → RunsWithin g signs identity old mid commands outcomes → HappensWithin g signs identity mid new timed.0 timed.1 outcome

@@ -167,17 +167,17 @@ signed_malformed signs identity request draft bytes read (inr (signature, signed
     no_malformed request bytes read (λ same. whole_apart _ _ _ _ (sym is ∙ same))
 
 -- the clock's refusal of a moment
-pub refused_by_clock : (records : Records) (now : ℕ) (result : Result (Issuer × ℕ) ResponseFault) → IsErrAnd result (λ told. told ≡ fault.Clock)
+pub refused_by_clock : (records : Records) (now : ℕ) (result : Result (Issuer × ℕ) ResponseFault) → IsErrAnd result (λ error. error ≡ fault.Clock)
     → IsSome (first_refusal (clock_checks now records.last)) → IsResponding records now result
-refused_by_clock records now (Ok it) told refused = absurd told
-refused_by_clock records now (Err why) told refused =
+refused_by_clock records now (Ok it) failed_so refused = absurd failed_so
+refused_by_clock records now (Err why) failed_so refused =
     let P : ResponseFault → Type 0 = λ it. IsResponding records now (Err it) in
-    subst P (sym told) refused
+    subst P (sym failed_so) refused
 
 -- no ResponseData: memory or the store failed
 pub no_message : {Z : Type 0} (key : List ℕ) (records : Records) (now : ℕ) (ids : List Id) (echo : Option (List ℕ)) (result : Result (Vec ℕ Z) ResponseFault)
-    (why : ResponseFault) → IsErrAnd result (λ told. told ≡ why) → (why ≡ fault.Memory) ⊎ (why ≡ fault.Store) → IsMessage key records now ids echo result
-no_message key records now ids echo (Ok bytes) why told is = absurd told
-no_message {Z = Z} key records now ids echo (Err other) why told is =
+    (why : ResponseFault) → IsErrAnd result (λ error. error ≡ why) → (why ≡ fault.Memory) ⊎ (why ≡ fault.Store) → IsMessage key records now ids echo result
+no_message key records now ids echo (Ok bytes) why failed_so is = absurd failed_so
+no_message {Z = Z} key records now ids echo (Err other) why failed_so is =
     let P : ResponseFault → Type 0 = λ it. IsMessage {Z = Z} key records now ids echo (Err it) in
-    subst P (sym told) (elim is [ inl memory ↦ subst P (sym memory) tt | inr store ↦ subst P (sym store) tt ])
+    subst P (sym failed_so) (elim is [ inl memory ↦ subst P (sym memory) tt | inr store ↦ subst P (sym store) tt ])

@@ -66,7 +66,7 @@ fault_happens IsDecision signed records now command Read below is_fault it = abs
 fault_happens IsDecision signed records now command Write below is_fault it = absurd is_fault
 
 the_fault : (fault other : Fault) → IsErrOf {T = Reply} (Err fault) other → fault ≡ other
-the_fault fault other told = cc
+the_fault fault other same = cc
 
 module _ {C S : Type 0} (g : Ghosts C) (signs : Identity → List ℕ → List ℕ → Type 0) (identity : S → Identity) (failures : S → ℕ)
     (old : Held C) (signer : S) (now : ℕ) (command : Command) where
@@ -76,12 +76,12 @@ module _ {C S : Type 0} (g : Ghosts C) (signs : Identity → List ℕ → List �
 
   -- nothing has changed: the command was refused, or came to a fault
   pub not_run : {new : Held C} {left : S} (outcome : Result Reply Fault) (fault : Fault)
-      → IsErrAnd outcome (λ told. told ≡ fault) → identity left ≡ identity signer → Looked g old new
+      → IsErrAnd outcome (λ error. error ≡ fault) → identity left ≡ identity signer → Looked g old new
       → ((records : Records) → ShowsKept g old records → SoundRows records → HasCleanDisk (state g new) → Happens (signed_by signs (identity signer)) records now command (Err fault) records)
       → IsOfficeFault fault → (fault ≡ SignerFailed → (command ≡ IssueCrl) × (failures signer < failures left))
       → IsRunTo new left outcome
-  not_run (Ok reply) fault told same looked happens is_fault device = absurd told
-  not_run {new = new} {left = left} (Err other) fault told same looked happens is_fault device = subst (λ (f : Fault). IsRunTo new left (Err f)) (sym told) (record {
+  not_run (Ok reply) fault failed same looked happens is_fault device = absurd failed
+  not_run {new = new} {left = left} (Err other) fault failed same looked happens is_fault device = subst (λ (f : Fault). IsRunTo new left (Err f)) (sym failed) (record {
     step = λ records stands clean. subst (λ (signers : Identity). HasOutcome g signs new signers records now command (Err fault)) (sym same) (record {
       after = records;
       happens = happens records stands.shown stands.sound.rows clean;
@@ -89,7 +89,7 @@ module _ {C S : Type 0} (g : Ghosts C) (signs : Identity → List ℕ → List �
     });
     changed = looked_failed (Err fault) refl looked;
     same_identity = same;
-    device = λ told. device (the_fault fault SignerFailed told);
+    device = λ by_signer. device (the_fault fault SignerFailed by_signer);
     faults = is_fault;
   })
 
@@ -131,17 +131,17 @@ module _ {C S : Type 0} (g : Ghosts C) (signs : Identity → List ℕ → List �
           });
       changed = changed_made looked changed does;
       same_identity = same;
-      device = λ told. absurd (let bad : ⊥ = cc in bad);
+      device = λ by_signer. absurd (let bad : ⊥ = cc in bad);
       faults = tt;
     }
 
     -- or it fails
     pub not_carried_out : (outcome : Result Reply Fault) (failure : DatabaseFault) → IsErrAnd outcome (λ fault. fault ≡ fault_of failure) → now < clock_end
         → Changed {T = Unit {0}} {E = DatabaseFault} g mid new (IsChanged g mid now change) (Err failure) → IsRunTo new left outcome
-    not_carried_out (Ok other) failure told below changed = absurd told
-    not_carried_out (Err other) failure told below changed =
+    not_carried_out (Ok other) failure failed below changed = absurd failed
+    not_carried_out (Err other) failure failed below changed =
         let fault = fault_of failure in
-        subst (λ (f : Fault). IsRunTo new left (Err f)) (sym told) (record {
+        subst (λ (f : Fault). IsRunTo new left (Err f)) (sym failed) (record {
           step = λ records stands clean. subst (λ (signers : Identity). HasOutcome g signs new signers records now command (Err fault)) (sym same) (record {
             after = records;
             happens = of_failure (λ (f : Fault). Happens (signed_by signs (identity signer)) records now command (Err f) records) (below, refl) (below, refl) failure;
@@ -152,6 +152,6 @@ module _ {C S : Type 0} (g : Ghosts C) (signs : Identity → List ℕ → List �
           });
           changed = changed_failed (Err fault) refl looked changed does;
           same_identity = same;
-          device = λ told. never_signer fault (of_failure IsTableFault tt tt failure) (the_fault fault SignerFailed told);
+          device = λ by_signer. never_signer fault (of_failure IsTableFault tt tt failure) (the_fault fault SignerFailed by_signer);
           faults = office_fault fault (of_failure IsTableFault tt tt failure);
         })

@@ -18,6 +18,6 @@ pub answer_of_fault : (failure : DatabaseFault) (fault : Fault) → fault ≡ fa
 answer_of_fault failure fault is = subst IsOfStore (sym is) (of_failure IsOfStore tt tt failure)
 
 -- a fault that is passed on is of its kind
-pub passed_on : {T : Type 0} (P : Fault → Type 0) (outcome : Result T Fault) (fault : Fault) → IsErrAnd outcome (λ told. told ≡ fault) → P fault → IfErr outcome P
+pub passed_on : {T : Type 0} (P : Fault → Type 0) (outcome : Result T Fault) (fault : Fault) → IsErrAnd outcome (λ error. error ≡ fault) → P fault → IfErr outcome P
 passed_on P (Ok x) fault same holds = absurd same
-passed_on P (Err told) fault same holds = subst P (sym same) holds
+passed_on P (Err error) fault same holds = subst P (sym same) holds

@@ -1,4 +1,4 @@
--- What who signs adds, behind what the digest sealed.
+-- What a signer adds after CRLs with the placeholder digest.
 use Rattle.std.proofs.Common.{◌≡◌, ◌∙◌, ◌+◌, ◌<◌, ◌≤◌, ℕ, List, [], ◌∷◌, length, Result, inl, inr, refl, sym, ap, subst, le_refl, arith, length-append}
 use Rattle.sha1.specs.Sha1.{sha1}
 use Rattle.reg_core.specs.Changes.{with_schedule}
@@ -101,23 +101,23 @@ module _ (signs : Identity → List ℕ → List ℕ → Type 0) (identity : Ide
       let next : next_number (no_records issuer policy).crls ≡ 1 = refl in
       record { since = 1; reached = omega (arith, next); rows = made.rows; signatures = made.signatures }
 
--- ---- whoever signs next, where the digest alone sealed
+-- ---- any next signer, after CRLs with the placeholder digest alone
 
-module _ (signs : Identity → List ℕ → List ℕ → Type 0) (seal : Identity) (is_seal : IsDigestSigner signs seal) where
-  -- what the digest signs is its seal
-  signed_is_sealed : (crl : CertList) (bytes : List ℕ) → signed_by signs seal crl bytes → has_placeholder_digest crl bytes
-  signed_is_sealed crl bytes (signature, signed, is) =
+module _ (signs : Identity → List ℕ → List ℕ → Type 0) (digest : Identity) (is_digest : IsDigestSigner signs digest) where
+  -- a CRL that this signer signs has the placeholder digest
+  signed_is_digest : (crl : CertList) (bytes : List ℕ) → signed_by signs digest crl bytes → has_placeholder_digest crl bytes
+  signed_is_digest crl bytes (signature, signed, is) =
       let tbs : List ℕ → List ℕ = λ algorithm. tbs_of algorithm crl in
       let Q : List ℕ → Type 0 = λ algorithm. bytes ≡ certificate_list (tbs algorithm) algorithm (sha1 (tbs algorithm)) in
-      subst Q is_seal.algorithm
-      (is ∙ ap (certificate_list (tbs seal.algorithm) seal.algorithm) (is_seal.signature_is_sha1 (tbs seal.algorithm) signature signed))
+      subst Q is_digest.algorithm
+      (is ∙ ap (certificate_list (tbs digest.algorithm) digest.algorithm) (is_digest.signature_is_sha1 (tbs digest.algorithm) signature signed))
 
-  stored_is_sealed : (since : ℕ) (crl : CertList) (bytes : List ℕ) → signed_since since signs seal crl bytes → has_placeholder_digest crl bytes
-  stored_is_sealed since crl bytes (inl (below, is)) = is
-  stored_is_sealed since crl bytes (inr (from, signed)) = signed_is_sealed crl bytes signed
+  stored_is_digest : (since : ℕ) (crl : CertList) (bytes : List ℕ) → signed_since since signs digest crl bytes → has_placeholder_digest crl bytes
+  stored_is_digest since crl bytes (inl (below, is)) = is
+  stored_is_digest since crl bytes (inr (from, signed)) = signed_is_digest crl bytes signed
 
-  pub follows_seal : (identity : Identity) (records : Records) → SoundFor signs seal records → SoundFor signs identity records
-  follows_seal identity records sound =
+  pub follows_digest : (identity : Identity) (records : Records) → SoundFor signs digest records → SoundFor signs identity records
+  follows_digest identity records sound =
       let next : next_number records.crls ≡ length records.crls + 1 = next_is records.crls sound.rows.crls.numbered in
       record {
         since = next_number records.crls;
@@ -126,11 +126,11 @@ module _ (signs : Identity → List ℕ → List ℕ → Type 0) (seal : Identit
         signatures =
             all_join
             (λ (crl : Crl). crl.number < 1 + length records.crls)
-            (λ (crl : Crl). signed_since sound.since signs seal (cert_list records crl.number crl.this_update) crl.bytes)
+            (λ (crl : Crl). signed_since sound.since signs digest (cert_list records crl.number crl.this_update) crl.bytes)
             (λ (crl : Crl). signed_since (next_number records.crls) signs identity (cert_list records crl.number crl.this_update) crl.bytes)
             (λ crl below stored.
             let earlier : crl.number < next_number records.crls = omega (arith, below, next) in
-            inl (earlier, stored_is_sealed sound.since (cert_list records crl.number crl.this_update) crl.bytes stored))
+            inl (earlier, stored_is_digest sound.since (cert_list records crl.number crl.this_update) crl.bytes stored))
             records.crls
             (numbered_below (λ crl. crl.number) 1 records.crls sound.rows.crls.numbered)
             sound.signatures;

@@ -140,6 +140,6 @@ given_latest records n (Err Write) same h = h
 pub not_given :
     (records : Records) (number : Option ℕ) (outcome : Result (Vec ℕ Global) Fault) (failure : DatabaseFault)
     → IsErrAnd outcome (λ fault. fault ≡ fault_of failure) → IsGiven records number (items_of outcome)
-not_given records number (Ok bytes) failure told = absurd told
-not_given records number (Err fault) failure told =
-    subst (λ (f : Fault). IsGiven records number (Err f)) (sym told) (of_failure (λ (f : Fault). IsGiven records number (Err f)) tt tt failure)
+not_given records number (Ok bytes) failure failed = absurd failed
+not_given records number (Err fault) failure failed =
+    subst (λ (f : Fault). IsGiven records number (Err f)) (sym failed) (of_failure (λ (f : Fault). IsGiven records number (Err f)) tt tt failure)

@@ -94,8 +94,8 @@ leads_on g signs old new looked same Did did = (
       let (interrupted, stands_with) = stood in
       let (is, stands, left) = stands_with in
       let P : OfficeSigners → Type 0 = λ v. Stands g signs old.0 v.crls before in
-      let told = subst (λ (v : OfficeSigners). Did v before before) is (did before (subst P (sym is) stands) clean) in
-      (before, told, (interrupted, looked_stands g signs old new those before interrupted looked same stands_with))),
+      let did_so = subst (λ (v : OfficeSigners). Did v before before) is (did before (subst P (sym is) stands) clean) in
+      (before, did_so, (interrupted, looked_stands g signs old new those before interrupted looked same stands_with))),
 )
 
 -- An office before a look-up and after it.
@@ -120,9 +120,9 @@ module _ {C S : Type 0} (g : Ghosts C) (signer : Signer S) (old new : Office C S
       (λ records stands is_clean. did records (looks.found records stands is_clean))
 
   -- a look-up of the store is one of the office, where those who sign are the same
-  pub office_looks : (Tells Holds : Records → Type 0) → LooksUp g old.store new.store Tells → (seen signer new).1 ≡ (seen signer old).1
-      → ((records : Records) → SoundRows records → Tells records → Holds records) → OfficeLooks g signer Holds old new
-  office_looks Tells Holds looks same holds = record {
+  pub office_looks : (IsSo Holds : Records → Type 0) → LooksUp g old.store new.store IsSo → (seen signer new).1 ≡ (seen signer old).1
+      → ((records : Records) → SoundRows records → IsSo records → Holds records) → OfficeLooks g signer Holds old new
+  office_looks IsSo Holds looks same holds = record {
     looked = looks.looked;
     same = same;
     found = λ records stands is_clean. holds records stands.sound.rows (looks.found records (kept_until _ stands.shown) stands.sound.rows is_clean);
@@ -149,9 +149,9 @@ module _ {C S : Type 0} (g : Ghosts C) (signer : Signer S) (old new : Office C S
       office_leads _ (λ signers before after. Replies signer.signs signers before now request (Err memory) after) looks (λ records replied. refl)
 
   -- a look-up, after which those who sign are asked for a signature: what is made of what was told
-  pub then_signed : {middle : Office C S} (Tells Holds : Records → Type 0) → OfficeLooks g signer Tells old middle → new.store ≡ middle.store
-      → (seen signer new).1 ≡ (seen signer middle).1 → ((records : Records) → Tells records → Holds records) → OfficeLooks g signer Holds old new
-  then_signed {middle = middle} Tells Holds looks stays same holds =
+  pub then_signed : {middle : Office C S} (IsSo Holds : Records → Type 0) → OfficeLooks g signer IsSo old middle → new.store ≡ middle.store
+      → (seen signer new).1 ≡ (seen signer middle).1 → ((records : Records) → IsSo records → Holds records) → OfficeLooks g signer Holds old new
+  then_signed {middle = middle} IsSo Holds looks stays same holds =
       let P : Held C → Type 0 = λ held. Looked g old.store held in
       let Q : Held C → Type 0 = λ held. HasCleanDisk (state g held) in
       record {
@@ -174,9 +174,9 @@ module _ {C S : Type 0} (g : Ghosts C) (signer : Signer S) (old new : Office C S
       draft_replied signer.signs signers.answers records now request draft bytes.items left (subst P looks.same by)))
 
 -- an error gives nothing
-pub gives_nothing : {T E : Type 0} (Told : E → Type 0) (Holds : T → Type 0) (result : Result T E) → IsErrAnd result Told → IfOk result Holds
-gives_nothing Told Holds (Ok x) told = absurd told
-gives_nothing Told Holds (Err e) told = tt
+pub gives_nothing : {T E : Type 0} (IsReason : E → Type 0) (Holds : T → Type 0) (result : Result T E) → IsErrAnd result IsReason → IfOk result Holds
+gives_nothing IsReason Holds (Ok x) failed = absurd failed
+gives_nothing IsReason Holds (Err e) failed = tt
 
 -- a fault of the tables is none of the signer
 pub table_fault : (outcome : Result Reply Fault) → IfErr outcome IsTableFault → ¬ (IsErrOf outcome SignerFailed)

@@ -40,9 +40,9 @@ use Rattle.reg_office.proofs.Following.{created_sound_for}
 use Rattle.reg_office.proofs.Stopping.{Settles}
 
 -- a fault or a refusal leaves the records
-pub told_no : (signed : CertList → List ℕ → Type 0) (records : Records) (now : ℕ) (command : Command) (fault : Fault) (after : Records)
+pub records_left : (signed : CertList → List ℕ → Type 0) (records : Records) (now : ℕ) (command : Command) (fault : Fault) (after : Records)
     → Happens signed records now command (Err fault) after → after ≡ records
-told_no signed records now command fault after happens = elim (outcome_of signed records now command (Err fault) after happens) [
+records_left signed records now command fault after happens = elim (outcome_of signed records now command (Err fault) after happens) [
   | Stays why is same ↦ same
   | Changes bytes passed is signs same ↦ (let bad : ⊥ = cc in absurd bad)
 ]
@@ -218,7 +218,7 @@ module _ {C : Type 0} (g : Ghosts C) (signs : Identity → List ℕ → List ℕ
     -- the records are those before
     over : (fault : Fault) (last : Option ChangingCall) → Came (Err fault) → LeavesReported g signs new identity before last → LeavesReported g signs new identity after last
     over fault last came =
-        subst (λ (r : Records). LeavesReported g signs new identity r last) (sym (told_no (signed_by signs identity) before now command fault after came))
+        subst (λ (r : Records). LeavesReported g signs new identity r last) (sym (records_left (signed_by signs identity) before now command fault after came))
 
     -- it was refused
     refused : (why : Refusal) (first : Option ChangingCall) → Makes (Err (Refused why)) → Came (Err (Refused why)) → LeavesReported g signs old identity before first
@@ -239,7 +239,7 @@ module _ {C : Type 0} (g : Ghosts C) (signs : Identity → List ℕ → List ℕ
         → ((last : Option ChangingCall) → (last ≡ None) ⊎ (last ≡ Some It) → MayInterrupt {T = Reply} None It (Err fault) last)
         → Makes (Err fault) → Came (Err fault) → LeavesReported g signs old identity before first → Leaves first (Err fault)
     failed fault None meets makes came left =
-        let same = told_no (signed_by signs identity) before now command fault after came in
+        let same = records_left (signed_by signs identity) before now command fault after came in
         let (last, leaves, which) = leaves_failed It old new before (Does g signs old identity now command) settles makes.survives (λ trees does. does before stood)
         (subst (λ (r : Records). ShowsKept g new r) same stands.shown) left in
         (last, over fault last came leaves, meets last which)

@@ -61,8 +61,8 @@ module _ (records : Records) where
       listing = listing records certificate.serial;
     }
 
-    abbrev told_with : Option RevocationRow → SubscriberRow → Option Listing → ListedCertificate
-    told_with revocation subscriber listed = record {
+    abbrev line_by : Option RevocationRow → SubscriberRow → Option Listing → ListedCertificate
+    line_by revocation subscriber listed = record {
       certificate = certificate;
       subscriber = subscriber;
       status = status_by now (Some certificate) revocation;
@@ -71,12 +71,12 @@ module _ (records : Records) where
 
     -- what is told of a certificate
     pub line_is : (line : ListedCertificate) (revocation : Option RevocationRow) (subscriber : SubscriberRow) (listed : Option Listing)
-        → line ≡ told_with revocation subscriber listed → Some subscriber ≡ subscriber_of_order records certificate.order
+        → line ≡ line_by revocation subscriber listed → Some subscriber ≡ subscriber_of_order records certificate.order
         → listed ≡ listing records certificate.serial → revocation ≡ revocation_in records.revocations certificate.serial
         → Some line ≡ listed_certificate records now certificate
-    line_is line revocation subscriber listed told owner is revoked =
-        let whole : told_with revocation subscriber listed ≡ line_with subscriber = λ i. told_with (revoked i) subscriber (is i) in
-        ap (λ (it : ListedCertificate). Some it) (told ∙ whole) ∙ ap (option_map line_with) owner
+    line_is line revocation subscriber listed listed_so owner is revoked =
+        let whole : line_by revocation subscriber listed ≡ line_with subscriber = λ i. line_by (revoked i) subscriber (is i) in
+        ap (λ (it : ListedCertificate). Some it) (listed_so ∙ whole) ∙ ap (option_map line_with) owner
 
     -- as a row
     pub row_is : (line : ListedCertificate) → Some line ≡ listed_certificate records now certificate → Some (Certificate line) ≡ certificate_row records now certificate
@@ -92,9 +92,9 @@ module _ (records : Records) where
     pub good_is : (line : ListedCertificate) (row : Option Row) → Some line ≡ listed_certificate records now certificate
         → row ≡ cond (is_good line.status) (Some (Certificate line)) None
         → row ≡ cond (is_good (status_at records now certificate)) (certificate_row records now certificate) None
-    good_is line row is told =
+    good_is line row is listed_so =
         let status = line_status (subscriber_of_order records certificate.order) line is in
-        told ∙ ap (λ s. cond (is_good s) (Some (Certificate line)) None) status
+        listed_so ∙ ap (λ s. cond (is_good s) (Some (Certificate line)) None) status
         ∙ ap (λ it. cond (is_good (status_at records now certificate)) it None) (row_is line is)
 
 both_so : {T : Type 0} (good before : Bool) (row : Option T) → before ≡ true → cond good row None ≡ cond (good && before) row None
@@ -110,9 +110,9 @@ module _ {E : Type 0} (records : Records) (now before : ℕ) (certificate : Cert
   pub ending_is : (r : Result (Option Row) E) → nat_lt certificate.not_after before ≡ true
       → IfOk r (λ row. row ≡ cond (is_good (status_at records now certificate)) (certificate_row records now certificate) None)
       → IfOk r (λ row. row ≡ expiring_row records now before certificate)
-  ending_is (Ok row) ends told =
-      told ∙ both_so (is_good (status_at records now certificate)) (nat_lt certificate.not_after before) (certificate_row records now certificate) ends
-  ending_is (Err why) ends told = tt
+  ending_is (Ok row) ends listed_so =
+      listed_so ∙ both_so (is_good (status_at records now certificate)) (nat_lt certificate.not_after before) (certificate_row records now certificate) ends
+  ending_is (Err why) ends listed_so = tt
 
 -- and no other is
 pub ending_none : (records : Records) (now before : ℕ) (certificate : CertRow) → nat_lt certificate.not_after before ≡ false
@@ -158,20 +158,20 @@ module _ (records : Records) (now : ℕ) (request : RequestRow) where
   open_is certificate revocation good undeclined found revoked is =
       (λ i. not (undeclined i) && is_good (status_by now ((sym found) i) ((sym revoked) i))) ∙ sym is
 
-  pub open_told : (good : Bool) (line : ListedRequest) → is_open records now request ≡ good → good ≡ true
+  pub open_some : (good : Bool) (line : ListedRequest) → is_open records now request ≡ good → good ≡ true
       → Some line ≡ listed_request records request → Some (Request line) ≡ open_row records now request
-  open_told good line is passed told =
-      ap (option_map (λ (it : ListedRequest). Request it)) told ∙ sym (ap (λ b. cond b (one_of records request) None) (is ∙ passed))
+  open_some good line is passed listed_so =
+      ap (option_map (λ (it : ListedRequest). Request it)) listed_so ∙ sym (ap (λ b. cond b (one_of records request) None) (is ∙ passed))
 
   pub open_none : (good : Bool) → is_open records now request ≡ good → good ≡ false → None ≡ open_row records now request
   open_none good is failed = sym (ap (λ b. cond b (one_of records request) None) (is ∙ failed))
 
   -- one whose deadline is past is overdue where it is open
-  pub overdue_told : {E : Type 0} (r : Result (Option Row) E) (due : ℕ) → due ≡ deadline request → nat_lt due now ≡ true
+  pub overdue_some : {E : Type 0} (r : Result (Option Row) E) (due : ℕ) → due ≡ deadline request → nat_lt due now ≡ true
       → IfOk r (λ row. row ≡ open_row records now request) → IfOk r (λ row. row ≡ overdue_row records now request)
-  overdue_told (Ok row) due is late told =
-      told ∙ sym (ap (λ b. cond b (open_row records now request) None) (sym (ap (λ moment. nat_lt moment now) is) ∙ late))
-  overdue_told (Err why) due is late told = tt
+  overdue_some (Ok row) due is late listed_so =
+      listed_so ∙ sym (ap (λ b. cond b (open_row records now request) None) (sym (ap (λ moment. nat_lt moment now) is) ∙ late))
+  overdue_some (Err why) due is late listed_so = tt
 
   pub overdue_none : (due : ℕ) → due ≡ deadline request → nat_lt due now ≡ false → None ≡ overdue_row records now request
   overdue_none due is early = sym (ap (λ b. cond b (open_row records now request) None) (sym (ap (λ moment. nat_lt moment now) is) ∙ early))
@@ -185,12 +185,12 @@ module _ (records : Records) (now : ℕ) (request : RequestRow) where
       → history.lateness ≡ lateness_of now request line.certificate history.status
       → Some line ≡ listed_request records request → Some certificate ≡ certificate_in records.certificates request.serial
       → revocation ≡ revocation_in records.revocations request.serial → Some (AnyRequest history) ≡ history_row records now request
-  history_is line certificate revocation history same is late told found revoked =
+  history_is line certificate revocation history same is late listed_so found revoked =
       let whole : history ≡ history_with (status_by now (Some certificate) revocation) line =
       λ i. record { request = same i; status = is i; lateness = (late ∙ ap (lateness_of now request line.certificate) is) i } in
       ap (λ (it : RequestWithState). Some (AnyRequest it)) whole
       ∙ (λ i. Some (AnyRequest (history_with (status_by now (found i) (revoked i)) line)))
-      ∙ ap (λ (it : Option ListedRequest). option_map (λ (one : RequestWithState). AnyRequest one) (option_map (history_with (status records request.serial now)) it)) told
+      ∙ ap (λ (it : Option ListedRequest). option_map (λ (one : RequestWithState). AnyRequest one) (option_map (history_with (status records request.serial now)) it)) listed_so
 
 -- ---- revocations
 
@@ -206,10 +206,10 @@ module _ (records : Records) (now : ℕ) (revocation : RevocationRow) where
       → line.due ≡ deadline request → Some request ≡ request_in records.requests revocation.request
       → Some registered ≡ certificate_in records.certificates revocation.serial → Some line.certificate ≡ listed_certificate records now registered
       → Some (Revoked line) ≡ revoked_row records now revocation
-  revoked_is request registered line same led due found held told =
+  revoked_is request registered line same led due found held listed_so =
       let whole : line ≡ revoked_with request line.certificate =
       λ i. record { certificate = line.certificate; revocation = same i; request = led i; due = due i } in
-      let known : Some line.certificate ≡ line_of (certificate_in records.certificates revocation.serial) = told ∙ ap line_of held in
+      let known : Some line.certificate ≡ line_of (certificate_in records.certificates revocation.serial) = listed_so ∙ ap line_of held in
       ap (λ (it : ListedRevocation). Some (Revoked it)) whole
       ∙ ap (λ (it : Option ListedCertificate). option_map (λ (one : ListedRevocation). Revoked one) (option_map (revoked_with request) it)) known
       ∙ ap (λ (it : Option RequestRow). option_map (λ (one : ListedRevocation). Revoked one)
@@ -228,13 +228,13 @@ module _ (records : Records) (order : OrderRow) where
   order_is line certificate same owner serial filled =
       let whole : line ≡ order_with (certificate_of_order records.certificates order.id) line.subscriber =
       λ i. record { order = same i; subscriber = line.subscriber; serial = (serial ∙ ap (option_map (λ (it : CertRow). it.serial)) filled) i } in
-      let told = ap (λ (it : ListedOrder). Some it) whole ∙ ap (option_map (order_with (certificate_of_order records.certificates order.id))) owner in
-      ap (option_map (λ (it : ListedOrder). Order it)) told
+      let held = ap (λ (it : ListedOrder). Some it) whole ∙ ap (option_map (order_with (certificate_of_order records.certificates order.id))) owner in
+      ap (option_map (λ (it : ListedOrder). Order it)) held
 
 -- ---- a row at an id
 
 -- what is told of a record that is looked up by its id
 pub row_found : {A : Type 0} {E : Type 0} (row_for : A → Option Row) (known : Option A) (a : A) (r : Result (Option Row) E) → Some a ≡ known
     → IfOk r (λ row. row ≡ row_for a) → IfOk r (λ row. row ≡ option_and_then row_for known)
-row_found row_for known a (Ok row) found told = told ∙ ap (option_and_then row_for) found
-row_found row_for known a (Err why) found told = tt
+row_found row_for known a (Ok row) found listed_so = listed_so ∙ ap (option_and_then row_for) found
+row_found row_for known a (Err why) found listed_so = tt

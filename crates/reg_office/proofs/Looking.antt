@@ -17,25 +17,25 @@ use Rattle.reg_office.specs.Looking.{LooksAndDecides, IsDecidedOr}
 use Rattle.reg_office.proofs.Composing.{of_failure}
 
 -- what is looked up in the tables that a store lends is looked up in the store
-pub lent : {C : Type 0} {g : Ghosts C} {store tables new : Held C} {Tells : Records → Type 0} → tables ≡ store → LooksUp g tables new Tells → LooksUp g store new Tells
-lent {g = g} {new = new} {Tells = Tells} same looks = subst (λ those. LooksUp g those new Tells) same looks
+pub lent : {C : Type 0} {g : Ghosts C} {store tables new : Held C} {IsSo : Records → Type 0} → tables ≡ store → LooksUp g tables new IsSo → LooksUp g store new IsSo
+lent {g = g} {new = new} {IsSo = IsSo} same looks = subst (λ those. LooksUp g those new IsSo) same looks
 
 module _ {C T : Type 0} {g : Ghosts C} {a b : Held C} {refused : Records → Option Refusal} {IsDecision : Records → T → Type 0} where
   -- a look-up fails, and nothing is decided
   pub not_decided : (outcome : Result T Fault) (failure : DatabaseFault) → IsErrAnd outcome (λ fault. fault ≡ fault_of failure) → Looked g a b → LooksAndDecides g a b refused IsDecision outcome
-  not_decided (Ok x) failure told looked = absurd told
-  not_decided (Err fault) failure told looked = record {
-    looks = by_none looked (λ records. subst (λ f. IsDecidedOr {T = T} (refused records) (IsDecision records) (Err f)) (sym told) (of_failure (λ f. IsDecidedOr {T = T} (refused records) (IsDecision records) (Err f)) tt tt failure));
-    faults = subst IsTableFault (sym told) (of_failure IsTableFault tt tt failure);
+  not_decided (Ok x) failure failed looked = absurd failed
+  not_decided (Err fault) failure failed looked = record {
+    looks = by_none looked (λ records. subst (λ f. IsDecidedOr {T = T} (refused records) (IsDecision records) (Err f)) (sym failed) (of_failure (λ f. IsDecidedOr {T = T} (refused records) (IsDecision records) (Err f)) tt tt failure));
+    faults = subst IsTableFault (sym failed) (of_failure IsTableFault tt tt failure);
   }
 
   -- the decision is a refusal
   pub decided_against : (outcome : Result T Fault) (why : Refusal) → IsErrAnd outcome (λ fault. fault ≡ Refused why)
       → LooksUp g a b (λ records. refused records ≡ Some why) → LooksAndDecides g a b refused IsDecision outcome
-  decided_against (Ok x) why told looks = absurd told
-  decided_against (Err fault) why told looks = record {
-    looks = so looks (λ records sound is. subst (λ f. IsDecidedOr {T = T} (refused records) (IsDecision records) (Err f)) (sym told) is);
-    faults = subst IsTableFault (sym told) tt;
+  decided_against (Ok x) why failed looks = absurd failed
+  decided_against (Err fault) why failed looks = record {
+    looks = so looks (λ records sound is. subst (λ f. IsDecidedOr {T = T} (refused records) (IsDecision records) (Err f)) (sym failed) is);
+    faults = subst IsTableFault (sym failed) tt;
   }
 
   -- or this
@@ -43,12 +43,12 @@ module _ {C T : Type 0} {g : Ghosts C} {a b : Held C} {refused : Records → Opt
   decided_for decided looks = record { looks = looks; faults = tt }
 
   -- an error that is passed on
-  pub decided_as : {U : Type 0} {What : Records → U → Type 0} (outcome : Result T Fault) (fault : Fault) → IsErrAnd outcome (λ told. told ≡ fault)
+  pub decided_as : {U : Type 0} {What : Records → U → Type 0} (outcome : Result T Fault) (fault : Fault) → IsErrAnd outcome (λ error. error ≡ fault)
       → LooksAndDecides g a b refused What (Err fault) → LooksAndDecides g a b refused IsDecision outcome
-  decided_as (Ok x) fault told decides = absurd told
-  decided_as {U = U} {What = What} (Err same) fault told decides = record {
-    looks = so decides.looks (λ records sound is. subst (λ f. IsDecidedOr {T = T} (refused records) (IsDecision records) (Err f)) (sym told) (still records fault is));
-    faults = subst IsTableFault (sym told) decides.faults;
+  decided_as (Ok x) fault failed decides = absurd failed
+  decided_as {U = U} {What = What} (Err same) fault failed decides = record {
+    looks = so decides.looks (λ records sound is. subst (λ f. IsDecidedOr {T = T} (refused records) (IsDecision records) (Err f)) (sym failed) (still records fault is));
+    faults = subst IsTableFault (sym failed) decides.faults;
   }
     where
       still : (records : Records) (f : Fault) → IsDecidedOr {T = U} (refused records) (What records) (Err f) → IsDecidedOr {T = T} (refused records) (IsDecision records) (Err f)

@@ -64,25 +64,25 @@ module _ {C : Type 0} (g : Ghosts C) (signs : Identity → List ℕ → List ℕ
   shows_call records (schedule_call steps) schema rests = shows_again g again opens live (with_schedule records steps) rests
   shows_call records (identifier_call octets) schema rests = shows_again g again opens live (with_key_identifier records octets) rests
 
-  pub stands_told : (records : Records) (interrupted : Option ChangingCall) → SoundFor signs identity records → HaveRegisterSchema (state g again).committed.trees
+  pub stands_reported : (records : Records) (interrupted : Option ChangingCall) → SoundFor signs identity records → HaveRegisterSchema (state g again).committed.trees
       → ShowsDerivedAfterStop records (state g again).committed.trees
       ⊎ IsSomeAnd interrupted (λ call. IsCallDone signs identity records call (state g again).committed.trees)
       → Stands g signs again identity records ⊎ IsSomeAnd interrupted (λ call. ShowsCallDone g signs again identity records call)
-  stands_told records interrupted sound schema (inl rests) = inl (record { shown = shows_again g again opens live records rests; sound = sound })
-  stands_told records (Some call) sound schema (inr done) = inr (shows_call records call schema done)
-  stands_told records None sound schema (inr done) = absurd done
+  stands_reported records interrupted sound schema (inl rests) = inl (record { shown = shows_again g again opens live records rests; sound = sound })
+  stands_reported records (Some call) sound schema (inr done) = inr (shows_call records call schema done)
+  stands_reported records None sound schema (inr done) = absurd done
 
   -- a register's tables obey its schema
   pub registers_again : (state g again).committed.schema ≡ register_schema → HaveRegisterSchema (state g again).committed.trees
   registers_again same = subst (λ (schema : Schema). IsSound schema (state g again).committed.trees) same (live opens.is_open).1
 
 -- what a stop leaves stands
-pub opens_told : {C : Type 0} (g : Ghosts C) (signs : Identity → List ℕ → List ℕ → Type 0) (held : Held C) (identity : Identity) (records : Records)
+pub opens_again : {C : Type 0} (g : Ghosts C) (signs : Identity → List ℕ → List ℕ → Type 0) (held : Held C) (identity : Identity) (records : Records)
     (interrupted : Option ChangingCall)
     → SoundFor signs identity records → LeavesReported g signs held identity records interrupted → OpensReported g signs held identity records interrupted
-opens_told g signs held identity records interrupted sound left again opened same = ∥∥₁_map opened.found (λ may.
-    let told : Stands g signs again identity records ⊎ IsSomeAnd interrupted (λ call. ShowsCallDone g signs again identity records call) =
+opens_again g signs held identity records interrupted sound left again opened same = ∥∥₁_map opened.found (λ may.
+    let reported : Stands g signs again identity records ⊎ IsSomeAnd interrupted (λ call. ShowsCallDone g signs again identity records call) =
     let schema = registers_again g signs again identity opened.opens opened.live same in
-    stands_told g signs again identity opened.opens opened.live records interrupted sound schema
+    stands_reported g signs again identity opened.opens opened.live records interrupted sound schema
     (left.leaves opened.honest (state g again).committed.trees may schema) in
-    told)
+    reported)

@@ -44,8 +44,8 @@ split_end f (y ∷ ys) x = cons_end (f y) (filter_map f (ys ++ x ∷ [])) (filte
 -- one row more is looked at
 pub row_more : {A B : Type 0} (f : A → Option B) (xs : List A) (i : ℕ) (x : A) (row : Option B) (done new : List B) → i < length xs → x ≡ get_or xs i x → row ≡ f x
     → done ≡ filter_map f (take i xs) → new ≡ done ++ filter_map (λ one. one) (row ∷ []) → new ≡ filter_map f (take (i + 1) xs)
-row_more f xs i x row done new within is told was now =
-    now ∙ (λ j. was j ++ filter_map (λ one. one) (told j ∷ []))
+row_more f xs i x row done new within is row_is was now =
+    now ∙ (λ j. was j ++ filter_map (λ one. one) (row_is j ∷ []))
     ∙ sym (split_end f (take i xs) x) ∙ ap (filter_map f) (sym (take_more xs i x within ∙ ap (λ y. take i xs ++ y ∷ []) (sym is)))
 
 -- a page that the clock lets be told, or its refusal, or a fault of the store
@@ -69,27 +69,27 @@ mapped_cond f false o = refl
 -- behind the key of the last row, where as many were looked at as a page may look at
 pub next_same : {A : Type 0} (key : A → ℕ) (at : ℕ → Cursor) (most : ℕ) (found : List A) (last : Option ℕ) (next : Option Cursor)
     → last ≡ cond (length found == most) (option_map key (slice_get found (length found - 1))) None → next ≡ option_map at last → next ≡ next_cursor at most (map key found)
-next_same key at most found last next is told =
+next_same key at most found last next is next_is =
     let size = mapped key found in
-    told ∙ ap (option_map at) is ∙ mapped_cond at (length found == most) (option_map key (slice_get found (length found - 1)))
+    next_is ∙ ap (option_map at) is ∙ mapped_cond at (length found == most) (option_map key (slice_get found (length found - 1)))
     ∙ ap (λ o. cond (length found == most) (option_map at o) None) (sym (slice_get-map key found (length found - 1)))
     ∙ sym (ap (λ n. cond (n == most) (option_map at (slice_get (map key found) (n - 1))) None) size)
 
 -- a page over rows that were looked up by their keys
-pub keyed_page : {A : Type 0} (key : A → ℕ) (row_for : A → Option Row) (at : ℕ → Cursor) (after most : ℕ) (all found told counted : List A)
+pub keyed_page : {A : Type 0} (key : A → ℕ) (row_for : A → Option Row) (at : ℕ → Cursor) (after most : ℕ) (all found listed counted : List A)
     (rows : List Row) (last : Option ℕ) (next : Option Cursor)
-    → found ≡ take most (past key after all) → told ≡ found → counted ≡ found → rows ≡ filter_map row_for told
+    → found ≡ take most (past key after all) → listed ≡ found → counted ≡ found → rows ≡ filter_map row_for listed
     → last ≡ cond (length counted == most) (option_map key (slice_get counted (length counted - 1))) None → next ≡ option_map at last
     → (rows ≡ (page_over key row_for at after most all).rows) × (next ≡ (page_over key row_for at after most all).next)
-keyed_page key row_for at after most all found told counted rows last next is told_is counted_is has last_is next_is = (
-  has ∙ ap (filter_map row_for) (told_is ∙ is),
+keyed_page key row_for at after most all found listed counted rows last next is listed_is counted_is has last_is next_is = (
+  has ∙ ap (filter_map row_for) (listed_is ∙ is),
   next_same key at most counted last next last_is next_is ∙ ap (λ l. next_cursor at most (map key l)) (counted_is ∙ is),
 )
 
 -- the certificates, or those that are good and end before a moment
-pub certificates_page : (records : Records) (now most : ℕ) (before after : Option ℕ) (found told counted : List CertRow) (rows : List Row) (last : Option ℕ) (next : Option Cursor)
-    → found ≡ take most (past (λ (row : CertRow). row.serial) (key_of after) records.certificates) → told ≡ found → counted ≡ found
-    → rows ≡ filter_map (certificate_listed records now before) told
+pub certificates_page : (records : Records) (now most : ℕ) (before after : Option ℕ) (found listed counted : List CertRow) (rows : List Row) (last : Option ℕ) (next : Option Cursor)
+    → found ≡ take most (past (λ (row : CertRow). row.serial) (key_of after) records.certificates) → listed ≡ found → counted ≡ found
+    → rows ≡ filter_map (certificate_listed records now before) listed
     → last ≡ cond (length counted == most) (option_map (λ (row : CertRow). row.serial) (slice_get counted (length counted - 1))) None
     → next ≡ option_map (λ serial. certificates_after before (Some serial)) last
     → (rows ≡ (page records now most (certificates_after before after)).rows) × (next ≡ (page records now most (certificates_after before after)).next)
@@ -111,15 +111,15 @@ numbers_of_crls : (crls : List Crl) → map row_number (map row_of crls) ≡ map
 numbers_of_crls [] = refl
 numbers_of_crls (crl ∷ crls) = ap (λ l. crl.number ∷ l) (numbers_of_crls crls)
 
-pub crls_page : (records : Records) (after most : ℕ) (found told counted : List CrlRow) (rows : List Row) (last : Option ℕ) (next : Option Cursor)
-    → found ≡ map row_of (take most (past (λ (crl : Crl). crl.number) after records.crls)) → told ≡ found → counted ≡ found
-    → rows ≡ filter_map (λ (row : CrlRow). Some (OfCrl row)) told
+pub crls_page : (records : Records) (after most : ℕ) (found listed counted : List CrlRow) (rows : List Row) (last : Option ℕ) (next : Option Cursor)
+    → found ≡ map row_of (take most (past (λ (crl : Crl). crl.number) after records.crls)) → listed ≡ found → counted ≡ found
+    → rows ≡ filter_map (λ (row : CrlRow). Some (OfCrl row)) listed
     → last ≡ cond (length counted == most) (option_map (λ (row : CrlRow). row.number) (slice_get counted (length counted - 1))) None
     → next ≡ option_map (λ number. Crls number) last → (now : ℕ)
     → (rows ≡ (page records now most (Crls after)).rows) × (next ≡ (page records now most (Crls after)).next)
-crls_page records after most found told counted rows last next is told_is counted_is has last_is next_is now =
+crls_page records after most found listed counted rows last next is listed_is counted_is has last_is next_is now =
     let looked = take most (past (λ (crl : Crl). crl.number) after records.crls) in (
-      has ∙ ap (filter_map (λ (row : CrlRow). Some (OfCrl row))) (told_is ∙ is) ∙ rows_of_crls looked,
+      has ∙ ap (filter_map (λ (row : CrlRow). Some (OfCrl row))) (listed_is ∙ is) ∙ rows_of_crls looked,
       next_same row_number (λ number. Crls number) most counted last next last_is next_is
           ∙ ap (λ l. next_cursor (λ number. Crls number) most (map row_number l)) (counted_is ∙ is)
           ∙ ap (next_cursor (λ number. Crls number) most) (numbers_of_crls looked),
@@ -166,10 +166,10 @@ no_ids f after = let none : 0 ≡ after - after = omega arith in ap (λ n. filte
 pub id_more : {B : Type 0} (f : ℕ → Option B) (after before : ℕ) (row : Option B) (done new : List B) → after ≤ before → row ≡ f (before + 1)
     → done ≡ filter_map f (numbers (after + 1) (before - after)) → new ≡ done ++ filter_map (λ one. one) (row ∷ [])
     → new ≡ filter_map f (numbers (after + 1) ((before + 1) - after))
-id_more f after before row done new reached told was now =
+id_more f after before row done new reached row_is was now =
     let here : before + 1 ≡ (after + 1) + (before - after) = omega arith in
     let more : suc (before - after) ≡ (before + 1) - after = omega arith in
-    now ∙ (λ j. was j ++ filter_map (λ one. one) ((told ∙ ap f here) j ∷ []))
+    now ∙ (λ j. was j ++ filter_map (λ one. one) ((row_is ∙ ap f here) j ∷ []))
     ∙ sym (split_end f (numbers (after + 1) (before - after)) ((after + 1) + (before - after)))
     ∙ ap (filter_map f) (sym (numbers_more (after + 1) (before - after)))
     ∙ ap (λ n. filter_map f (numbers (after + 1) n)) more
@@ -248,13 +248,13 @@ module _ {A : Type 0} (key : A → ℕ) (row_for : A → Option Row) (look : ℕ
   -- where the next one goes on
   pub numbered_next : (next : Option Cursor) → next ≡ cond (nat_lt after end && ((end - after) == most)) (Some (at end)) None
       → next ≡ next_cursor at most (map key (take most (past key after xs)))
-  numbered_next next told =
+  numbered_next next next_is =
       let size = length-take-le (end - after) behind_it few_looked in
       let keys : map key (take most (past key after xs)) ≡ numbers (after + 1) (end - after) =
       ap (λ l. map key (take most l)) (past_drop key after xs numbered) ∙ ap (map key) same_taken
       ∙ mapped_numbers key (after + 1) (take (end - after) behind_it) (numbered_taken key (after + 1) (end - after) behind_it (dropped_numbered key after xs numbered))
       ∙ ap (numbers (after + 1)) size in
-      told ∙ ended ∙ next_number at most after (end - after) ∙ sym (ap (next_cursor at most) keys)
+      next_is ∙ ended ∙ next_number at most after (end - after) ∙ sym (ap (next_cursor at most) keys)
     where
       -- past the last id none is looked at
       ended : cond (nat_lt after end && ((end - after) == most)) (Some (at end)) None
@@ -278,23 +278,23 @@ module _ (records : Records) (sound : SoundRows records) (now after most end : �
       → rows ≡ filter_map (λ id. option_and_then row_for (find (λ a. key a == id) xs)) (numbers (after + 1) (end - after))
       → next ≡ cond (nat_lt after end && ((end - after) == most)) (Some (at end)) None
       → (rows ≡ (page_over key row_for at after most xs).rows) × (next ≡ (page_over key row_for at after most xs).next)
-  ids_page key row_for at xs numbered is has told =
+  ids_page key row_for at xs numbered is has next_is =
       let found = find_self key xs (numbers_differ key 1 xs numbered) in (
         has ∙ numbered_rows key row_for (λ id. find (λ a. key a == id) xs) at xs numbered found after most end is,
-        numbered_next key row_for (λ id. find (λ a. key a == id) xs) at xs numbered found after most end is next told,
+        numbered_next key row_for (λ id. find (λ a. key a == id) xs) at xs numbered found after most end is next next_is,
       )
 
   pub numbered_page : (list : ListById) → end ≡ min (rows_of records (numbered_table list)) (after + most)
       → rows ≡ filter_map (row_at records now list) (numbers (after + 1) (end - after))
       → next ≡ cond (nat_lt after end && ((end - after) == most)) (Some (cursor_of list end)) None
       → (rows ≡ (page records now most (cursor_of list after)).rows) × (next ≡ (page records now most (cursor_of list after)).next)
-  numbered_page OpenRequests is has told =
-      ids_page (λ (row : RequestRow). row.id) (open_row records now) (λ id. cursor.OpenRequests id) records.requests sound.requests.numbered is has told
-  numbered_page Overdue is has told =
-      ids_page (λ (row : RequestRow). row.id) (overdue_row records now) (λ id. cursor.Overdue id) records.requests sound.requests.numbered is has told
-  numbered_page Requests is has told =
-      ids_page (λ (row : RequestRow). row.id) (history_row records now) (λ id. cursor.Requests id) records.requests sound.requests.numbered is has told
-  numbered_page Subscribers is has told =
-      ids_page (λ (row : SubscriberRow). row.id) subscriber_row (λ id. cursor.Subscribers id) records.subscribers sound.subscribers.numbered is has told
-  numbered_page Orders is has told =
-      ids_page (λ (row : OrderRow). row.id) (order_row records) (λ id. cursor.Orders id) records.orders sound.orders.numbered is has told
+  numbered_page OpenRequests is has next_is =
+      ids_page (λ (row : RequestRow). row.id) (open_row records now) (λ id. cursor.OpenRequests id) records.requests sound.requests.numbered is has next_is
+  numbered_page Overdue is has next_is =
+      ids_page (λ (row : RequestRow). row.id) (overdue_row records now) (λ id. cursor.Overdue id) records.requests sound.requests.numbered is has next_is
+  numbered_page Requests is has next_is =
+      ids_page (λ (row : RequestRow). row.id) (history_row records now) (λ id. cursor.Requests id) records.requests sound.requests.numbered is has next_is
+  numbered_page Subscribers is has next_is =
+      ids_page (λ (row : SubscriberRow). row.id) subscriber_row (λ id. cursor.Subscribers id) records.subscribers sound.subscribers.numbered is has next_is
+  numbered_page Orders is has next_is =
+      ids_page (λ (row : OrderRow). row.id) (order_row records) (λ id. cursor.Orders id) records.orders sound.orders.numbered is has next_is

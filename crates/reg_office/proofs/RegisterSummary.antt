@@ -49,8 +49,8 @@ never_signer fault h is = absurd (subst IsTableFault is h)
 pub looked_failed :
     {C T E : Type 0} {g : Ghosts C} {a b : Held C} {Made : Trees → Type 0} (outcome : Result T E)
     → IsErr outcome → Looked g a b → Changed g a b Made outcome
-looked_failed (Ok x) told looked = absurd (let bad : ⊥ = cc in bad)
-looked_failed {g = g} {a = a} {b = b} {Made = Made} (Err e) told looked = record {
+looked_failed (Ok x) failed looked = absurd (let bad : ⊥ = cc in bad)
+looked_failed {g = g} {a = a} {b = b} {Made = Made} (Err e) failed looked = record {
   live = λ clean. tt;
   err = λ register. looked.same register;
   survives = survives_weaker (state g a) (state g b) (λ _. ⊥) Made (λ clean trees none. absurd none) looked.survives;
@@ -61,8 +61,8 @@ pub changed_failed :
     {C T E U F : Type 0} {g : Ghosts C} {a b c : Held C} {First Made : Trees → Type 0} {failure : F} (outcome : Result T E)
     → IsErr outcome → Looked g a b → Changed {T = U} {E = F} g b c First (Err failure)
     → (HasCleanDisk (state g c) → (trees : Trees) → First trees → Made trees) → Changed g a c Made outcome
-changed_failed (Ok x) told looked changed more = absurd (let bad : ⊥ = cc in bad)
-changed_failed {g = g} {a = a} {b = b} {c = c} {First = First} {Made = Made} (Err e) told looked changed more = record {
+changed_failed (Ok x) failed looked changed more = absurd (let bad : ⊥ = cc in bad)
+changed_failed {g = g} {a = a} {b = b} {c = c} {First = First} {Made = Made} (Err e) failed looked changed more = record {
   live = λ clean. tt;
   err = λ register.
       let was = looked.same register in

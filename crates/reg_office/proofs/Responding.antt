@@ -14,13 +14,13 @@ use Rattle.reg_ocsp.specs.Views.{id_model, ids_model, answers_model, answered}
 use Rattle.reg_office_api.specs.Ocsp.{IsAnswer, IsStatusFor}
 
 -- each CertID is told what the records have
-abbrev pub AreTold : Records → ℕ → List (CertId × Status) → Type 0
-AreTold records now answers = AllByRecursion (λ answer. IsStatusFor records now (id_model answer.0) answer.1) answers
+abbrev pub AreStatuses : Records → ℕ → List (CertId × Status) → Type 0
+AreStatuses records now answers = AllByRecursion (λ answer. IsStatusFor records now (id_model answer.0) answer.1) answers
 
-pub told_push : (records : Records) (now : ℕ) (answers : List (CertId × Status)) (id : CertId) (status : Status)
-    → AreTold records now answers → IsStatusFor records now (id_model id) status → AreTold records now (answers ++ (id, status) ∷ [])
-told_push records now [] id status all told = (told, tt)
-told_push records now (answer ∷ answers) id status all told = (all.0, told_push records now answers id status all.1 told)
+pub statuses_push : (records : Records) (now : ℕ) (answers : List (CertId × Status)) (id : CertId) (status : Status)
+    → AreStatuses records now answers → IsStatusFor records now (id_model id) status → AreStatuses records now (answers ++ (id, status) ∷ [])
+statuses_push records now [] id status all status_so = (status_so, tt)
+statuses_push records now (answer ∷ answers) id status all status_so = (all.0, statuses_push records now answers id status all.1 status_so)
 
 -- one answer more is to one CertID more
 pub answered_push : (answers : List (CertId × Status)) (ids : List CertId) (n : ℕ) (default : CertId) (status : Status) → answered answers ≡ take n ids → n < length ids
@@ -30,16 +30,16 @@ answered_push answers ids n default status front within =
     ∙ ap (λ (xs : List CertId). xs ++ get_or ids n default ∷ []) front
     ∙ sym (take_more ids n default within)
 
-each_told : (records : Records) (now : ℕ) (answers : List (CertId × Status)) → AreTold records now answers
+each_status : (records : Records) (now : ℕ) (answers : List (CertId × Status)) → AreStatuses records now answers
     → AllZip (IsAnswer records now) (ids_model (answered answers)) (answers_model answers)
-each_told records now [] all = tt
-each_told records now (answer ∷ answers) all = (record { repeated = refl; told = all.0 }, each_told records now answers all.1)
+each_status records now [] all = tt
+each_status records now (answer ∷ answers) all = (record { repeated = refl; status_is = all.0 }, each_status records now answers all.1)
 
 -- the CertIDs that were asked, and their answers
-pub each_answer : (records : Records) (now : ℕ) (ids : List CertId) (answers : List (CertId × Status)) → answered answers ≡ ids → AreTold records now answers
+pub each_answer : (records : Records) (now : ℕ) (ids : List CertId) (answers : List (CertId × Status)) → answered answers ≡ ids → AreStatuses records now answers
     → AllZip (IsAnswer records now) (ids_model ids) (answers_model answers)
 each_answer records now ids answers same all =
-    subst (λ (xs : List CertId). AllZip (IsAnswer records now) (ids_model xs) (answers_model answers)) same (each_told records now answers all)
+    subst (λ (xs : List CertId). AllZip (IsAnswer records now) (ids_model xs) (answers_model answers)) same (each_status records now answers all)
 
 -- THE BYTES
 

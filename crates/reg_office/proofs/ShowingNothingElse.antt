@@ -31,7 +31,7 @@ use Rattle.reg_office.specs.Shown.{entry_in, SoundRun, AcceptedRevocation, WasRe
 use Rattle.reg_office.specs.Stands.{SoundFor}
 use Rattle.reg_office.proofs.Following.{after_since, happens_since, over_stored, run_since, step_keeps_sound_for}
 use Rattle.reg_office.proofs.ShownByCrls.{no_entry_of_unrevoked}
-use Rattle.reg_office.proofs.ShownByOcsp.{ocsp_tells}
+use Rattle.reg_office.proofs.ShownByOcsp.{ocsp_shows}
 
 -- WHERE A REVOCATION COMES FROM
 
@@ -139,12 +139,12 @@ module _ (signs : Identity → List ℕ → List ℕ → Type 0) (identity : Ide
         )
 
     -- one that stands after the first command
-    here : (serial : ℕ) (found : RevocationRow) → revocation_in ran.0.revocations serial ≡ Some found → Moved start timed.0 timed.1 outcome ran.0
+    traces : (serial : ℕ) (found : RevocationRow) → revocation_in ran.0.revocations serial ≡ Some found → Moved start timed.0 timed.1 outcome ran.0
         → (old : Option RevocationRow) → revocation_in start.revocations serial ≡ old → WasRevoked whole serial
-    here serial found stands move (Some old) stood = inl (some_here (revocation_in start.revocations serial) old stood)
-    here serial found stands (inl same) None stood =
+    traces serial found stands move (Some old) stood = inl (some_here (revocation_in start.revocations serial) old stood)
+    traces serial found stands (inl same) None stood =
         absurd (none_some found (sym stood ∙ ap (λ rows. revocation_in rows serial) (sym same) ∙ stands))
-    here serial found stands (inr (late, added, answered, entered, by)) None stood =
+    traces serial found stands (inr (late, added, answered, entered, by)) None stood =
         let alone : revocation_in (added ∷ []) serial ≡ Some found =
         sym (find_back (λ row. row.serial == serial) start.revocations (added ∷ []) stood) ∙ ap (λ rows. revocation_in rows serial) (sym entered) ∙ stands in
         inr (subst (Accepts whole) (only_one added found serial alone) (accepted_first late added answered by))
@@ -178,7 +178,7 @@ module _ (signs : Identity → List ℕ → List ℕ → Type 0) (identity : Ide
           → WasRevoked (run_of start (timed ∷ commands) (outcome ∷ outcomes) sound ran) serial
       later (inl stood) =
           let found : (known : RevocationRow) × (revocation_in ran.0.revocations serial ≡ Some known) = some_of (revocation_in ran.0.revocations serial) stood in
-          here start timed commands outcome outcomes sound ran serial found.0 found.1 (moved start timed.0 timed.1 outcome ran.0 move) (revocation_in start.revocations serial) refl
+          traces start timed commands outcome outcomes sound ran serial found.0 found.1 (moved start timed.0 timed.1 outcome ran.0 move) (revocation_in start.revocations serial) refl
       later (inr accepts) = inr (accepted_later start timed commands outcome outcomes sound ran sound_next serial accepts)
 
 -- WHERE THERE IS NONE
@@ -202,13 +202,13 @@ status_unrevoked records serial none moment =
     go (Some certificate) = either (nat_lt certificate.not_after moment)
 
 -- what OCSP tells as good is not revoked
-not_told
-    : (told : Status) → cert_status told ≡ cert_status Good → IsFalse (is_revoked told)
+not_revoked_by_good
+    : (reported : Status) → cert_status reported ≡ cert_status Good → IsFalse (is_revoked reported)
 unfolding tlv
-not_told Unknown same = refl
-not_told Good same = refl
-not_told Expired same = refl
-not_told (Revoked at reason) same =
+not_revoked_by_good Unknown same = refl
+not_revoked_by_good Good same = refl
+not_revoked_by_good Expired same = refl
+not_revoked_by_good (Revoked at reason) same =
     let tags : ◌≡◌ {A = ℕ} 0xA1 0x80 = ap (λ (bytes : List ℕ). get_or bytes 0 0) same in
     absurd (omega arith)
 
@@ -227,15 +227,15 @@ answer_unrevoked records serial none id answer match agrees = go (certificate_in
         → certificate_in records.certificates serial ≡ row
         → IsFalse (is_revoked answer.status)
     go None is = ap is_revoked (agrees.unregistered serial match is)
-    go (Some certificate) is = not_told answer.status (agrees.good serial certificate match is none)
+    go (Some certificate) is = not_revoked_by_good answer.status (agrees.good serial certificate match is none)
 
 -- the status that is told, where one is
-told_is
-    : (refused : Option Refusal) (status told : Status)
-    → refused_or refused (StatusIs status) ≡ Ok (StatusIs told)
-    → told ≡ status
-told_is None status told is = cc
-told_is (Some refusal) status told is = absurd (let bad : ⊥ = cc in bad)
+reported_is
+    : (refused : Option Refusal) (status reported : Status)
+    → refused_or refused (StatusIs status) ≡ Ok (StatusIs reported)
+    → reported ≡ status
+reported_is None status reported is = cc
+reported_is (Some refusal) status reported is = absurd (let bad : ⊥ = cc in bad)
 
 -- a serial number that was not revoked is nowhere shown, where the headline stands
 pub nowhere_shown
@@ -269,19 +269,19 @@ nowhere_shown signs identity history moves agree run serial not_revoked =
         (traced signs identity run.after moves run.start run.commands run.outcomes run.sound run.ran serial revocation is))
     shown None is = record {
       by_status = status_unrevoked run.after serial is;
-      when_asked = λ moment told answered.
+      when_asked = λ moment reported answered.
           subst
           (λ (status : Status). IsFalse (is_revoked status))
-          (sym (told_is (first_refusal (clock_checks moment run.after.last)) (status run.after serial moment) told answered))
+          (sym (reported_is (first_refusal (clock_checks moment run.after.last)) (status run.after serial moment) reported answered))
           (status_unrevoked run.after serial is moment);
       by_ocsp = λ moment reached responder.
-          ocsp_tells
+          ocsp_shows
           signs
           responder
           run.after
           moment
           serial
-          (λ told. IsFalse (is_revoked told))
+          (λ reported. IsFalse (is_revoked reported))
           agree
           sound.rows
           (answer_unrevoked run.after serial is)

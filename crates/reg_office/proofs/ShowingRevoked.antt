@@ -26,29 +26,29 @@ use Rattle.reg_office.specs.Agreement.{OcspAgrees}
 use Rattle.reg_office_api.specs.Answered.{IsAnswered}
 use Rattle.reg_office.specs.Shown.{SoundRun, AcceptedRevocation, IsReached, revoked_at, ListedThroughFirstPast, IsShownEverywhere}
 use Rattle.reg_office.proofs.Following.{after_since, happens_since, over_stored, run_since, step_since}
-use Rattle.reg_office.proofs.ShownByCrls.{NotPast, ToldOf, listed_through}
-use Rattle.reg_office.proofs.ShownByOcsp.{on_clock, ocsp_tells}
+use Rattle.reg_office.proofs.ShownByCrls.{NotPast, ListsAsDue, listed_through}
+use Rattle.reg_office.proofs.ShownByOcsp.{on_clock, ocsp_shows}
 
 -- a status that is asked for at a moment that is reached is told, or memory was short or the store failed
-pub status_told
+pub status_answered
     : (records : Records) (moment serial : ℕ)
     → IsReached records moment
     → (outcome : Result Reply Fault)
     → IsAnswered records moment (AskStatus serial) outcome
     → (outcome ≡ Ok (StatusIs (status records serial moment))) ⊎ (outcome ≡ Err Memory) ⊎ (outcome ≡ Err Store)
-status_told records moment serial reached outcome answered = go outcome answered
+status_answered records moment serial reached outcome answered = go outcome answered
   where
-    told : answer records moment (AskStatus serial) ≡ Ok (StatusIs (status records serial moment))
-    told = rw (on_clock records moment reached)
+    answer_is : answer records moment (AskStatus serial) ≡ Ok (StatusIs (status records serial moment))
+    answer_is = rw (on_clock records moment reached)
 
     go
         : (o : Result Reply Fault)
         → IsAnswered records moment (AskStatus serial) o
         → (o ≡ Ok (StatusIs (status records serial moment))) ⊎ (o ≡ Err Memory) ⊎ (o ≡ Err Store)
     go (Ok reply) is =
-        let both : ◌≡◌ {A = Result Reply Refusal} (Ok reply) (Ok (StatusIs (status records serial moment))) = sym is ∙ told in
+        let both : ◌≡◌ {A = Result Reply Refusal} (Ok reply) (Ok (StatusIs (status records serial moment))) = sym is ∙ answer_is in
         inl (let same : reply ≡ StatusIs (status records serial moment) = cc in ap Ok same)
-    go (Err (Refused refusal)) is = absurd (let bad : ⊥ = cc (sym is ∙ told) in bad)
+    go (Err (Refused refusal)) is = absurd (let bad : ⊥ = cc (sym is ∙ answer_is) in bad)
     go (Err Memory) is = inr (inl refl)
     go (Err Store) is = inr (inr refl)
     go (Err Signer) is = absurd is
@@ -68,7 +68,7 @@ civil_of
     → ListedByCrls its.before.crls run.after certificate revocation
     → ((n : ℕ) → AllByRecursion (IsDueEntry run.after n) (entries run.after n))
     → IsShownEverywhere its
-civil_of signs identity agree run its sound certificate revocation found by tells due = record {
+civil_of signs identity agree run its sound certificate revocation found by listed due = record {
   request = by.request;
   requested = ap (request_in its.before.requests) own ∙ by.recorded;
   certificate = certificate;
@@ -78,28 +78,28 @@ civil_of signs identity agree run its sound certificate revocation found by tell
   past_its_end = λ seconds. is_revoked_at (certificate.not_after + seconds);
   when_asked = λ moment reached outcome answered.
       subst
-      (λ (told : Status). (outcome ≡ Ok (StatusIs told)) ⊎ (outcome ≡ Err Memory) ⊎ (outcome ≡ Err Store))
+      (λ (reported : Status). (outcome ≡ Ok (StatusIs reported)) ⊎ (outcome ≡ Err Memory) ⊎ (outcome ≡ Err Store))
       (is_revoked_at moment)
-      (status_told run.after moment by.request.serial reached outcome answered);
+      (status_answered run.after moment by.request.serial reached outcome answered);
   by_ocsp = λ moment reached responder.
-      ocsp_tells
+      ocsp_shows
       signs
       responder
       run.after
       moment
       by.request.serial
-      (λ told. told ≡ revoked_at its.at by.request)
+      (λ reported. reported ≡ revoked_at its.at by.request)
       agree
       sound.rows
-      (λ id answer match agrees. agrees.revoked by.request.serial revocation match revoked ∙ told_so)
+      (λ id answer match agrees. agrees.revoked by.request.serial revocation match revoked ∙ status_so)
       reached;
-  later = tells.later;
-  issued_later = tells.issued;
+  later = listed.later;
+  issued_later = listed.issued;
   by_crls =
       subst
-      (λ (entry : Entry). ListedThroughFirstPast run.after entry certificate.not_after tells.later)
+      (λ (entry : Entry). ListedThroughFirstPast run.after entry certificate.not_after listed.later)
       (λ i. record { serial = by.request.serial; at = by.at_now i; reason = by.with_reason i })
-      (listed_through run.after by.request.serial revocation certificate.not_after sound.rows.crls.numbered due revoked its.before.crls tells.later tells.issued before later);
+      (listed_through run.after by.request.serial revocation certificate.not_after sound.rows.crls.numbered due revoked its.before.crls listed.later listed.issued before later);
   signed_so = sound.signatures;
 }
   where
@@ -111,7 +111,7 @@ civil_of signs identity agree run its sound certificate revocation found by tell
         key_found (λ row. row.serial) run.after.certificates revocation.serial certificate found ∙ by.of_serial
 
     revoked : revocation_in run.after.revocations by.request.serial ≡ Some revocation
-    revoked = ap (revocation_in run.after.revocations) (sym key) ∙ tells.stands
+    revoked = ap (revocation_in run.after.revocations) (sym key) ∙ listed.stands
 
     within : revocation.at ≤ certificate.not_after
     within =
@@ -128,8 +128,8 @@ civil_of signs identity agree run its sound certificate revocation found by tell
         revoked
         sound.rows.revocations.each).within_validity
 
-    told_so : Revoked revocation.at revocation.reason ≡ revoked_at its.at by.request
-    told_so = λ i. Revoked (by.at_now i) (by.with_reason i)
+    status_so : Revoked revocation.at revocation.reason ≡ revoked_at its.at by.request
+    status_so = λ i. Revoked (by.at_now i) (by.with_reason i)
 
     is_revoked_at : (moment : ℕ) → status run.after by.request.serial moment ≡ revoked_at its.at by.request
     is_revoked_at moment =
@@ -137,23 +137,23 @@ civil_of signs identity agree run its sound certificate revocation found by tell
         (λ (row : Option CertRow). status_by moment row (revocation_in run.after.revocations by.request.serial))
         (ap (certificate_in run.after.certificates) (sym by.of_serial) ∙ found)
         ∙ ap (status_by moment (Some certificate)) revoked
-        ∙ told_so
+        ∙ status_so
 
     before : AllByRecursion (NotPast revocation.first certificate.not_after) its.before.crls
     before =
         all_weaker
         (λ crl. (crl.number < revocation.first) × IsFalse (lists run.after crl.number certificate.serial))
         (NotPast revocation.first certificate.not_after)
-        (λ crl told can. let below : crl.number < revocation.first = told.0 in absurd (omega arith))
+        (λ crl listing can. let below : crl.number < revocation.first = listing.0 in absurd (omega arith))
         its.before.crls
-        tells.before
+        listed.before
 
-    later : AllByRecursion (ToldOf run.after by.request.serial revocation.first certificate.not_after) tells.later
+    later : AllByRecursion (ListsAsDue run.after by.request.serial revocation.first certificate.not_after) listed.later
     later =
         subst
-        (λ serial. AllByRecursion (ToldOf run.after serial revocation.first certificate.not_after) tells.later)
+        (λ serial. AllByRecursion (ListsAsDue run.after serial revocation.first certificate.not_after) listed.later)
         key
-        tells.since
+        listed.since
 
 -- each revocation is shown, where the headline stands
 pub shown_everywhere
@@ -168,7 +168,7 @@ shown_everywhere signs identity lists_them agree run its =
     let sound = over_stored signs identity run.start run.sound in
     let before = after_since since signs identity run.start its.before its.front its.early sound run.sound.reached its.ran_before in
     let next = step_since since signs identity its.before its.at (Revoke its.id) (Ok (RevokedNow its.is_late)) its.next before.0 before.1 its.accepted in
-    let told =
+    let due =
     lists_them
     since
     run.start
@@ -193,9 +193,9 @@ shown_everywhere signs identity lists_them agree run its =
     run
     its
     (after_since since signs identity run.start run.after run.commands run.outcomes sound run.sound.reached run.ran).0
-    told.0.0
-    told.0.1
-    told.0.2
-    told.0.4
-    told.0.5
-    told.1
+    due.0.0
+    due.0.1
+    due.0.2
+    due.0.4
+    due.0.5
+    due.1

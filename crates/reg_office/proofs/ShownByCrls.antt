@@ -36,7 +36,7 @@ entry_of_listed records crl serial revocation due revoked listed = go (entry_in 
         let same : its.revocation ≡ revocation = cc in
         ap
         Some
-        (its.told ∙ (λ i. record { serial = key i; at = (same i).at; reason = (same i).reason }))
+        (its.entry_is ∙ (λ i. record { serial = key i; at = (same i).at; reason = (same i).reason }))
 
 -- one that does not list it has none
 pub no_entry
@@ -68,8 +68,8 @@ no_entry_of_unrevoked records crl serial due unrevoked = go (entry_in records cr
 -- CRLS IN ORDER
 
 -- a CRL tells of the revocation as the headline says
-abbrev pub ToldOf : Records → ℕ → ℕ → ℕ → Crl → Type 0
-ToldOf records serial first not_after crl =
+abbrev pub ListsAsDue : Records → ℕ → ℕ → ℕ → Crl → Type 0
+ListsAsDue records serial first not_after crl =
     (first ≤ crl.number)
     × (IsTrue (lists records crl.number serial)
     ↔ NonePastBetween records.crls first crl.number not_after)
@@ -97,17 +97,17 @@ module _ (records : Records) (serial first not_after : ℕ) (numbered : Numbered
         (all_append P front (crl ∷ rest) (all_weaker (NotPast first not_after) P (λ other holds can below. holds can) front none) behind)
 
     -- after it, where it is past the end, none lists the revocation
-    none_after_past : first ≤ crl.number → not_after < crl.this_update → AllByRecursion (ToldOf records serial first not_after) rest
+    none_after_past : first ≤ crl.number → not_after < crl.this_update → AllByRecursion (ListsAsDue records serial first not_after) rest
         → AllByRecursion (λ later. entry_in records later serial ≡ None) rest
-    none_after_past can past told =
+    none_after_past can past listings =
         all_join
         (λ later. (1 + length front) + 1 ≤ later.number)
-        (ToldOf records serial first not_after)
+        (ListsAsDue records serial first not_after)
         (λ later. entry_in records later serial ≡ None)
         (λ later above its. no_entry records later serial (unlisted later above its (lists records later.number serial) refl))
         rest
         (numbered_above (λ other. other.number) ((1 + length front) + 1) rest numbers.1)
-        told
+        listings
       where
         -- what holds of all CRLs holds of this one
         of_this : (n : ℕ) → NonePastBetween records.crls first n not_after → crl.number < n → crl.this_update ≤ not_after
@@ -118,7 +118,7 @@ module _ (records : Records) (serial first not_after : ℕ) (numbered : Numbered
         unlisted
             : (later : Crl)
             → (1 + length front) + 1 ≤ later.number
-            → ToldOf records serial first not_after later
+            → ListsAsDue records serial first not_after later
             → (listed : Bool)
             → lists records later.number serial ≡ listed
             → IsFalse (lists records later.number serial)
@@ -136,15 +136,15 @@ module _ (records : Records) (serial : ℕ) (revocation : RevocationRow) (not_af
   -- from the CRLs in front on, of which none is past the end, each lists the revocation up to and including the first past
   pub listed_through : (front rest : List Crl) → records.crls ≡ front ++ rest
       → AllByRecursion (NotPast revocation.first not_after) front
-      → AllByRecursion (ToldOf records serial revocation.first not_after) rest
+      → AllByRecursion (ListsAsDue records serial revocation.first not_after) rest
       → ListedThroughFirstPast records entry not_after rest
-  listed_through front [] is none told = tt
-  listed_through front (crl ∷ rest) is none told = (
+  listed_through front [] is none listings = tt
+  listed_through front (crl ∷ rest) is none listings = (
     entry_of_listed records crl serial revocation (due crl.number) revoked
-        (told.0.1.1 (none_past_before records serial revocation.first not_after numbered front crl rest is none)),
+        (listings.0.1.1 (none_past_before records serial revocation.first not_after numbered front crl rest is none)),
     go (nat_lt not_after crl.this_update) refl
         (λ within. listed_through (front ++ crl ∷ []) rest (is ∙ sym (append_assoc front (crl ∷ []) rest))
-        (all_push (NotPast revocation.first not_after) front crl none (λ can. within)) told.1),
+        (all_push (NotPast revocation.first not_after) front crl none (λ can. within)) listings.1),
   )
     where
       go
@@ -156,5 +156,5 @@ module _ (records : Records) (serial : ℕ) (revocation : RevocationRow) (not_af
           (AllByRecursion (λ later. entry_in records later serial ≡ None) rest)
           (ListedThroughFirstPast records entry not_after rest)
       go true is_past more =
-          none_after_past records serial revocation.first not_after numbered front crl rest is told.0.0 (let past : not_after < crl.this_update = grind (arith, nat_tests) in past) told.1
+          none_after_past records serial revocation.first not_after numbered front crl rest is listings.0.0 (let past : not_after < crl.this_update = grind (arith, nat_tests) in past) listings.1
       go false is_past more = more (let within : crl.this_update ≤ not_after = grind (arith, nat_tests) in within)

@@ -38,7 +38,7 @@ zip_weaker P Q weaker (x ∷ xs) [] all = all
 zip_weaker P Q weaker (x ∷ xs) (y ∷ ys) all = (weaker x y all.0, zip_weaker P Q weaker xs ys all.1)
 
 -- each reply at a moment that is reached tells of a serial number what each answer that agrees with the records tells
-pub ocsp_tells
+pub ocsp_shows
     : (signs : Identity → List ℕ → List ℕ → Type 0) (responder : Responder) (records : Records) (moment serial : ℕ)
     → (IsSo : Status → Type 0)
     → OcspAgrees
@@ -48,8 +48,8 @@ pub ocsp_tells
     → (asked reply : List ℕ)
     → IsOcspReply signs responder records moment asked reply
     → AnswersStatuses signs responder records moment serial IsSo asked reply
-ocsp_tells signs responder records moment serial IsSo agree sound so reached asked reply (inl malformed) = inl malformed
-ocsp_tells signs responder records moment serial IsSo agree sound so reached asked reply (inr its) = go its.3
+ocsp_shows signs responder records moment serial IsSo agree sound so reached asked reply (inl malformed) = inl malformed
+ocsp_shows signs responder records moment serial IsSo agree sound so reached asked reply (inr its) = go its.3
   where
     whole : IsResponse signs responder records moment its.0 its.1 reply → ResponseHasStatuses signs responder records moment serial IsSo asked reply
     whole response = record {
@@ -57,7 +57,7 @@ ocsp_tells signs responder records moment serial IsSo agree sound so reached ask
       nonce = its.1;
       read = its.2;
       response = response;
-      told =
+      statuses_so =
           zip_weaker
           (Agrees records)
           (λ id answer. IsMatch records.issuer id serial → IsSo answer.status)

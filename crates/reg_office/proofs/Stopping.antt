@@ -28,14 +28,14 @@ module _ {C : Type 0} (g : Ghosts C) (signs : Identity → List ℕ → List ℕ
   one_more old mid new [] [] timed outcome same one = (new, subst (λ (held : Held C). IsRunOne g signs identity held new timed.0 timed.1 outcome) same one, refl)
   one_more old mid new [] (first ∷ came) timed outcome runs one = absurd runs
   one_more old mid new (first ∷ commands) [] timed outcome runs one = absurd runs
-  one_more old mid new (first ∷ commands) (told ∷ came) timed outcome (next, here, rest) one = (next, here, one_more next mid new commands came timed outcome rest one)
+  one_more old mid new (first ∷ commands) (outcome_first ∷ came) timed outcome (next, here, rest) one = (next, here, one_more next mid new commands came timed outcome rest one)
 
   -- one outcome for each
   pub run_length : (old new : Held C) (commands : List (ℕ × Command)) (came : List (Result Reply Fault)) → AreRunByOne g signs identity old commands came new → length came ≡ length commands
   run_length old new [] [] same = refl
   run_length old new [] (first ∷ came) runs = absurd runs
   run_length old new (first ∷ commands) [] runs = absurd runs
-  run_length old new (first ∷ commands) (told ∷ came) (next, here, rest) = ap suc (run_length next new commands came rest)
+  run_length old new (first ∷ commands) (outcome_first ∷ came) (next, here, rest) = ap suc (run_length next new commands came rest)
 
   -- no fault of the disk is forgotten
   pub run_clean : (old new : Held C) (commands : List (ℕ × Command)) (came : List (Result Reply Fault)) → AreRunByOne g signs identity old commands came new
@@ -43,7 +43,7 @@ module _ {C : Type 0} (g : Ghosts C) (signs : Identity → List ℕ → List ℕ
   run_clean old new [] [] same = subst (λ (held : Held C). doubt (state g old).is_clean ≤ doubt (state g held).is_clean) (sym same) (omega arith)
   run_clean old new [] (first ∷ came) runs = absurd runs
   run_clean old new (first ∷ commands) [] runs = absurd runs
-  run_clean old new (first ∷ commands) (told ∷ came) (next, here, rest) = let later = run_clean next new commands came rest in omega (arith, here.survives.clean, later)
+  run_clean old new (first ∷ commands) (outcome_first ∷ came) (next, here, rest) = let later = run_clean next new commands came rest in omega (arith, here.survives.clean, later)
 
   -- they ran, over records that stood
   pub ran_all : (old new : Held C) (records : Records) (commands : List (ℕ × Command)) (came : List (Result Reply Fault))
@@ -52,7 +52,7 @@ module _ {C : Type 0} (g : Ghosts C) (signs : Identity → List ℕ → List ℕ
       record { after = records; run = refl; stands = subst (λ (held : Held C). Stands g signs held identity records) (sym same) stands }
   ran_all old new records [] (first ∷ came) runs stands clean = absurd runs
   ran_all old new records (first ∷ commands) [] runs stands clean = absurd runs
-  ran_all old new records (first ∷ commands) (told ∷ came) (next, here, rest) stands clean =
+  ran_all old new records (first ∷ commands) (outcome_first ∷ came) (next, here, rest) stands clean =
       let step = here.step records stands (was_clean (state g next) (state g new) (run_clean next new commands came rest) clean) in
       let later = ran_all next new step.after commands came rest step.stands clean in
       record { after = later.after; run = (step.after, step.happens, later.run); stands = later.stands }
@@ -110,7 +110,7 @@ module _ {C : Type 0} (g : Ghosts C) (signs : Identity → List ℕ → List ℕ
   found_all old new records [] [] trees settles legal stands same clean may = inl (subst (λ (held : Held C). (state g held).may_leave trees) same may, tt)
   found_all old new records [] (first ∷ came) trees settles legal stands runs clean may = absurd runs
   found_all old new records (first ∷ commands) [] trees settles legal stands runs clean may = absurd runs
-  found_all old new records (first ∷ commands) (told ∷ came) trees settles legal stands (next, here, rest) clean may =
+  found_all old new records (first ∷ commands) (outcome_first ∷ came) trees settles legal stands (next, here, rest) clean may =
       let was = was_clean (state g next) (state g new) (run_clean next new commands came rest) clean in
       let step = here.step records stands was in
       let still : (found : Trees) → (state g next).may_leave found → HaveRegisterSchema found = λ found left. elim (here.survives.crash was found left) [
@@ -118,14 +118,14 @@ module _ {C : Type 0} (g : Ghosts C) (signs : Identity → List ℕ → List ℕ
         | inr does ↦ (does records stands).rests.3
       ] in
       elim (found_all next new step.after commands came trees settles still step.stands rest clean may) [
-        | inl before ↦ behind records first told commands came trees old next settles legal stands here was before.1 before.0
+        | inl before ↦ behind records first outcome_first commands came trees old next settles legal stands here was before.1 before.0
         | inr part ↦ inr (record {
           done = first ∷ part.done;
           left = part.left;
           commands_are = ap (◌∷◌ first) part.commands_are;
-          came = told ∷ part.came;
+          came = outcome_first ∷ part.came;
           others = part.others;
-          outcomes_are = ap (◌∷◌ told) part.outcomes_are;
+          outcomes_are = ap (◌∷◌ outcome_first) part.outcomes_are;
           no_reply = part.no_reply;
           after = part.after;
           run = (step.after, step.happens, part.run);

@@ -49,11 +49,11 @@ abbrev pub OfficeLeads : {C S : Type 0} → Ghosts C → Signer S → (OfficeSig
     → Office C S → Office C S → Type 0
 OfficeLeads g signer step old new = LeadsOver g signer.signs step (seen signer old) (seen signer new)
 
--- a call of an office that does not change the records, and for whose result `Tells` holds of them
-abbrev pub OfficeTells
+-- a call of an office that does not change the records, and for whose result `IsSo` holds of them
+abbrev pub OfficeReports
     : {C S : Type 0} → Ghosts C → Signer S → (Records → Type 0) → Office C S → Office C S → Type 0
-OfficeTells g signer Tells old new =
-    OfficeLeads g signer (λ signers before after. Tells before × (after ≡ before)) old new
+OfficeReports g signer IsSo old new =
+    OfficeLeads g signer (λ signers before after. IsSo before × (after ≡ before)) old new
 
 -- A call `it` has this result. `first` and `last` are the interrupted call, if any, as it was before and after `it`. After an interrupted call, `it`
 -- fails, and `last` stays `first`. Otherwise `last` is none after a success or a refusal, and none or `it` after a fault.

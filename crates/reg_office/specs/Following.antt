@@ -39,5 +39,5 @@ pub record IsDigestSigner (signs : Signs) (identity : Identity) : Type 0 where
 -- records that are sound for the placeholder digest are sound for any next signer: all CRLs so far have the digest
 abbrev pub FollowsDigest : {C : Type 0} → Ghosts C → Signs → Type 0
 FollowsDigest {C = C} g signs =
-    (held : Held C) (seal identity : Identity) (records : Records)
-    → IsDigestSigner signs seal → Stands g signs held seal records → Stands g signs held identity records
+    (held : Held C) (digest identity : Identity) (records : Records)
+    → IsDigestSigner signs digest → Stands g signs held digest records → Stands g signs held identity records

@@ -83,7 +83,7 @@ pub record ResponseHasStatuses (signs : Signs) (responder : Responder) (records 
   pub nonce : Option (List ℕ)
   pub read : IsOcspRequest asked ids nonce
   pub response : IsResponse signs responder records moment ids nonce reply
-  pub told : AllZip (λ id answer. IsMatch records.issuer id serial → IsSo answer.status)
+  pub statuses_so : AllZip (λ id answer. IsMatch records.issuer id serial → IsSo answer.status)
       ids response.of_records.answers
 
 -- the response to any bytes: malformedRequest if they are no request; or internalError (RFC 6960 2.3); or a signed response with
@@ -162,7 +162,7 @@ pub record IsShownEverywhere {signs : Signs} {identity : Identity} {run : SoundR
       → (asked reply : List ℕ)
       → IsOcspReply signs responder run.after moment asked reply
       → AnswersStatuses signs responder run.after moment request.serial
-      (λ told. told ≡ revoked_at its.at request) asked reply
+      (λ shown. shown ≡ revoked_at its.at request) asked reply
   -- each CRL that was issued later in the run has the entry, up to and including the first one past the certificate's notAfter
   pub later : List Crl
   pub issued_later : run.after.crls ≡ its.before.crls ++ later
@@ -186,9 +186,9 @@ pub record IsNowhereShown {signs : Signs} {identity : Identity} (run : SoundRun 
   pub by_status : (moment : ℕ) → IsFalse (is_revoked (status run.after serial moment))
   -- a query for its status is answered with one that is not revoked
   pub when_asked : (moment : ℕ)
-      → (told : Status)
-      → IsAnswered run.after moment (AskStatus serial) (Ok (StatusIs told))
-      → IsFalse (is_revoked told)
+      → (shown : Status)
+      → IsAnswered run.after moment (AskStatus serial) (Ok (StatusIs shown))
+      → IsFalse (is_revoked shown)
   -- in a signed response, by any responder, no CertID that names it is answered as revoked
   pub by_ocsp : (moment : ℕ)
       → IsReached run.after moment
@@ -196,7 +196,7 @@ pub record IsNowhereShown {signs : Signs} {identity : Identity} (run : SoundRun 
       → (asked reply : List ℕ)
       → IsOcspReply signs responder run.after moment asked reply
       → AnswersStatuses signs responder run.after moment serial
-      (λ told. IsFalse (is_revoked told)) asked reply
+      (λ shown. IsFalse (is_revoked shown)) asked reply
   -- no CRL has an entry for it
   pub by_crls : AllByRecursion (λ crl. entry_in run.after crl serial ≡ None) run.after.crls
   -- and each CRL is signed over exactly its entries, or has a placeholder digest over them

@@ -67,7 +67,7 @@ impl<C: Alter, S: Signer> Office<C, S> {
     }
 }
 
-// In the clauses, `OfficeLeads` relates the records before a call to those after it, `OfficeTells` says that they are the same, and `OfficeLooks`
+// In the clauses, `OfficeLeads` relates the records before a call to those after it, `OfficeReports` says that they are the same, and `OfficeLooks`
 // also that the call changes no table and commits nothing. `OfficeStops` says which records a stop of the machine in the call leaves.
 impl<C: Alter, S: Signer> reg_office_api::Office for Office<C, S> {
     ghost use Rattle.std.specs.Prelude.{◌≤◌, ◌<◌, ◌↔◌, ◌^◌, Err, IsErrOf, OnOk, OnErr, IfOk, IfErr};
@@ -94,7 +94,7 @@ impl<C: Alter, S: Signer> reg_office_api::Office for Office<C, S> {
     ghost use Rattle.reg_office.specs.AfterStoppedCommand.{IsIdentified, batch_call, command_call, identifier_call, schedule_call};
     ghost use Rattle.reg_office.specs.Answering.{SignerHasFailed};
     ghost use Rattle.reg_office.specs.Beginning.{IsBegun, RefusesRequest};
-    ghost use Rattle.reg_office.specs.Calls.{OfficeLeads, OfficeLooks, OfficeStops, OfficeTells, RanIn, SignsNothing, StandsFor, StandsIn, answer_failures_in, seen};
+    ghost use Rattle.reg_office.specs.Calls.{OfficeLeads, OfficeLooks, OfficeStops, OfficeReports, RanIn, SignsNothing, StandsFor, StandsIn, answer_failures_in, seen};
     ghost use Rattle.reg_office.specs.Faults.{IsTableFault};
 
     ghost is_clean = { λ office. HasCleanDisk (state C.Store office.store) };
@@ -267,7 +267,7 @@ impl<C: Alter, S: Signer> reg_office_api::Office for Office<C, S> {
     }
 
     fn changes(&mut self, alloc: Global, after: &Option<Positions>) -> Result<Changes, Fault>
-        ensures looks { OfficeTells C.Store S.Signer
+        ensures looks { OfficeReports C.Store S.Signer
             (λ records. HasChanges records after.now result) self.old self.new }
         ensures looked { OfficeLooks C.Store S.Signer
             (λ records. HasChanges records after.now result) self.old self.new }
@@ -277,7 +277,7 @@ impl<C: Alter, S: Signer> reg_office_api::Office for Office<C, S> {
     }
 
     fn summary(&mut self) -> Result<RegisterSummary, Fault>
-        ensures looks { OfficeTells C.Store S.Signer
+        ensures looks { OfficeReports C.Store S.Signer
             (λ records. HasSummary records result) self.old self.new }
         ensures looked { OfficeLooks C.Store S.Signer
             (λ records. HasSummary records result) self.old self.new }
@@ -287,7 +287,7 @@ impl<C: Alter, S: Signer> reg_office_api::Office for Office<C, S> {
     }
 
     fn last(&mut self) -> Result<Moment, Fault>
-        ensures looks { OfficeTells C.Store S.Signer
+        ensures looks { OfficeReports C.Store S.Signer
             (λ records. HasLastMoment records result) self.old self.new }
         ensures looked { OfficeLooks C.Store S.Signer
             (λ records. HasLastMoment records result) self.old self.new }
@@ -297,7 +297,7 @@ impl<C: Alter, S: Signer> reg_office_api::Office for Office<C, S> {
     }
 
     fn open_count(&mut self, now: Moment) -> Result<u64, Fault>
-        ensures looks { OfficeTells C.Store S.Signer
+        ensures looks { OfficeReports C.Store S.Signer
             (λ records. HasOpen records now result) self.old self.new }
         ensures looked { OfficeLooks C.Store S.Signer
             (λ records. HasOpen records now result) self.old self.new }
@@ -308,7 +308,7 @@ impl<C: Alter, S: Signer> reg_office_api::Office for Office<C, S> {
 
     fn request_load(&mut self, now: Moment, serial: Serial, most: u64) -> Result<RequestLoad, Fault>
         requires { most < 2 ^ 63 }
-        ensures looks { OfficeTells C.Store S.Signer
+        ensures looks { OfficeReports C.Store S.Signer
             (λ records. HasRequestLoad records now serial most result) self.old self.new }
         ensures looked { OfficeLooks C.Store S.Signer
             (λ records. HasRequestLoad records now serial most result) self.old self.new }
@@ -318,7 +318,7 @@ impl<C: Alter, S: Signer> reg_office_api::Office for Office<C, S> {
     }
 
     fn longest(&mut self, order: u64, not_before: Moment) -> Result<Option<u64>, Fault>
-        ensures looks { OfficeTells C.Store S.Signer
+        ensures looks { OfficeReports C.Store S.Signer
             (λ records. HasLongest records order not_before result) self.old self.new }
         ensures looked { OfficeLooks C.Store S.Signer
             (λ records. HasLongest records order not_before result) self.old self.new }

@@ -20,9 +20,9 @@ module _ {O : Type 0} (office : Office O) where
   abbrev pub LeadsIn : (OfficeSigners → Records → Records → Type 0) → O → O → Type 0
   LeadsIn step s t = Leads office.is_clean office.stands step s t
 
-  -- a call that does not change the records, and for whose result `Tells` holds of them
+  -- a call that does not change the records, and for whose result `IsSo` holds of them
   abbrev pub LooksIn : (Records → Type 0) → O → O → Type 0
-  LooksIn Tells s t = Looks office.is_clean office.stands Tells s t
+  LooksIn IsSo s t = Looks office.is_clean office.stands IsSo s t
 
   -- a call that does not change the records
   abbrev pub KeepsIn : O → O → Type 0

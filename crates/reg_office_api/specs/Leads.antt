@@ -11,7 +11,7 @@ Leads {I = I} {R = R} is_clean stands step s t =
     × ((identity : I) (before : R) → stands identity s before → is_clean t
     → (after : R) × step identity before after × stands identity t after)
 
--- a call that does not change the records, and for whose result `Tells` holds of them
+-- a call that does not change the records, and for whose result `IsSo` holds of them
 abbrev pub Looks : {S I R : Type 0} → (S → Type 0) → (I → S → R → Type 0) → (R → Type 0) → S → S → Type 0
-Looks is_clean stands Tells s t =
-    Leads is_clean stands (λ identity before after. Tells before × (after ≡ before)) s t
+Looks is_clean stands IsSo s t =
+    Leads is_clean stands (λ identity before after. IsSo before × (after ≡ before)) s t

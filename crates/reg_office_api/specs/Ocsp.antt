@@ -19,14 +19,14 @@ IsNoOcspRequest bytes = (ids : List Id) (nonce : Option (List ℕ)) → ¬ (IsOc
 
 -- the status for a CertID: that of the serial number, if the CertID identifies a certificate of the issuer; else unknown (RFC 6960 2.2)
 abbrev pub IsStatusFor : Records → ℕ → Id → Status → Type 0
-IsStatusFor records now id told =
-    ((serial : ℕ) × IsMatch records.issuer id serial × (told ≡ status records serial now))
-    ⊎ (((serial : ℕ) → ¬ (IsMatch records.issuer id serial)) × (told ≡ Unknown))
+IsStatusFor records now id reported =
+    ((serial : ℕ) × IsMatch records.issuer id serial × (reported ≡ status records serial now))
+    ⊎ (((serial : ℕ) → ¬ (IsMatch records.issuer id serial)) × (reported ≡ Unknown))
 
 -- the answer for a CertID: the CertID, repeated byte for byte, and its status (SingleResponse, RFC 6960 4.2.1)
 pub record IsAnswer (records : Records) (now : ℕ) (id : Id) (answer : SingleAnswer) : Type 0 where
   pub repeated : answer.raw ≡ id.raw
-  pub told : IsStatusFor records now id answer.status
+  pub status_is : IsStatusFor records now id answer.status
 
 -- the ResponseData of the records at a moment, with the key that names the responder: one answer for each CertID, in the order of the
 -- request, valid from this moment on for the policy's life of OCSP answers; and the nonce (RFC 6960 4.2.1)

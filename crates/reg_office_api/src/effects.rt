@@ -34,7 +34,7 @@ impl StoreEffect {
     }
 }
 
-/// The kind of the reply to a line. `Accepted`: also if a query or an OCSP request is answered. `Refused`: also a failure without a code like `E01`.
+/// The kind of the reply to a line. `Accepted`: the line succeeded (also a query). `Refused`: by a code such as `E01`, or a failure without a code.
 #[derive(Clone, Copy, PartialEq, Eq)]
 pub enum LineReply {
     Accepted,

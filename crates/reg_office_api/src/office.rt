@@ -10,7 +10,7 @@ use reg_ocsp::Draft;
 use std::alloc::Global;
 
 /// An office: the records of a register, and the signers of its CRLs and OCSP answers. A clause of each call but `failure_counts` relates the records
-/// before the call to those after it, provided that the disk has returned what was written to it ([`Leads`](crate::specs::Leads)).
+/// before the call to those after it (with `Looks` they are equal), if the disk has returned what was written to it ([`Leads`](crate::specs::Leads)).
 pub trait Office {
     ghost use Rattle.std.specs.Prelude.{◌≡◌, ◌≤◌, ◌<◌, ◌↔◌, ◌^◌, ℕ, List, IfErr, IfOk, IsErrOf};
     ghost use Rattle.reg_office_api.specs.CallSteps.{BatchStep, CommandStep, QueryStep, OcspStep, CrlStep};
@@ -80,16 +80,16 @@ pub trait Office {
     fn crl_bytes(&mut self, alloc: Global, number: Option<u64>) -> Result<Vec<u8>, Fault>
         ensures { Leads is_clean stands (CrlStep number (items_of result)) self.old self.new };
 
-    /// The DER of the TBSCertList (RFC 5280 5.1.2) that the command `crl` would sign, for a caller that requests the signature first. `None` if the
-    /// command would be refused, if the signer of CRLs has no public key (as with the placeholder digest), if out of memory, or if the store fails.
+    /// The DER of the TBSCertList (RFC 5280 5.1.2) that the command `crl` would sign, for a caller that requests the signature before the command.
+    /// `None` if the command would be refused, if the signer of CRLs has no public key or is missing, if out of memory, or if the store fails.
     fn crl_message(&mut self, alloc: Global, now: Moment) -> Option<Vec<u8>>
         ensures { Leads is_clean stands (λ signers before after. after ≡ before) self.old self.new };
 
-    /// The page at the cursor `from`: of the next `most` rows, those that its list selects. Errors: `ClockEnd`, `ClockBack`; `Memory`, `Store`.
+    /// The page at cursor `from`: of the next `most` rows, those that the cursor's list selects. Errors: `ClockEnd`, `ClockBack`; `Memory`, `Store`.
     fn page(&mut self, alloc: Global, now: Moment, from: Cursor, most: u64) -> Result<Page, Fault>
         ensures { Leads is_clean stands (PageStep now most from result) self.old self.new };
 
-    /// The page of the changes feed after the positions of a client's copy; for `None` from the first row on. Errors: `Memory`, `Store`.
+    /// The page of the changes feed after the positions of a client's copy; the first page for `None` (no copy yet). Errors: `Memory`, `Store`.
     fn changes(&mut self, alloc: Global, after: &Option<Positions>) -> Result<Changes, Fault>
         ensures looks { Looks is_clean stands (λ records. HasChanges records after.now result)
             self.old self.new }
@@ -118,7 +118,7 @@ pub trait Office {
             self.old self.new }
         ensures faults { IfErr result IsOfStore };
 
-    /// The longest validity in days that an order and the policy allow for a notBefore; `None` if there is no such order. Errors: `Memory`, `Store`.
+    /// The most days of validity that an order and the schedule (see below) allow for a notBefore. `None`: no such order. Errors: `Memory`, `Store`.
     fn longest(&mut self, order: u64, not_before: Moment) -> Result<Option<u64>, Fault>
         ensures looks { Looks is_clean stands
             (λ records. HasLongest records order not_before result) self.old self.new };

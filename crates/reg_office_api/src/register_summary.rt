@@ -24,7 +24,7 @@ pub struct TableSizes {
 }
 
 /// `requests`: how many requests the requests table has, open or not. `waiting`: how many of them are open and for one serial number, counted up to
-/// the caller's limit. `last` and `cap` are as in [`RegisterSummary`].
+/// the limit `most` of `Office::request_load`. `last` and `cap` are as in [`RegisterSummary`].
 #[derive(Clone, Copy, PartialEq, Eq)]
 pub struct RequestLoad {
     pub last: Moment,

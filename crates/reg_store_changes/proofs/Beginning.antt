@@ -62,25 +62,25 @@ on_any (Ok x) holds = tt
 on_any (Err e) holds = holds
 
 pub no_ok : {T E : Type 0} (X : Type 0) (r : Result T E) → IsErr r → OnOk r X
-no_ok X (Ok x) told = absurd (false≢true told)
-no_ok X (Err e) told = tt
+no_ok X (Ok x) failed = absurd (false≢true failed)
+no_ok X (Err e) failed = tt
 
 pub leaves_itself : (s : State) → LeavesNothing s s
 leaves_itself s = record { clean = omega arith; shield = λ shielded. shielded; counts = omega arith; limit = refl; closes = λ clean up. inl up; crash = λ clean trees may. inl may }
 
 -- a transaction that was under way before is none that begins
 pub not_begun : {S T E : Type 0} {g : Ghosts S} (h : Held S) (r : Result T E) → IsErr r → BeginsTransaction g h h r
-not_begun {g = g} h r told = record {
-  ok = λ clean. no_ok _ r told;
+not_begun {g = g} h r failed = record {
+  ok = λ clean. no_ok _ r failed;
   stays = on_any r (record { was_open = λ clean up. up; now = λ clean up. inl refl; committed = λ clean up. refl });
   survives = leaves_itself (state g h);
 }
 
 pub fails_to_begin : {S T E : Type 0} {g : Ghosts S} (old new : Held S) (r : Result T E) → IsErr r → (e : Error) → (HasCleanDisk (state g new) → Executes BEGIN.now [] (state g old) (state g new) (Err e))
     → Survives (state g old) (state g new) (CommitsBy BEGIN.now [] (state g old)) → BeginsTransaction g old new r
-fails_to_begin {g = g} old new r told e fails survives =
+fails_to_begin {g = g} old new r failed e fails survives =
     record {
-      ok = λ clean. no_ok _ r told;
+      ok = λ clean. no_ok _ r failed;
       stays = on_any r (stays_by (state g old) (state g new) (λ clean. failed_remains (state g old) (state g new) BEGIN.now [] e (fails clean)));
       survives = begun_survives (state g old) (state g new) survives;
     }

@@ -56,8 +56,8 @@ survives_commit old new under survives = survives_weaker old new (CommitsBy COMM
 
 -- a failure had ended the transaction
 pub none_committed : {S T E : Type 0} {g : Ghosts S} (h : Held S) (r : Result T E) → IsErr r → h.in_transaction ≡ false → (IsTrue (state g h).is_open → (state g h).now ≡ (state g h).committed) → CommitsWithin g h h r
-none_committed {g = g} h r told idle settled = record {
-  made = λ clean. no_ok _ r told;
+none_committed {g = g} h r failed idle settled = record {
+  made = λ clean. no_ok _ r failed;
   undone = λ clean. on_any r (none_undone (state g h) idle settled);
   survives = survives_weaker (state g h) (state g h) (λ _. ⊥) (λ trees. trees ≡ (state g h).now.trees) (λ clean db none. absurd none) (leaves_itself (state g h));
 }
@@ -73,10 +73,10 @@ is_committed {g = g} old new count under runs survives = record {
 pub fails_to_commit : {S T E : Type 0} {g : Ghosts S} (old mid new : Held S) (r : Result T E) → IsErr r → (e : Error) → (state g old).in_transaction ≡ true
     → (HasCleanDisk (state g mid) → Executes COMMIT.now [] (state g old) (state g mid) (Err e)) → Survives (state g old) (state g mid) (CommitsBy COMMIT.now [] (state g old)) → RollsBack g mid new
     → CommitsWithin g old new r
-fails_to_commit {g = g} old mid new r told e under fails survives rolls =
+fails_to_commit {g = g} old mid new r failed e under fails survives rolls =
     let remains : HasCleanDisk (state g new) → Remains (state g old) (state g mid) = λ clean. failed_remains (state g old) (state g mid) COMMIT.now [] e (fails (was_clean (state g mid) (state g new) rolls.survives.clean clean)) in
     record {
-      made = λ clean. no_ok _ r told;
+      made = λ clean. no_ok _ r failed;
       undone = λ clean. on_any r (record {
         idle = (rolls.undone clean).idle;
         was_open = λ up. remains_open (state g old) (state g mid) (remains clean) ((rolls.undone clean).was_open up);

@@ -63,32 +63,32 @@ keeps_days_then g a b c (Err e) first second = tt
 -- ---- a change that is not made
 
 pub not_made : {S A E : Type 0} {g : Ghosts S} {old new : Held S} {now : ℕ} {change : Change} (result : Result A E) → IsErr result → Looked g old new → MakesChange g old new now change result
-not_made result told looked = record {
-  ok = λ records kept sound up fits. on_err _ result told;
-  one = λ clean records columns both. on_err _ result told;
-  days = λ records kept sound fits. on_err _ result told;
-  changed = looked_fails result told looked;
+not_made result failed looked = record {
+  ok = λ records kept sound up fits. on_err _ result failed;
+  one = λ clean records columns both. on_err _ result failed;
+  days = λ records kept sound fits. on_err _ result failed;
+  changed = looked_fails result failed looked;
 }
 
 -- ---- a schedule or an issuer that is not set
 
-module _ {S A E : Type 0} {g : Ghosts S} {old new : Held S} (result : Result A E) (told : IsErr result) (stays : OnErr result (Stays (state g old) (state g new))) where
+module _ {S A E : Type 0} {g : Ghosts S} {old new : Held S} (result : Result A E) (failed : IsErr result) (stays : OnErr result (Stays (state g old) (state g new))) where
   unchanged : (Made : Trees → Type 0) → Survives (state g old) (state g new) Made → Changed g old new Made result
-  unchanged Made survives = record { live = λ clean. on_err _ result told; err = λ register. stays; survives = survives }
+  unchanged Made survives = record { live = λ clean. on_err _ result failed; err = λ register. stays; survives = survives }
 
   pub schedule_not_set : {steps : List (ℕ × ℕ)} → Survives (state g old) (state g new) (IsScheduled g old steps) → SetsSchedule g old new steps result
   schedule_not_set {steps = steps} survives = record {
-    ok = λ records kept. on_err _ result told;
-    shown = λ records shows. on_err _ result told;
-    days = λ records shows. on_err _ result told;
+    ok = λ records kept. on_err _ result failed;
+    shown = λ records shows. on_err _ result failed;
+    days = λ records shows. on_err _ result failed;
     changed = unchanged (IsScheduled g old steps) survives;
     err = stays;
   }
 
   pub issuer_not_set : {issuer : Issuer} → Survives (state g old) (state g new) (IsIssuerSet g old issuer) → SetsIssuer g old new issuer result
   issuer_not_set {issuer = issuer} survives = record {
-    ok = λ records kept key. on_err _ result told;
-    days = λ records kept key. on_err _ result told;
+    ok = λ records kept key. on_err _ result failed;
+    days = λ records kept key. on_err _ result failed;
     changed = unchanged (IsIssuerSet g old issuer) survives;
     err = stays;
   }

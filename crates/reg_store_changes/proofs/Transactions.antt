@@ -165,12 +165,12 @@ change_made {g = g} {old = old} {mid = mid} {entered = entered} {new = new} {now
     }
 
 pub not_begun_change : {S T E : Type 0} {g : Ghosts S} {old new : Held S} {now : ℕ} {change : Change} {A F : Type 0} {why : F} (result : Result T E) → IsErr result → BeginsTransaction {T = A} {E = F} g old new (Err why) → MakesChange g old new now change result
-not_begun_change {g = g} {old = old} {new = new} {now = now} {change = change} result told begins = record {
-  ok = λ records kept sound up fits. on_err _ result told;
-  one = λ clean records columns both. on_err _ result told;
-  days = λ records kept sound fits. on_err _ result told;
+not_begun_change {g = g} {old = old} {new = new} {now = now} {change = change} result failed begins = record {
+  ok = λ records kept sound up fits. on_err _ result failed;
+  one = λ clean records columns both. on_err _ result failed;
+  days = λ records kept sound fits. on_err _ result failed;
   changed = record {
-    live = λ clean. on_err _ result told;
+    live = λ clean. on_err _ result failed;
     err = λ register. err_more result begins.stays;
     survives = survives_weaker (state g old) (state g new) (λ _. ⊥) (IsChanged g old now change) (λ clean trees none. absurd none) begins.survives;
   };

@@ -61,15 +61,15 @@ module _ {S : Type 0} {g : Ghosts S} {old mid : Held S} (leaves : LeavesNothing 
         let is = found (Some version) records shows clean in
         on.kept records (subst (λ v. IsShownByOlder v before records) (sym is.0) shown) sound is.1 is.2
 
-    there : (version : OlderVersion) (records : Records) → ShowsOlder version g old records → ShowsOlder version g mid records
-    there version records = stays_holds g old mid (λ db. IsShownByOlder version db records) leaves.clean stays
+    older_stays : (version : OlderVersion) (records : Records) → ShowsOlder version g old records → ShowsOlder version g mid records
+    older_stays version records = stays_holds g old mid (λ db. IsShownByOlder version db records) leaves.clean stays
 
     -- a stop finds the older tables, or these made newer
     pub newer_survives : Survives (state g old) (state g new) (IsOpened g old)
     newer_survives = leaves_first (state g old) (state g mid) (state g new) (IsOpened g old) leaves (left done (IsOpened g old) (λ clean up after trees is on. (
       says clean,
       λ version records shows sound.
-          let made_so = made version records shows sound clean (state g mid).now after ((there version records shows).tables clean up) on in
+          let made_so = made version records shows sound clean (state g mid).now after ((older_stays version records shows).tables clean up) on in
           kept_rests after trees records is made_so.0 made_so.2,
     )))
 
@@ -82,10 +82,10 @@ module _ {S : Type 0} {g : Ghosts S} {old mid : Held S} (leaves : LeavesNothing 
       record {
         shows = λ records shows. any_shown g new (λ db. IsShownBy db records) (never records shows);
         kept = λ records kept. any_kept g new records (never records (kept_shows g old records kept));
-        migrated = λ version records shows sound. kept_whole g new records (turns done (λ db. IsShownByOlder version db records) (λ db. HasKept db records) (there older says found done version records shows)
+        migrated = λ version records shows sound. kept_whole g new records (turns done (λ db. IsShownByOlder version db records) (λ db. HasKept db records) (older_stays older says found done version records shows)
             (λ clean before after shown on. (made older says found done version records shows sound (was clean) before after shown on).0));
         days = λ records shows days has. any_days g new days (never records shows);
-        older_days = λ version records shows sound. turns done (λ db. IsShownByOlder version db records) (λ db. HasGreatestDays db records) (there older says found done version records shows)
+        older_days = λ version records shows sound. turns done (λ db. IsShownByOlder version db records) (λ db. HasGreatestDays db records) (older_stays older says found done version records shows)
             (λ clean before after shown on. (made older says found done version records shows sound (was clean) before after shown on).1);
         registers = register_by g new (turns done (λ db. db.schema ≡ older_schema older.version) (λ db. db.schema ≡ register_schema) schema (λ clean before after has on. on.schema has));
         said = λ clean. inr (says (was clean));

@@ -21,11 +21,11 @@ use Rattle.reg_store_opening.proofs.Determined.{same_steps}
 -- ---- a text that reads one table
 
 module _ (text : List ℕ) (names keys : List (List ℕ)) (db : Database) (means : (c : Compiled) → understood db.schema text ≡ Ok c → ReadsTable db.schema names keys c.command × (reads_listing db.schema text ≡ false)) where
-  here : (c : Compiled) → understood db.schema text ≡ Ok c → (source : Database) → IsSourceOf (reads_listing db.schema text) db source → source ≡ db
-  here c is source from = subst (λ b. IsSourceOf b db source) (means c is).1 from
+  is_db : (c : Compiled) → understood db.schema text ≡ Ok c → (source : Database) → IsSourceOf (reads_listing db.schema text) db source → source ≡ db
+  is_db c is source from = subst (λ b. IsSourceOf b db source) (means c is).1 from
 
   reads_of : (rows : List Row) (read : IsRead db text rows) → Reads read.compiled.command db [] rows
-  reads_of rows read = subst (λ d. Reads read.compiled.command d [] rows) (here read.compiled read.is read.source read.from) read.reads
+  reads_of rows read = subst (λ d. Reads read.compiled.command d [] rows) (is_db read.compiled read.is read.source read.from) read.reads
 
   reads_as : (rows others : List Row) (read : IsRead db text rows) (again : IsRead db text others) → Reads read.compiled.command db [] others
   reads_as rows others read again =
@@ -36,7 +36,7 @@ module _ (text : List ℕ) (names keys : List (List ℕ)) (db : Database) (means
   not_refused rows read (inl h) = absurd (let failed = sym h.1 ∙ read.is in cc)
   not_refused rows read (inr u) =
       let same : u.compiled ≡ read.compiled = ok_one u.compiled read.compiled (sym u.is ∙ read.is) in
-      let refuses = subst (λ d. RefusesToRead None u.compiled.command d [] u.error) (here u.compiled u.is u.source u.from) u.refuses in
+      let refuses = subst (λ d. RefusesToRead None u.compiled.command d [] u.error) (is_db u.compiled u.is u.source u.from) u.refuses in
       not_both db.schema names keys read.compiled.command (means read.compiled read.is).0 db rows u.error (reads_of rows read) (subst (λ (c : Compiled). RefusesToRead None c.command db [] u.error) same refuses)
 
   one_again : (P : Row → Type 0) (rows others : List Row) → IsRead db text rows → IsRead db text others → IsOne P rows → IsOne P others

@@ -107,8 +107,8 @@ module _ (version : OlderVersion) (db : Database) (records : Records) (shown : I
   )
 
   -- what is told of it are the days and the last accepted moment of the records
-  older_told : (days last : ℕ) → AreOlderOffice days last rows → (records.policy.schedule ≡ one_step days) × (records.last ≡ last)
-  older_told days last are =
+  older_found : (days last : ℕ) → AreOlderOffice days last rows → (records.policy.schedule ≡ one_step days) × (records.last ≡ last)
+  older_found days last are =
       let same : are.0 ≡ row = only_row rows are.0 row are.1 rows_are in
       let d : days ≡ shown.days = number_one days shown.days (sym are.2.0 ∙ ap (λ r. column r 6) same) in
       let l : last ≡ records.last = number_one last records.last (sym are.2.1 ∙ ap (λ r. column r 5) same) in
@@ -117,6 +117,6 @@ module _ (version : OlderVersion) (db : Database) (records : Records) (shown : I
   -- and they are refused as no register's where they are none
   pub older_judged : (r : Result (ℕ × ℕ) StoreFault) → MatchResult r (λ found. AreOlderOffice found.0 found.1 rows) (Refuses ((days last : ℕ) → AreOlderOffice days last rows → ⊥))
       → MatchResult r (λ found. (records.policy.schedule ≡ one_step found.0) × (records.last ≡ found.1)) (λ fault. InRange records → IsDatabaseFault fault)
-  older_judged (Ok found) are = older_told found.0 found.1 are
+  older_judged (Ok found) are = older_found found.0 found.1 are
   older_judged (Err f) (inl is) = λ within. inl is
   older_judged (Err f) (inr is) = λ within. absurd (is.1 shown.days records.last (older_office within))

@@ -80,11 +80,11 @@ hit_column schema name b found h = elim (cases_Bool (is_among name b.shared)) [
 
 only_column : (schema : Schema) (name : Name) (b : Bound) (found : Found) → only schema None name false (b ∷ []) ≡ Ok (Some found) → (at : ℕ) × (found ≡ Column b.slot b.table at)
 unfolding only
-only_column schema name b found h = one (hit schema None name false b) refl h
+only_column schema name b found h = only_hit (hit schema None name false b) refl h
   where
-    one : (k : Option Found) → hit schema None name false b ≡ k → and_then (Rattle.sqlite_resolve.specs.Scope.at_most_one None k) (λ f. Ok f) ≡ Ok (Some found) → (at : ℕ) × (found ≡ Column b.slot b.table at)
-    one (Some x) is h = hit_column schema name b found (is ∙ ok_one (Some x) (Some found) h)
-    one None is h = absurd (let none = ok_one None (Some found) h in cc)
+    only_hit : (k : Option Found) → hit schema None name false b ≡ k → and_then (Rattle.sqlite_resolve.specs.Scope.at_most_one None k) (λ f. Ok f) ≡ Ok (Some found) → (at : ℕ) × (found ≡ Column b.slot b.table at)
+    only_hit (Some x) is h = hit_column schema name b found (is ∙ ok_one (Some x) (Some found) h)
+    only_hit None is h = absurd (let none = ok_one None (Some found) h in cc)
 
 module _ (schema : Schema) (b : Bound) (shown : List Output) (aggregates : Bool) (name : Name) (plain : is_rowid name ≡ false) (unaliased : alias_of name shown ≡ None) where
   abbrev level : Level

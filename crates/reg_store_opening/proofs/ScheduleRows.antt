@@ -52,5 +52,5 @@ one_version rows a b one two = number_one a b (sym one.2 ∙ ap (λ r. column r 
 -- a moment that the clock lets pass, judged both ways
 pub last_judged : (row : Row) (at : ℕ) (found : Option ℕ) → ((n : ℕ) → column row at ≡ number n → MatchOption found (clock_end ≤ n) (λ read. read ≡ n)) → IfSome found (λ n. column row at ≡ number n) → IfSome found (λ n. n < clock_end)
     → MatchOption found ((last : ℕ) → (last < clock_end) × (column row at ≡ number last) → ⊥) (λ last. (last < clock_end) × (column row at ≡ number last))
-last_judged row at None read told early = λ last has. absurd (let late : clock_end ≤ last = read last has.1 in omega (arith, late, has.0))
-last_judged row at (Some n) read told early = (early, told)
+last_judged row at None read in_column early = λ last has. absurd (let late : clock_end ≤ last = read last has.1 in omega (arith, late, has.0))
+last_judged row at (Some n) read in_column early = (early, in_column)

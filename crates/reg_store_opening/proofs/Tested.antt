@@ -14,7 +14,7 @@ of_version None db records shown = register_of db records shown
 of_version (Some version) db records shown = older_of version db records shown
 
 -- they are shown as what was told, after what changes nothing
-pub shown_next : (old new : State) (told version : Option OlderVersion) (records : Records) → IsUnchanged old new → told ≡ version → WhileOpen old (λ db. IsShownAs version db records)
-    → WhileOpen new (λ db. IsShownAs told db records)
-shown_next old new told version records same is before up =
+pub shown_next : (old new : State) (stored version : Option OlderVersion) (records : Records) → IsUnchanged old new → stored ≡ version → WhileOpen old (λ db. IsShownAs version db records)
+    → WhileOpen new (λ db. IsShownAs stored db records)
+shown_next old new stored version records same is before up =
     subst (λ v. IsShownAs v new.now records) (sym is) (unchanged_before old new (λ db. IsShownAs version db records) same before up)

@@ -49,7 +49,7 @@ fn check_version<S: Alter>(tx: &mut Transaction<'_, S>) -> Result<Option<OlderVe
 }
 
 fn check_office<S: Alter>(tx: &mut Transaction<'_, S>) -> Result<(), StoreFault>
-    ensures told { ReportsState S.Store tx.old.conn.now tx.new.conn.now result (λ _ db. HasOfficeRow db) }
+    ensures reported { ReportsState S.Store tx.old.conn.now tx.new.conn.now result (λ _ db. HasOfficeRow db) }
     ensures none { ReportsNone S.Store tx.old.conn.now tx.new.conn.now result HasNoOfficeRow }
     ensures shown { Finds S.Store tx.old.conn.now tx.new.conn.now result IsShownBy (λ _ _. Unit {0}) }
     ensures stepped { Stepped S.Store tx.old tx.new }
@@ -61,7 +61,7 @@ fn check_office<S: Alter>(tx: &mut Transaction<'_, S>) -> Result<(), StoreFault>
 }
 
 fn check_older_office<S: Alter>(tx: &mut Transaction<'_, S>) -> Result<(u64, Moment), StoreFault>
-    ensures told { ReportsState S.Store tx.old.conn.now tx.new.conn.now result
+    ensures reported { ReportsState S.Store tx.old.conn.now tx.new.conn.now result
         (λ found db. ReadsOlder db found.0 found.1) }
     ensures none { ReportsNone S.Store tx.old.conn.now tx.new.conn.now result HasNoOlderOffice }
     ensures shown { (version : OlderVersion)
@@ -75,7 +75,7 @@ fn check_older_office<S: Alter>(tx: &mut Transaction<'_, S>) -> Result<(u64, Mom
 }
 
 fn check_rows<S: Alter>(tx: &mut Transaction<'_, S>) -> Result<Option<OlderOffice>, StoreFault>
-    ensures told { ReportsState S.Store tx.old.conn.now tx.new.conn.now result
+    ensures reported { ReportsState S.Store tx.old.conn.now tx.new.conn.now result
         (λ found db. HasVersionAndOffice db found) }
     ensures newer { ReportsNewer S.Store tx.old.conn.now tx.new.conn.now result }
     ensures none { ReportsNone S.Store tx.old.conn.now tx.new.conn.now result HasNoRegister }

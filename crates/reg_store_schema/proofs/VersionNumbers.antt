@@ -19,13 +19,13 @@ of_its_tables Third = refl
 one_version : (a b : Version) → version_schema a ≡ version_schema b → a ≡ b
 one_version a b is = sym (of_its_tables a) ∙ ap (λ (s : Schema). of_tables (length s.tables)) is ∙ of_its_tables b
 
-abbrev told : Version → Option Version
-told version = Some version
+abbrev some_version : Version → Option Version
+some_version version = Some version
 
-same_told : (a b : Version) → told a ≡ told b → a ≡ b
-same_told a b is = cc
+same_version : (a b : Version) → some_version a ≡ some_version b → a ≡ b
+same_version a b is = cc
 
 pub version_is : (schema : Schema) (at : Version) → schema ≡ version_schema at
-    → (version : Version) → (told at ≡ Some version) ↔ (schema ≡ version_schema version)
+    → (version : Version) → (some_version at ≡ Some version) ↔ (schema ≡ version_schema version)
 version_is schema at is version =
-    (λ same. is ∙ ap version_schema (same_told at version same), λ other. ap told (one_version at version (sym is ∙ other)))
+    (λ same. is ∙ ap version_schema (same_version at version same), λ other. ap some_version (one_version at version (sym is ∙ other)))

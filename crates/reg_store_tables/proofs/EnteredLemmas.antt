@@ -289,10 +289,10 @@ pub up_to_shown : (db : Database) (records : Records) → IsShownBy db records �
 up_to_shown db records shown last rows reads few =
     let params = number last ∷ [] in
     let keep = is_declined_up_to last in
-    let told = counted 7 up_to_terms (codes "count(*)" ∷ []) db params rows refl (subst (λ c. Reads c db params rows) up_to_text.means reads) in
+    let count_is = counted 7 up_to_terms (codes "count(*)" ∷ []) db params rows refl (subst (λ c. Reads c db params rows) up_to_text.means reads) in
     let passed = λ (row : RequestRow). passes up_to_terms params (stored_request row) in
     let size : length (filter (passes up_to_terms params) (db.trees 7)) ≡ length (filter keep records.requests) =
     ap (λ t. length (filter (passes up_to_terms params) t)) shown.rows.requests ∙ ap length (filter-map (passes up_to_terms params) stored_request records.requests)
     ∙ mapped stored_request (filter passed records.requests) ∙ (λ i. length (filter (λ row. up_to_test row last i) records.requests)) in
     let most = at_most_all keep records.requests in
-    told ∙ ap (λ n. (count n ∷ []) ∷ []) size ∙ ap (λ n. (number n ∷ []) ∷ []) (min_is (length (filter keep records.requests)) 9223372036854775807 (omega arith))
+    count_is ∙ ap (λ n. (count n ∷ []) ∷ []) size ∙ ap (λ n. (number n ∷ []) ∷ []) (min_is (length (filter keep records.requests)) 9223372036854775807 (omega arith))

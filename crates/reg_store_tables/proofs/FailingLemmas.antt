@@ -182,13 +182,13 @@ failed_then {g = g} {a = a} {b = b} {c = c} first second clean (inr (inr limited
 
 -- out of memory is no failure of the store
 pub memory_alone : {T : Type 0} (H : Type 0) (r : Result T DatabaseFault) → IfErr r (λ fault. fault ≡ call.Memory) → IfErr r (λ fault. fault ≡ Store → H)
-memory_alone H (Ok x) told = tt
-memory_alone H (Err fault) told = λ store. absurd (let no : call.Memory ≡ Store = sym told ∙ store in cc)
+memory_alone H (Ok x) failed = tt
+memory_alone H (Err fault) failed = λ store. absurd (let no : call.Memory ≡ Store = sym failed ∙ store in cc)
 
 -- what is told of rows that are many is told of none that are few
 pub few_never : {T E : Type 0} (P : Type 0) (R : E → Type 0) (r : Result T E) → OnErr r P → (P → ⊥) → IfErr r R
-few_never P R (Ok x) told never = tt
-few_never P R (Err e) told never = absurd (never told)
+few_never P R (Ok x) failed never = tt
+few_never P R (Err e) failed never = absurd (never failed)
 
 -- the one row that is wanted
 pub the_row : {A : Type 0} (P : A → Type 0) (view : A → Row) (it : A) (rows : List Row) → P it → rows ≡ view it ∷ [] → IsRowOf P view rows (Some it) × (length rows ≤ 1)

@@ -25,12 +25,12 @@ was_clean old new forgets clean = omega arith
 
 later_failure : {C T : Type 0} {g : Ghosts C} {a b c : Held C} (result : Result T DatabaseFault) → Looked g a b → Looked g b c → HasCleanDisk (state g c)
     → IfErr result (λ fault. fault ≡ Store → HasFailed (state g b) (state g c)) → IfErr result (λ fault. fault ≡ Store → HasFailed (state g a) (state g c))
-later_failure (Ok x) first second clean told = tt
-later_failure (Err fault) first second clean told = λ store. failed_then first second clean (told store)
+later_failure (Ok x) first second clean is_err = tt
+later_failure (Err fault) first second clean is_err = λ store. failed_then first second clean (is_err store)
 
 no_failure : {T : Type 0} (H : Type 0) (result : Result T DatabaseFault) → IfErr result (λ fault. fault ≡ Store → ⊥) → IfErr result (λ fault. fault ≡ Store → H)
-no_failure H (Ok x) told = tt
-no_failure H (Err fault) told = λ store. absurd (told store)
+no_failure H (Ok x) is_err = tt
+no_failure H (Err fault) is_err = λ store. absurd (is_err store)
 
 -- ---- by one statement
 
@@ -99,12 +99,12 @@ looked_none = record {
 
 -- an error gives nothing
 pub gives_none : {T E : Type 0} (P : T → Type 0) (outcome : Result T E) → IsErr outcome → IfOk outcome P
-gives_none P (Ok x) told = absurd (let bad : ⊥ = cc in bad)
-gives_none P (Err e) told = tt
+gives_none P (Ok x) is_err = absurd (let bad : ⊥ = cc in bad)
+gives_none P (Err e) is_err = tt
 
 pub on_err : {T E : Type 0} (P : Type 0) (outcome : Result T E) → IsErr outcome → OnOk outcome P
-on_err P (Ok x) told = absurd (let bad : ⊥ = cc in bad)
-on_err P (Err e) told = tt
+on_err P (Ok x) is_err = absurd (let bad : ⊥ = cc in bad)
+on_err P (Err e) is_err = tt
 
 -- what a result gives for each of a kind
 pub ok_for : {T E K : Type 0} {H : K → Type 0} (Q : K → T → Type 0) (r : Result T E) → ((k : K) → H k → IfOk r (Q k)) → IfOk r (λ x. (k : K) → H k → Q k x)
@@ -117,29 +117,29 @@ on_ok (Ok x) holds = holds
 on_ok (Err e) holds = tt
 
 -- a fault that is passed on
-same_failure : {T : Type 0} {H : Type 0} (result : Result T DatabaseFault) (fault : DatabaseFault) → IsErrAnd result (λ told. told ≡ fault) → (fault ≡ Store → H) → IfErr result (λ told. told ≡ Store → H)
-same_failure (Ok x) fault told failed = tt
-same_failure (Err same) fault told failed = λ store. failed (sym told ∙ store)
+same_failure : {T : Type 0} {H : Type 0} (result : Result T DatabaseFault) (fault : DatabaseFault) → IsErrAnd result (λ error. error ≡ fault) → (fault ≡ Store → H) → IfErr result (λ error. error ≡ Store → H)
+same_failure (Ok x) fault is_err failed = tt
+same_failure (Err same) fault is_err failed = λ store. failed (sym is_err ∙ store)
 
-pub not_store : {T : Type 0} (fault : DatabaseFault) (result : Result T DatabaseFault) → IsErrAnd result (λ told. told ≡ fault) → (fault ≡ Store → ⊥) → IfErr result (λ told. told ≡ Store → ⊥)
-not_store fault result told never = same_failure result fault told never
+pub not_store : {T : Type 0} (fault : DatabaseFault) (result : Result T DatabaseFault) → IsErrAnd result (λ error. error ≡ fault) → (fault ≡ Store → ⊥) → IfErr result (λ error. error ≡ Store → ⊥)
+not_store fault result is_err never = same_failure result fault is_err never
 
-no_result : {T : Type 0} (P : T → Type 0) (result : Result T DatabaseFault) (fault : DatabaseFault) → IsErrAnd result (λ told. told ≡ fault) → IfOk result P
-no_result P (Ok x) fault told = absurd told
-no_result P (Err same) fault told = tt
+no_result : {T : Type 0} (P : T → Type 0) (result : Result T DatabaseFault) (fault : DatabaseFault) → IsErrAnd result (λ error. error ≡ fault) → IfOk result P
+no_result P (Ok x) fault is_err = absurd is_err
+no_result P (Err same) fault is_err = tt
 
-none_live : {T : Type 0} (P : Type 0) (result : Result T DatabaseFault) (fault : DatabaseFault) → IsErrAnd result (λ told. told ≡ fault) → OnOk result P
-none_live P (Ok x) fault told = absurd told
-none_live P (Err same) fault told = tt
+none_live : {T : Type 0} (P : Type 0) (result : Result T DatabaseFault) (fault : DatabaseFault) → IsErrAnd result (λ error. error ≡ fault) → OnOk result P
+none_live P (Ok x) fault is_err = absurd is_err
+none_live P (Err same) fault is_err = tt
 
-module _ {C T U : Type 0} {g : Ghosts C} {a b : Held C} (fault : DatabaseFault) (result : Result T DatabaseFault) (told : IsErrAnd result (λ told. told ≡ fault)) where
+module _ {C T U : Type 0} {g : Ghosts C} {a b : Held C} (fault : DatabaseFault) (result : Result T DatabaseFault) (is_err : IsErrAnd result (λ error. error ≡ fault)) where
   -- a look-up that fails is told so, whatever was wanted of it
   pub passed_on : {May Might : Records → Type 0} {IsSo : Records → T → Type 0} {WasSo : Records → U → Type 0} → ((records : Records) → ShowsWritten g a records → May records → Might records)
       → FindsIf Might g a b (Err fault) WasSo → FindsIf May g a b result IsSo
   passed_on might finds = record {
     looked = finds.looked;
-    found = λ records shows clean. no_result _ result fault told;
-    fails = λ records may written clean. same_failure result fault told (finds.fails records (might records written may) written clean);
+    found = λ records shows clean. no_result _ result fault is_err;
+    fails = λ records may written clean. same_failure result fault is_err (finds.fails records (might records written may) written clean);
   }
 
   -- and so is a statement
@@ -147,37 +147,37 @@ module _ {C T U : Type 0} {g : Ghosts C} {a b : Held C} (fault : DatabaseFault) 
       → Queries g a b text params (Err fault) rows → ReadsBy g a b text params result view Shown ShownWell
   unread asked = record {
     looked = asked.looked;
-    live = λ register clean. none_live _ result fault told;
-    found = λ wanted register clean shows. no_result _ result fault told;
-    fails = λ wanted may register shows clean. same_failure result fault told (asked.fails may register clean);
+    live = λ register clean. none_live _ result fault is_err;
+    found = λ wanted register clean shows. no_result _ result fault is_err;
+    fails = λ wanted may register shows clean. same_failure result fault is_err (asked.fails may register clean);
   }
 
 -- and a query
-pub unasked : {C T U : Type 0} {g : Ghosts C} {a b : Held C} {text : List ℕ} {given params : Row} {rows : U → List Row} {May : Records → Type 0} {IsSo : Records → T → Type 0} (fault : DatabaseFault) (result : Result T DatabaseFault) → IsErrAnd result (λ told. told ≡ fault)
+pub unasked : {C T U : Type 0} {g : Ghosts C} {a b : Held C} {text : List ℕ} {given params : Row} {rows : U → List Row} {May : Records → Type 0} {IsSo : Records → T → Type 0} (fault : DatabaseFault) (result : Result T DatabaseFault) → IsErrAnd result (λ error. error ≡ fault)
     → Queries g a b text given (Err fault) rows → given ≡ params → FailsOnlyByLimit text params → FindsIf May g a b result IsSo
-unasked {g = g} {a = a} {text = text} fault result told asked is may_ask = record {
+unasked {g = g} {a = a} {text = text} fault result is_err asked is may_ask = record {
   looked = asked.looked;
-  found = λ records shows clean. no_result _ result fault told;
-  fails = λ records may written clean. same_failure result fault told (asked.fails (subst (λ (p : Row). FailsOnlyByLimit text p) (sym is) may_ask) (written_register g a records written).now clean);
+  found = λ records shows clean. no_result _ result fault is_err;
+  fails = λ records may written clean. same_failure result fault is_err (asked.fails (subst (λ (p : Row). FailsOnlyByLimit text p) (sym is) may_ask) (written_register g a records written).now clean);
 }
 
 -- and one that is to show a row, where it shows one at most
-pub unread_row : {C R : Type 0} {g : Ghosts C} {a b : Held C} {text : List ℕ} {params : Row} {P W : R → Type 0} {view : R → Row} (fault : DatabaseFault) (result : Result R DatabaseFault) → IsErrAnd result (λ told. told ≡ fault)
+pub unread_row : {C R : Type 0} {g : Ghosts C} {a b : Held C} {text : List ℕ} {params : Row} {P W : R → Type 0} {view : R → Row} (fault : DatabaseFault) (result : Result R DatabaseFault) → IsErrAnd result (λ error. error ≡ fault)
     → ReadsRow P W view g a b text params (Err fault) → ReadsOne P W view g a b text params result
-unread_row {P = P} {W = W} {view = view} fault result told asked = record {
+unread_row {P = P} {W = W} {view = view} fault result is_err asked = record {
   looked = asked.looked;
-  live = λ register clean. none_live _ result fault told;
-  found = λ wanted register clean shows. no_result _ result fault told;
+  live = λ register clean. none_live _ result fault is_err;
+  found = λ wanted register clean shows. no_result _ result fault is_err;
   fails = λ wanted may register shows clean.
-      same_failure result fault told (asked.fails (Some wanted) may register (λ rows answers. let it = shows rows answers in the_row (λ r. P r × W r) view wanted rows it.0 it.1) clean);
+      same_failure result fault is_err (asked.fails (Some wanted) may register (λ rows answers. let it = shows rows answers in the_row (λ r. P r × W r) view wanted rows it.0 it.1) clean);
 }
 
 -- nothing may be asked
 pub not_asked : {C T : Type 0} {g : Ghosts C} {a : Held C} {May : Records → Type 0} {IsSo : Records → T → Type 0} (result : Result T DatabaseFault) → IsErr result
     → ((records : Records) → May records → ⊥) → FindsIf May g a a result IsSo
-not_asked result told never = record {
+not_asked result is_err never = record {
   looked = looked_none;
-  found = λ records shows clean. gives_none _ result told;
+  found = λ records shows clean. gives_none _ result is_err;
   fails = λ records may written clean. absurd (never records may);
 }
 
@@ -248,9 +248,9 @@ finds_pair first second = finds_next first second (λ records shows was so. (was
 -- what was found can't be so
 pub unfound : {C T U : Type 0} {g : Ghosts C} {a b : Held C} {x : T} {May Might : Records → Type 0} {WasSo : Records → T → Type 0} {IsSo : Records → U → Type 0} (result : Result U DatabaseFault) → IsErr result → FindsIf Might g a b (Ok x) WasSo
     → ((records : Records) → May records → ShowsWritten g a records → WasSo records x → ⊥) → FindsIf May g a b result IsSo
-unfound {g = g} {a = a} {b = b} result told finds never = record {
+unfound {g = g} {a = a} {b = b} result is_err finds never = record {
   looked = finds.looked;
-  found = λ records shows clean. gives_none _ result told;
+  found = λ records shows clean. gives_none _ result is_err;
   fails = λ records may written clean. absurd (never records may written (finds.found records (shows_until b (written_shows g a records written)) clean));
 }
 

@@ -44,8 +44,8 @@ pub under_way : {a b : State} {P : Database → Type 0} → Moves a b P → IsUn
 under_way moved = (moved.is_open, moved.under_way)
 
 -- no step is made
-pub here : {a : State} {P : Database → Type 0} → IsUnderWay a → P a.now → Moves a a P
-here under holds = record { was_open = under.0; is_open = under.0; committed = refl; under_way = under.1; tables = holds }
+pub moves_in_place : {a : State} {P : Database → Type 0} → IsUnderWay a → P a.now → Moves a a P
+moves_in_place under holds = record { was_open = under.0; is_open = under.0; committed = refl; under_way = under.1; tables = holds }
 
 -- steps of which there may be none, in a transaction that is under way
 pub may_move : {T E : Type 0} (a b : State) (P : Database → Type 0) (r : Result T E) → IsUnderWay a → IfOk r (λ _. MayMove a b P) → IfOk r (λ _. Moves a b P)

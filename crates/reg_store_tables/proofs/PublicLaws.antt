@@ -14,7 +14,7 @@ pub use Rattle.reg_store_tables.proofs.Letters.{counts_stand, found_each, map_sa
 pub use Rattle.reg_store_tables.proofs.LookingUp.{on_err}
 pub use Rattle.reg_store_tables.proofs.Meaning.{IsWriting, deletes, inserts, set_counts_means, updates}
 pub use Rattle.reg_store_tables.proofs.Stages.{sets_counts}
-pub use Rattle.reg_store_tables.proofs.Moving.{asked_moves, here, leading, may_move, moves, moves_as, moves_on, ok_if, stays_here, stepped_clean, then_moves, unchanged_before, under_way, was_clean as moving-was_clean}
+pub use Rattle.reg_store_tables.proofs.Moving.{asked_moves, moves_in_place, leading, may_move, moves, moves_as, moves_on, ok_if, stays_here, stepped_clean, then_moves, unchanged_before, under_way, was_clean as moving-was_clean}
 pub use Rattle.reg_store_tables.proofs.OverdueLemmas.{not_good}
 pub use Rattle.reg_store_tables.proofs.PageLemmas.{crl_out}
 pub use Rattle.reg_store_tables.proofs.Params.{moment_is, number_is, ok_then as params-ok_then}
@@ -90,11 +90,11 @@ module _ {C : Type 0} {g : Ghosts C} {a b : Held C} where
   by_finding_sound {result = result} finds = record { looked = finds.looked; found = λ records kept sound clean. ok_then result (finds.found records (kept_shows_until g a b records kept) clean) (λ found so. so sound) }
 
   -- what holds anyway
-  pub by_none : {Tells : Records → Type 0} → Looked g a b → ((records : Records) → Tells records) → LooksUp g a b Tells
+  pub by_none : {IsSo : Records → Type 0} → Looked g a b → ((records : Records) → IsSo records) → LooksUp g a b IsSo
   by_none looked holds = record { looked = looked; found = λ records kept sound clean. holds records }
 
   -- what follows from what was told
-  pub so : {Tells More : Records → Type 0} → LooksUp g a b Tells → ((records : Records) → SoundRows records → Tells records → More records) → LooksUp g a b More
+  pub so : {IsSo More : Records → Type 0} → LooksUp g a b IsSo → ((records : Records) → SoundRows records → IsSo records → More records) → LooksUp g a b More
   so looks more = record { looked = looks.looked; found = λ records kept sound clean. more records sound (looks.found records kept sound clean) }
 
   -- one look-up after another
@@ -109,4 +109,4 @@ module _ {C : Type 0} {g : Ghosts C} {a b : Held C} where
 
   -- a look-up that fails tells nothing of the records
   pub not_found : {T E : Type 0} (P : Records → T → Type 0) (outcome : Result T E) → IsErr outcome → Looked g a b → LooksUp g a b (λ records. IfOk outcome (P records))
-  not_found P outcome told looked = by_none looked (λ records. gives_none (P records) outcome told)
+  not_found P outcome failed looked = by_none looked (λ records. gives_none (P records) outcome failed)

@@ -14,7 +14,7 @@ serial_read serial None bytes in_range is found = absurd (found serial in_range 
 serial_read serial (Some n) bytes in_range is found = ap Some (serial_injective n serial found.0 in_range (sym found.1 ∙ is))
 
 -- a serial number that is found in a column has the bytes there
-pub serial_told : (read : Option ℕ) (bytes : List ℕ) (value : Value) → value ≡ Blob bytes
+pub serial_in_column : (read : Option ℕ) (bytes : List ℕ) (value : Value) → value ≡ Blob bytes
     → MatchOption read ((n : ℕ) → IsSerial n → bytes ≢ serial_bytes n) (λ n. IsSerial n × (bytes ≡ serial_bytes n)) → IfSome read (λ serial. IsSerial serial × (value ≡ serial_value serial))
-serial_told None bytes value is found = tt
-serial_told (Some n) bytes value is found = (found.0, is ∙ ap Blob found.1)
+serial_in_column None bytes value is found = tt
+serial_in_column (Some n) bytes value is found = (found.0, is ∙ ap Blob found.1)

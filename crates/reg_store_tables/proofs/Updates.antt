@@ -131,8 +131,8 @@ module _ (p : Row → Bool) (f : Row → Row) (rows to : List Row) (table : IsTa
   keeps_each [] all = tt
   keeps_each (r ∷ those) all = (elim (p r) as (λ b. rowid (cond b (f r) r) ≡ rowid r) [ true ↦ all.0 | false ↦ refl ], keeps_each those all.1)
 
-  there : (x : Row) → Has (put_all (without_all rows (ids_of to)) (map f to)) x → Has (map g rows) x
-  there x h = elim (put_all_has (map f to) (without_all rows (ids_of to)) x h) [
+  put_has : (x : Row) → Has (put_all (without_all rows (ids_of to)) (map f to)) x → Has (map g rows) x
+  put_has x h = elim (put_all_has (map f to) (without_all rows (ids_of to)) x h) [
     | inl new ↦
         let t = has_mapped f to x new in
         let was = in_to t.0 t.1 in
@@ -155,7 +155,7 @@ module _ (p : Row → Bool) (f : Row → Row) (rows to : List Row) (table : IsTa
       ]
 
   pub rows_turned : put_all (without_all rows (ids_of to)) (map f to) ≡ map g rows
-  rows_turned = same_rows _ _ (put_all_table (map f to) _ (without_all_table (ids_of to) rows table)) (turned_table g rows (keeps_each rows keeps) table) there back
+  rows_turned = same_rows _ _ (put_all_table (map f to) _ (without_all_table (ids_of to) rows table)) (turned_table g rows (keeps_each rows keeps) table) put_has back
 
 -- ---- the tables of a register
 

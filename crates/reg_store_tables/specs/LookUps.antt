@@ -75,11 +75,11 @@ Finds g old new result IsSo = FindsIf (λ records. Unit {0}) g old new result Is
 
 -- ---- look-ups, one after another
 
--- The look-ups change nothing. If the tables show sound records, with derived tables that match them, `Tells` holds of the records.
-pub record LooksUp {C : Type 0} (g : Ghosts C) (old new : Held C) (Tells : Records → Type 0) : Type 0 where
+-- The look-ups change nothing. If the tables show sound records, with derived tables that match them, `IsSo` holds of the records.
+pub record LooksUp {C : Type 0} (g : Ghosts C) (old new : Held C) (IsSo : Records → Type 0) : Type 0 where
   pub looked : Looked g old new
   pub found : (records : Records) → ShowsKeptUntil g old new records → SoundRows records
-      → HasCleanDisk (state g new) → Tells records
+      → HasCleanDisk (state g new) → IsSo records
 
 -- `LooksUp`: if the look-ups succeed, `IsSo` holds of the records and of the result
 abbrev pub Learns : {C T E : Type 0} → Ghosts C → Held C → Held C → Result T E

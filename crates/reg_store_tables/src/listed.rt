@@ -50,7 +50,7 @@ fn entries_of(rows: &Vec<Row>) -> Result<Vec<Entry>, DatabaseFault>
 }
 
 impl<S: Alter> Tables<S> {
-    /// The entries of an issued CRL or the next one, sorted by serial number. `Store` if over 1,000,000, or for a CRL number above 2^63 - 1.
+    /// The entries of CRL `number` (issued, or the next one), sorted by serial number. `Store` if over 1,000,000, or if `number` is above 2^63 - 1.
     pub fn entries(&mut self, number: u64) -> Result<Vec<Entry>, DatabaseFault>
         ensures finds { FindsIf (λ _. number < 2 ^ 63) S.Store self.old self.new result (λ records found.
             ShowsKeptNow (state S.Store self.old) records → found.items ≡ entries records number) }
@@ -62,7 +62,7 @@ impl<S: Alter> Tables<S> {
         entries_of(&found)
     }
 
-    /// The numbers of the first CRL that lists a serial number, issued or not, and of the last one, if issued. `None` if it is not revoked.
+    /// For a revoked serial number: the number of the first CRL that lists it (issued or not yet), and of the last one, once issued. Else `None`.
     pub fn listing(&mut self, serial: Serial) -> Result<Option<Listing>, DatabaseFault>
         ensures { Finds S.Store self.old self.new result (λ records found.
             ShowsKeptNow (state S.Store self.old) records → found ≡ listing records serial) }

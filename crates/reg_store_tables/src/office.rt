@@ -11,7 +11,7 @@ ghost use Rattle.reg_store_tables.specs.ShownRows.{shown_ocsp_head};
 
 use crate::fault::DatabaseFault;
 use crate::read_statements::{look_up_all, look_up_one, only, read};
-use crate::rows::{ClockMoment, Step, Terms};
+use crate::rows::{ClockMoment, LivesAndCap, Step};
 use crate::sql::{ISSUER, LAST, OCSP_HEAD, STEPS, TERMS};
 use crate::sql_values::{bytes_at, clock_moment_at, life_at};
 use crate::tables::Tables;
@@ -112,7 +112,7 @@ fn lives_and_cap<S: Alter>(conn: &mut Connection<S>) -> Result<(u64, u64, u64), 
         (terms.0 ≡ records.policy.crl_life) × (terms.1 ≡ records.policy.ocsp_life)
         × (terms.2 ≡ records.policy.cap)) }
 {
-    look_up_one::<S, Terms>(conn, TERMS, &[])
+    look_up_one::<S, LivesAndCap>(conn, TERMS, &[])
 }
 
 fn schedule<S: Alter>(conn: &mut Connection<S>) -> Result<Schedule, DatabaseFault>

@@ -1,4 +1,4 @@
-//! Look-ups of pages: at most `most` rows, past the key `after`, in the order of keys. A number above 2^63 - 1 gives `DatabaseFault::Store`.
+//! Look-ups of pages: at most `most` rows, whose keys are above `after`, in the order of keys. A number above 2^63 - 1 gives `DatabaseFault::Store`.
 
 ghost use Rattle.std.specs.Prelude.{◌≡◌, ◌<◌, ◌^◌, map, take};
 ghost use Rattle.reg_core.specs.Crls.{row_of};

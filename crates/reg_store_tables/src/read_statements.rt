@@ -1,4 +1,4 @@
-//! Runs SQL statements that only read. The type `T` is a kind of row, and says how to read it. `Store` if rows are too many or not a register's.
+//! Runs SQL statements that only read. `T`, a kind of row, says how to read one. `Store` if the number of rows is wrong, or a row isn't a register's.
 
 ghost use Rattle.std.specs.Prelude.{◌≡◌, ◌≢◌, ◌≤◌, ◌<◌, ◌^◌, ℕ, false, List, [], ◌∷◌, length, IfOk, OnErr, MatchOption};
 ghost use Rattle.sqlite_value.specs.Order.{Row as Values};

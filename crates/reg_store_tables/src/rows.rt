@@ -40,7 +40,7 @@ pub trait RowKind {
             → IfSome result (λ read. read ≡ it) }
         ensures has { (it : Self.Record) → has_valid_serial it → has_values it → row.now ≡ shown it
             → IsSome result }
-        ensures told { IfSome result (λ it. has_valid_serial it × HasCells 0 row.now (shown it)) };
+        ensures in_columns { IfSome result (λ it. has_valid_serial it × HasCells 0 row.now (shown it)) };
 }
 
 impl RowKind for SubscriberRow {
@@ -297,9 +297,9 @@ impl RowKind for ClockMoment {
 }
 
 /// A row of the lives of CRLs and of OCSP responses (thisUpdate to nextUpdate, in seconds), and the cap (the most rows that a table may have).
-pub(crate) struct Terms;
+pub(crate) struct LivesAndCap;
 
-impl RowKind for Terms {
+impl RowKind for LivesAndCap {
     ghost use Rattle.reg_store_tables.specs.ShownRows.{shown_terms};
 
     type Record = (u64, u64, u64);

@@ -24,7 +24,7 @@ fn put_schedule_step<S: Alter>(
     Ok(())
 }
 
-/// Inserts ascending steps into the empty table `longest`. Errors: `Memory`; `Store` if the database fails or refuses a row, or above 2^63 - 1 days.
+/// Inserts ascending steps in the empty table `longest`. Errors: `Memory`; `Store` if the database fails or refuses a row, or for over 2^63 - 1 days.
 pub fn put_schedule_steps<S: Alter>(
     tx: &mut Transaction<'_, S>,
     steps: &[(Moment, u64)],

@@ -1,8 +1,8 @@
 //! The SQL statements that create a register's tables and indexes, in this order. All tables are STRICT. A moment is in whole seconds since
 //! 1970-01-01T00:00:00Z. A serial number is 20 bytes, big-endian, so that SQL sorts it by its value.
 
-/// One row: the version, the issuer (`name`, `pubkey`: docs/RULES.md, "The tables of a file"), the policy except its schedule, and the last accepted
-/// moment. The lives are seconds to nextUpdate; `cap`: the most rows of a table; `days`: the longest validity at creation (now only audits read it).
+/// One row: the version, the issuer (`name`, `pubkey`: docs/RULES.md, "The tables of a file"), limits of the policy, and the last accepted moment.
+/// Lives are in seconds, up to nextUpdate. `cap`: the most rows of a table. `days`: the longest validity at creation (now only audits read it).
 pub const OFFICE: &str =
     "CREATE TABLE office (one INTEGER PRIMARY KEY CHECK (one = 1), version INTEGER NOT NULL, name BLOB NOT NULL, pubkey BLOB NOT NULL, days INTEGER NOT NULL, crl_life INTEGER NOT NULL, ocsp_life INTEGER NOT NULL, cap INTEGER NOT NULL, last_at INTEGER NOT NULL) STRICT";
 
@@ -21,7 +21,7 @@ pub const CERT: &str =
 pub const REQUEST: &str =
     "CREATE TABLE request (id INTEGER PRIMARY KEY, serial BLOB NOT NULL REFERENCES cert (serial), ground INTEGER NOT NULL, received INTEGER NOT NULL, declined INTEGER NOT NULL) STRICT";
 
-/// The revocations: their moment (`at`), reasonCode (RFC 5280 5.3.1), request, and the number of the first CRL that lists them (`first_crl`).
+/// The revocations. Each has its moment (`at`), reasonCode (RFC 5280 5.3.1), request, and the number of the first CRL that lists it (`first_crl`).
 pub const REVOCATION: &str =
     "CREATE TABLE revocation (serial BLOB NOT NULL PRIMARY KEY REFERENCES cert (serial), at INTEGER NOT NULL, reason INTEGER NOT NULL, request INTEGER NOT NULL UNIQUE REFERENCES request (id), first_crl INTEGER NOT NULL) STRICT";
 

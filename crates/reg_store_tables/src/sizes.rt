@@ -54,7 +54,7 @@ pub(crate) fn held<S: Alter>(conn: &mut Connection<S>, table: Table) -> Result<u
     Ok(last.unwrap_or(0))
 }
 
-/// A look-up by a number above 2^63 - 1: `None`. The call reads the last row, to report a failed database and to prove that no row has the number.
+/// `None` for a number above 2^63 - 1. The call reads the last row: its number proves that no row has one so high, and a failed read is an error.
 pub(crate) fn none_above_range<S: Alter, T>(
     conn: &mut Connection<S>,
     table: Table,

@@ -1,5 +1,5 @@
 //! Converts numbers to SQL INTEGERs, and reads column `at` of a row, counted from 0, as a value of the register; `None` for a column of another type
-//! or with an invalid value. Clause `read`: a value that a register writes is read back. Clause `told`: the column has the value that is read.
+//! or with an invalid value. Clause `read`: a value that a register writes is read back. Clause `in_column`: the column has the value that is read.
 
 ghost use Rattle.std.specs.Prelude.{◌≡◌, ◌≢◌, ◌<◌, ◌≤◌, ◌^◌, ℕ, Bool, List, Option, cond, length, Some, OnOk, IfOk, IfErr, IfSome, IsSomeAnd, MatchOption};
 ghost use Rattle.sqlite_value.specs.declared.value.Value.TheVariants.{Text, Blob};
@@ -39,7 +39,7 @@ pub(crate) fn sql_number(n: u64) -> Result<Value, DatabaseFault>
 /// The number in a column; `None` for a negative one.
 pub fn number_at(row: &Row, at: usize) -> Option<u64>
     ensures read { (n : ℕ) → column row.now at ≡ number n → IsSomeAnd result (λ read. read ≡ n) }
-    ensures told { MatchOption result ((n : ℕ) → column row.now at ≢ number n)
+    ensures in_column { MatchOption result ((n : ℕ) → column row.now at ≢ number n)
         (λ n. column row.now at ≡ number n) }
 {
     match row.get_ref(at) {
@@ -56,7 +56,7 @@ pub fn number_at(row: &Row, at: usize) -> Option<u64>
 pub fn number_or_null_at(row: &Row, at: usize) -> Option<Option<u64>>
     ensures read { (n : Option ℕ) → at < length row.now → column row.now at ≡ number_or_null n
         → result ≡ Some n }
-    ensures told { IfSome result (λ n. column row.now at ≡ number_or_null n) }
+    ensures in_column { IfSome result (λ n. column row.now at ≡ number_or_null n) }
 {
     match row.get_ref(at) {
         Ok(ValueRef::Null) => Some(None),
@@ -69,7 +69,7 @@ pub fn number_or_null_at(row: &Row, at: usize) -> Option<Option<u64>>
 pub fn moment_at(row: &Row, at: usize) -> Option<Moment>
     ensures read { (n : ℕ) → column row.now at ≡ number n
         → MatchOption result (253402300800 ≤ n) (λ read. read ≡ n) }
-    ensures told { IfSome result (λ n. column row.now at ≡ number n) }
+    ensures in_column { IfSome result (λ n. column row.now at ≡ number n) }
     ensures early { IfSome result IsMoment }
 {
     Moment::of_secs(number_at(row, at)?)
@@ -79,7 +79,7 @@ pub fn moment_at(row: &Row, at: usize) -> Option<Moment>
 pub fn clock_moment_at(row: &Row, at: usize) -> Option<Moment>
     ensures read { (n : ℕ) → column row.now at ≡ number n
         → MatchOption result (clock_end ≤ n) (λ read. read ≡ n) }
-    ensures told { IfSome result (λ n. column row.now at ≡ number n) }
+    ensures in_column { IfSome result (λ n. column row.now at ≡ number n) }
     ensures early { IfSome result (λ n. n < clock_end) }
 {
     let moment = moment_at(row, at)?;
@@ -106,7 +106,7 @@ pub(crate) fn life_at(row: &Row, at: usize) -> Option<u64>
 pub fn serial_at(row: &Row, at: usize) -> Option<Serial>
     ensures read { (serial : ℕ) → IsSerial serial → column row.now at ≡ serial_value serial
         → result ≡ Some serial }
-    ensures told { IfSome result (λ serial. IsSerial serial × (column row.now at ≡ serial_value serial)) }
+    ensures in_column { IfSome result (λ serial. IsSerial serial × (column row.now at ≡ serial_value serial)) }
 {
     match row.get_ref(at) {
         Ok(ValueRef::Blob(bytes)) => Serial::from_bytes20(bytes),
@@ -119,7 +119,7 @@ pub fn serial_at(row: &Row, at: usize) -> Option<Serial>
 pub fn label_at(row: &Row, at: usize) -> Option<Label>
     ensures read { (text : List ℕ) → column row.now at ≡ Text text
         → MatchOption result (¬ IsLabel text) (λ read. read ≡ text) }
-    ensures told { IfSome result (λ text. column row.now at ≡ Text text) }
+    ensures in_column { IfSome result (λ text. column row.now at ≡ Text text) }
 {
     match row.get_ref(at) {
         Ok(ValueRef::Text(text)) => Label::of(text),
@@ -131,7 +131,7 @@ pub fn label_at(row: &Row, at: usize) -> Option<Label>
 /// The ground (why to revoke) in a column, stored as its index in the list of grounds, from 1 on.
 pub fn ground_at(row: &Row, at: usize) -> Option<Ground>
     ensures read { (cause : Ground) → column row.now at ≡ number (ground_index cause) → result ≡ Some cause }
-    ensures told { IfSome result (λ cause. column row.now at ≡ number (ground_index cause)) }
+    ensures in_column { IfSome result (λ cause. column row.now at ≡ number (ground_index cause)) }
 {
     match number_at(row, at)? {
         1 => Some(Ground::Asked),
@@ -151,7 +151,7 @@ pub fn ground_at(row: &Row, at: usize) -> Option<Ground>
 
 pub fn flag_at(row: &Row, at: usize) -> Option<bool>
     ensures read { (flag : Bool) → column row.now at ≡ number (cond flag 1 0) → result ≡ Some flag }
-    ensures told { IfSome result (λ flag. column row.now at ≡ number (cond flag 1 0)) }
+    ensures in_column { IfSome result (λ flag. column row.now at ≡ number (cond flag 1 0)) }
 {
     match number_at(row, at)? {
         0 => Some(false),
@@ -163,7 +163,7 @@ pub fn flag_at(row: &Row, at: usize) -> Option<bool>
 /// The reasonCode in a column (RFC 5280 5.3.1): any number up to 255, also one that is no reasonCode.
 pub fn reason_at(row: &Row, at: usize) -> Option<u8>
     ensures read { (n : ℕ) → column row.now at ≡ number n → MatchOption result (256 ≤ n) (λ read. read ≡ n) }
-    ensures told { IfSome result (λ n. column row.now at ≡ number n) }
+    ensures in_column { IfSome result (λ n. column row.now at ≡ number n) }
 {
     match u8::try_from(number_at(row, at)?) {
         Ok(reason) => Some(reason),
@@ -174,7 +174,7 @@ pub fn reason_at(row: &Row, at: usize) -> Option<u8>
 pub fn bytes_at(row: &Row, at: usize) -> Option<&[u8]>
     ensures read { (bytes : List ℕ) → column row.now at ≡ Blob bytes
         → IsSomeAnd result (λ read. read.now ≡ bytes) }
-    ensures told { MatchOption result ((bytes : List ℕ) → column row.now at ≢ Blob bytes)
+    ensures in_column { MatchOption result ((bytes : List ℕ) → column row.now at ≢ Blob bytes)
         (λ bytes. column row.now at ≡ Blob bytes.now) }
 {
     match row.get_ref(at) {

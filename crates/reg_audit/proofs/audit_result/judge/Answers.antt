@@ -3,7 +3,7 @@ use Rattle.sqlite.specs.Held.{state}
 use Rattle.sqlite.specs.State.{HasCleanDisk}
 use Rattle.reg_store_tables.proofs.PublicLaws.{stays_both, stays_holds, stays_register, stays_then}
 use Rattle.reg_audit.specs.Complete.{ShowsSound}
-use Rattle.reg_audit.proofs.Ends.{ended_older, ended_other, failed_first, never_newer, never_none, says_older, stays_same, tells_said}
+use Rattle.reg_audit.proofs.Ends.{ended_older, ended_other, failed_first, never_newer, never_none, says_older, stays_same, tables_said}
 use Rattle.reg_audit.proofs.Ordered.{tables_are}
 use Rattle.reg_audit.proofs.AuditResultLemmas.{always_said, counted_said, denied_said, register_by, says_third, sound_said}
 use Rattle.reg_audit.proofs.audit_result.judge.Goals as goal
@@ -45,26 +45,26 @@ returns g c =
     let clean_first = c.examine.ensures.survives.clean in
     let first = c.examine.ensures.same in
     let looked = c.audit.ensures.looked in
-    let told = c.audit_result_or_fault.ensures.is in
+    let result_is = c.audit_result_or_fault.ensures.is in
     let register = stays_register (state s old) (state s mid) clean_first first (register_by (state s old) is.schema is.saved) in
     record {
       sound = λ records columns shows clean.
-          sound_said _ c.audit.result c.audit_result_or_fault.result told (c.audit.ensures.sound records columns (stays_both s old mid records columns clean_first first shows) clean);
+          sound_said _ c.audit.result c.audit_result_or_fault.result result_is (c.audit.ensures.sound records columns (stays_both s old mid records columns clean_first first shows) clean);
       shown = λ up presumed clean.
           let mid_clean : HasCleanDisk (state s mid) = omega (arith, looked.survives.clean) in
           let old_clean : HasCleanDisk (state s old) = omega (arith, clean_first) in
           let tables = tables_are s old (g.met.S.Store.ordered old.store) (g.met.S.Alter.listed old.store) is presumed (up old_clean) in
           let there = stays_holds s old mid (λ now. now ≡ db) clean_first first (record { saved = λ was still. is.saved still; tables = λ was still. refl }) in
-          sound_said (ShowsSound db) c.audit.result c.audit_result_or_fault.result told (c.audit.ensures.shown db there tables clean);
+          sound_said (ShowsSound db) c.audit.result c.audit_result_or_fault.result result_is (c.audit.ensures.shown db there tables clean);
       counted = λ records columns shows clean.
-          counted_said records c.audit.result c.audit_result_or_fault.result told (c.audit.ensures.counted records columns (stays_both s old mid records columns clean_first first shows) clean);
+          counted_said records c.audit.result c.audit_result_or_fault.result result_is (c.audit.ensures.counted records columns (stays_both s old mid records columns clean_first first shows) clean);
       broken = λ records columns shows clean.
-          denied_said records columns c.audit.result c.audit_result_or_fault.result told (c.audit.ensures.broken records columns (stays_both s old mid records columns clean_first first shows) clean);
-      tells = λ clean.
+          denied_said records columns c.audit.result c.audit_result_or_fault.result result_is (c.audit.ensures.broken records columns (stays_both s old mid records columns clean_first first shows) clean);
+      reports_tables = λ clean.
           let mid_clean : HasCleanDisk (state s mid) = omega (arith, looked.survives.clean) in
-          tells_said db c.audit.result c.audit_result_or_fault.result told (says_third db c.in_ok-older.older third (c.in_ok-older.ensures.ok mid_clean), is.schema);
-      newer = λ clean e. never_newer c.audit.result (sym told ∙ e);
-      none = λ clean e. never_none c.audit.result (sym told ∙ e);
+          tables_said db c.audit.result c.audit_result_or_fault.result result_is (says_third db c.in_ok-older.older third (c.in_ok-older.ensures.ok mid_clean), is.schema);
+      newer = λ clean e. never_newer c.audit.result (sym result_is ∙ e);
+      none = λ clean e. never_none c.audit.result (sym result_is ∙ e);
       register = always_said _ c.audit_result_or_fault.result (stays_register (state s mid) (state s new) looked.survives.clean (looked.same register) register);
       same = stays_then (state s old) (state s mid) (state s new) looked.survives.clean first (looked.same register);
       idle = looked.idle c.examine.ensures.idle;

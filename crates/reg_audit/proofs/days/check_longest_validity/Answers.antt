@@ -17,5 +17,5 @@ pub returns-clause-broken : goal.returns-clause-broken
 returns-clause-broken c records columns more =
     let read = c.rows_at.ensures.read records columns other_queries Office more (omega arith) in
     let at : column c.office-item.result 6 ≡ Int columns.days = days_at records columns c.rows_at.result.now c.office-item.result read (omega (arith, c.in-len1.len_at_least)) c.office-item.is in
-    let no : HasAllowedDays columns → ⊥ = λ days. (let told = c.has_allowed_days.ensures.others days.0 (at ∙ ap Int days.1) days.2 in let other = c.if-has_allowed_days.false in cc) in
+    let no : HasAllowedDays columns → ⊥ = λ days. (let is_allowed = c.has_allowed_days.ensures.others days.0 (at ∙ ap Int days.1) days.2 in let other = c.if-has_allowed_days.false in cc) in
     search rules

@@ -15,8 +15,8 @@ befores : (one other : ℕ → Option RevocationRow) (requests : List RequestRow
 befores one other requests same all =
     all_weaker (λ (row : RequestRow). IsBefore row (one row.serial)) (λ (row : RequestRow). IsBefore row (other row.serial)) (λ row. subst (λ o. IsBefore row o) (same row.serial)) requests all
 
-pub returns-in_err-none_after-clause-broken : goal.returns-in_err-none_after-clause-broken
-returns-in_err-none_after-clause-broken c numbered =
+pub returns-in_err-no_request_after_revocation-clause-broken : goal.returns-in_err-no_request_after_revocation-clause-broken
+returns-in_err-no_request_after_revocation-clause-broken c numbered =
     let found = get nat_cmp c.in_ok-revocations.revocations in
     let no : AreRevocations (λ key. get nat_cmp c.args.certificates.now key) c.args.rows.now → AllByRecursion (λ (row : RequestRow). IsBefore row (found row.serial)) c.args.rows.now.requests.now =
     λ are. befores (λ key. revocation_in c.args.rows.now.revocations.now key) found c.args.rows.now.requests.now (λ key. sym (c.in_ok-revocations.ensures.found key)) are.none_after in
@@ -29,5 +29,5 @@ returns-clause-ok c numbered = record {
   each = c.in_ok-revocations_fit.ensures.ok numbered;
   moments_never_decrease = c.in_ok-moments_never_decrease.ensures.ok;
   firsts_never_decrease = c.in_ok-firsts_never_decrease.ensures.ok;
-  none_after = befores (get nat_cmp c.in_ok-revocations.revocations) (λ key. revocation_in c.args.rows.now.revocations.now key) c.args.rows.now.requests.now c.in_ok-revocations.ensures.found c.in_ok-none_after.ensures.ok;
+  none_after = befores (get nat_cmp c.in_ok-revocations.revocations) (λ key. revocation_in c.args.rows.now.revocations.now key) c.args.rows.now.requests.now c.in_ok-revocations.ensures.found c.in_ok-no_request_after_revocation.ensures.ok;
 }

@@ -1,18 +1,18 @@
 use Rattle.std.proofs.Common.{◌≡◌, ◌+◌, ◌-◌, ℕ, List, None, Some, ap, length, length-drop, take, sym, ◌∙◌, arith}
 use Rattle.reg_core_lists.specs.ListParameters.{params_from, with_parameter}
-use Rattle.reg_core_lists.proofs.Pieces.{last_piece, next_piece, some_told, too_many, unread_piece}
+use Rattle.reg_core_lists.proofs.Pieces.{last_piece, next_piece, params_of_some, too_many, unread_piece}
 use Rattle.reg_core_lists.proofs.list_parameters.read_params.Goals as goal
 
 pub returns-in_err-params : goal.returns-in_err-params
 returns-in_err-params c =
     let query : None ≡ with_parameter c.loop.params (take c.index_of-end.result c.loop.rest.now) = c.in_err-params.ensures in
-    rw c.from_residual.ensures (sym (some_told c.args.query.now c.is_empty.result c.is_empty.ensures c.if-is_empty.false ∙ c.loop.invariant.read
+    rw c.from_residual.ensures (sym (params_of_some c.args.query.now c.is_empty.result c.is_empty.ensures c.if-is_empty.false ∙ c.loop.invariant.read
     ∙ unread_piece c.loop.counter c.loop.rest.now c.loop.params c.index_of-end.result c.loop-test.true c.index_of-end.ensures.index query))
 
 pub returns-then-end-rest : goal.returns-then-end-rest
 returns-then-end-rest c =
     let query : Some c.in_ok-params.params ≡ with_parameter c.loop.params (take c.index_of-end.result c.loop.rest.now) = c.in_ok-params.ensures in
-    sym (some_told c.args.query.now c.is_empty.result c.is_empty.ensures c.if-is_empty.false ∙ c.loop.invariant.read
+    sym (params_of_some c.args.query.now c.is_empty.result c.is_empty.ensures c.if-is_empty.false ∙ c.loop.invariant.read
     ∙ last_piece c.loop.counter c.loop.rest.now c.loop.params c.index_of-end.result c.loop-test.true c.index_of-end.ensures.index c.in_ok-params.params query c.if-end-rest.true)
 
 pub loop-preserved : goal.loop-preserved
@@ -27,5 +27,5 @@ loop-preserved c =
 
 pub returns : goal.returns
 returns c =
-    sym (some_told c.args.query.now c.is_empty.result c.is_empty.ensures c.if-is_empty.false ∙ c.loop.invariant.read
+    sym (params_of_some c.args.query.now c.is_empty.result c.is_empty.ensures c.if-is_empty.false ∙ c.loop.invariant.read
     ∙ too_many c.loop.counter c.loop.rest.now c.loop.params c.loop-test.false)

@@ -6,9 +6,9 @@ use Rattle.reg_crl_signer.proofs.forms.has_modulus_of.Goals as goal
 
 pub returns-in-Some : goal.returns-in-Some
 returns-in-Some c = (
-  λ told. subst (IsRsaKey c.args.key.now) (eqb-true _ _ told) (rsa_made c.args.key.now _ _ c.in-Some.ensures),
+  λ passes. subst (IsRsaKey c.args.key.now) (eqb-true _ _ passes) (rsa_made c.args.key.now _ _ c.in-Some.ensures),
   λ is. eq-eqb _ _ (rsa_size c.args.key.now _ _ c.args.octets c.in-Some.ensures is),
 )
 
 pub returns-in-None : goal.returns-in-None
-returns-in-None c = (λ told. absurd (cc), λ is. absurd (c.in-None.ensures is.modulus is.exponent is.pair))
+returns-in-None c = (λ passes. absurd (cc), λ is. absurd (c.in-None.ensures is.modulus is.exponent is.pair))

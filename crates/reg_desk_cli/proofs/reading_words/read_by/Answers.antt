@@ -1,5 +1,5 @@
 use Rattle.std.proofs.Common.{map}
-use Rattle.reg_desk_cli.proofs.DeskLemmas.{no_invocation, invocations, refused, tells_usage}
+use Rattle.reg_desk_cli.proofs.DeskLemmas.{no_invocation, invocations, refused, prints_usage}
 use Rattle.std.proofs.lemmas.Result.{IfOk-weaker, IfErr-weaker}
 use Rattle.reg_desk_cli.proofs.reading_words.read_by.Goals as goal
 
@@ -16,4 +16,4 @@ returns-in-Ok-clause-usage g c =
 pub returns-in-Err-clause-usage : goal.returns-in-Err-clause-usage
 returns-in-Err-clause-usage g c =
     let words = map g.S.AsStr.text c.args.words.now in
-    tells_usage words _ _ c.usage_of.ensures (refused _ words c.in-Err.error c.requires c.in-Err.ensures.kinds)
+    prints_usage words _ _ c.usage_of.ensures (refused _ words c.in-Err.error c.requires c.in-Err.ensures.kinds)

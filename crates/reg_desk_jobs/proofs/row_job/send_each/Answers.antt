@@ -7,8 +7,8 @@ loop-init g c = rows_begin _ _ _ _
 pub loop-preserved : goal.loop-preserved
 loop-preserved g c =
     let next = rw c.in-Line.is at c.in_ok-line.ensures.ok in
-    let told = rw c.deref.ensures.value at c.in-Ok.ensures.ok in
-    rows_go_on _ _ _ _ _ _ _ _ _ _ _ _ _ _ c.loop.invariant next.0 next.1 told c.both-is_done.ensures
+    let exchanged = rw c.deref.ensures.value at c.in-Ok.ensures.ok in
+    rows_go_on _ _ _ _ _ _ _ _ _ _ _ _ _ _ c.loop.invariant next.0 next.1 exchanged c.both-is_done.ensures
 
 pub returns-in-Cut : goal.returns-in-Cut
 returns-in-Cut g c = rows_cut _ _ _ _ _ _ _ _ c.loop.invariant _ (rw c.in-Cut.is at c.in_ok-line.ensures.ok) c.cut_off.ensures

@@ -16,7 +16,7 @@ returns-in-Some-clause-found g c records shown sound clean =
     let clean_1 = was_clean (state s first) (state s second) c.crl.ensures.looked.survives.clean clean in
     let latest_is = sym (c.in_ok-row.ensures.found records (shows_until _ shown) clean_1) ∙ c.in-Some.is in
     let same = (latest_in 1 records.crls c.in-Some.row sound.crls.numbered latest_is).0 in
-    IfOk-weaker c.crl.result _ _ (λ der told. told ∙ ap (option_map (λ (crl : Crl). crl.bytes)) same) (c.crl.ensures.found records (shows_until _ shown_1) clean)
+    IfOk-weaker c.crl.result _ _ (λ der read. read ∙ ap (option_map (λ (crl : Crl). crl.bytes)) same) (c.crl.ensures.found records (shows_until _ shown_1) clean)
 
 pub returns-in-Some-clause-looked : goal.returns-in-Some-clause-looked
 returns-in-Some-clause-looked g c = looked_then c.latest_crl.ensures.looked c.crl.ensures.looked

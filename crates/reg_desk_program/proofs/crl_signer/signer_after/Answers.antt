@@ -5,7 +5,7 @@ use Rattle.reg_desk_program.proofs.crl_signer.signer_after.Goals as goal
 
 pub returns-in-None-clause-signs : goal.returns-in-None-clause-signs
 returns-in-None-clause-signs g c = record {
-  told = λ records shown clean.
+  identity_is = λ records shown clean.
       let found = c.in_ok-issuer.ensures.found records (shows_until _ shown) clean in
       search rules;
   follows = λ crl is other under.

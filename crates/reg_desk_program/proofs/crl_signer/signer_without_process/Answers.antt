@@ -5,7 +5,7 @@ pub returns-in-Ok-clause-signs : goal.returns-in-Ok-clause-signs
 returns-in-Ok-clause-signs g c = (
   option_copied c.as_ref.result,
   record {
-    told = λ records shown clean. rw c.without_digest.ensures.same_identity (c.in-Ok.ensures.signs.told records shown clean);
+    identity_is = λ records shown clean. rw c.without_digest.ensures.same_identity (c.in-Ok.ensures.signs.identity_is records shown clean);
     follows = λ crl is other under. rw c.without_digest.ensures.same_identity (c.in-Ok.ensures.signs.follows crl is other under);
     embeds = c.in-Ok.ensures.signs.embeds;
   },

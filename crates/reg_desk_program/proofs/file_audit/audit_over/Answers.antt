@@ -13,7 +13,7 @@ returns-in-Ok-clause-ok g c = (
       shown = c.in-Ok.ensures.shown (λ clean. (c.requires.connects.whole clean).0.is_open);
       counted = c.in-Ok.ensures.counted;
       broken = c.in-Ok.ensures.broken;
-      tells = c.in-Ok.ensures.tells;
+      reports_tables = c.in-Ok.ensures.reports_tables;
       register = c.in-Ok.ensures.register;
       stays = c.judge-judged.ensures.same;
     };

@@ -6,7 +6,7 @@ use Rattle.sqlite.specs.Held.{Held}
 use Rattle.sqlite_disk.specs.declared.Disk as disk
 use Rattle.sqlite_store.specs.declared.store.FileStore.{FileStore}
 use Rattle.sqlite_wal.specs.Files.{outcomes}
-use Rattle.reg_office.proofs.PublicLaws.{one_of_them, only_itself, opens_told}
+use Rattle.reg_office.proofs.PublicLaws.{one_of_them, only_itself, opens_again}
 use Rattle.reg_store.proofs.PublicLaws.{keeps_again}
 use Rattle.reg_desk_program.specs.Stops.{IsReopened}
 use Rattle.reg_desk_program.proofs.laws.a_stop_leaves_what_was_reported.Goals as goal
@@ -36,7 +36,7 @@ returns g c = record {
   call = only_itself over_files g.S.Signer.signs;
   calls = one_of_them over_files g.S.Signer.signs;
   leaves = λ office signers records interrupted stands.
-      opens_told over_files g.S.Signer.signs office.0 signers.crls records interrupted stands.1.sound stands.2;
+      opens_again over_files g.S.Signer.signs office.0 signers.crls records interrupted stands.1.sound stands.2;
   closes = λ office signers records again stands live reopened.
       ∥∥₁_map (last_commit office.0 again reopened) (λ same. record {
         shown = keeps_again over_files again reopened.opened.0 reopened.opened.1 office.0 reopened.copied.was_open live same records reopened.copied.was_clean stands.1.1.shown;

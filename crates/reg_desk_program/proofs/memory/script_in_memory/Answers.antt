@@ -10,6 +10,6 @@ pub returns : goal.returns
 returns g c =
     let fresh = c.in_ok-fresh.ensures in
     let clean = always_clean c.run_script.new.office.store in
-    let alone = ap (signers_of (λ seal. digest) digest) fresh.alone in
+    let alone = ap (signers_of (λ placeholder. digest) digest) fresh.alone in
     let (after, ran, stands) = c.run_script.ensures.ends.1 digest_alone sample_records (None, (alone, fresh.ok, fresh.leaves)) clean in
     inr (c.run_script.result, c.ended.ensures, (after, ran))

@@ -22,8 +22,8 @@ returns-in-Ok-signer_for-clause-opened g c =
       kept = λ records before. stays records looked.survives.clean looked.same (opened.kept records before);
       migrated = λ version records older sound. stays records looked.survives.clean looked.same (opened.migrated version records older sound);
       clean = outlives.clean;
-      told = λ records showed is_clean.
-          rw (sym answering.signer) at (signs.told records (shows records (opened.kept records) (λ version. opened.migrated version records) showed) (clean is_clean));
+      is_signing = λ records showed is_clean.
+          rw (sym answering.signer) at (signs.is_signing records (shows records (opened.kept records) (λ version. opened.migrated version records) showed) (clean is_clean));
       follows = λ records showed sound is_clean crl is other under.
           rw (sym answering.signer) at
           (signs.follows records (shows records (opened.kept records) (λ version. opened.migrated version records) showed) sound (clean is_clean) crl is other under);

@@ -1,17 +1,17 @@
 use Rattle.std.proofs.Common.{refl}
 use Rattle.reg_core.specs.declared.refusal.Fault.TheVariants.{Memory, Read}
 use Rattle.reg_desk_service.specs.ControlWords.{decides}
-use Rattle.reg_desk_service.proofs.ControlLines.{copied, entered, fault_came, told_word}
+use Rattle.reg_desk_service.proofs.ControlLines.{copied, entered, fault_came, word_answered}
 use Rattle.reg_desk_service.proofs.control_lines.answer_control_line.Goals as goal
 
 pub returns-in-Ok-Copy-clause-moves : goal.returns-in-Ok-Copy-clause-moves
 returns-in-Ok-Copy-clause-moves g c =
     copied g.M.Office.Office.is_clean g.M.Office.Office.stands c.args.accepted.now g.M.Office.Office.signs c.args.now _ _ c.args.line.now _
-    (rw c.in-Ok-Copy.field-0-is at c.in-Ok-Copy.ensures) refl c.answer_copy.ensures.told
+    (rw c.in-Ok-Copy.field-0-is at c.in-Ok-Copy.ensures) refl c.answer_copy.ensures.reply_text
 
 pub returns-in-Ok-Decide-clause-moves : goal.returns-in-Ok-Decide-clause-moves
 returns-in-Ok-Decide-clause-moves g c =
-    told_word g.M.Office.Office.is_clean g.M.Office.Office.stands c.args.accepted.now g.M.Office.Office.signs c.args.now _ _ c.args.line.now _ (decides c.in-Ok-Decide.serial_decision)
+    word_answered g.M.Office.Office.is_clean g.M.Office.Office.stands c.args.accepted.now g.M.Office.Office.signs c.args.now _ _ c.args.line.now _ (decides c.in-Ok-Decide.serial_decision)
     (rw c.in-Ok-Decide.field-0-is at c.in-Ok-Decide.ensures) c.decide_by_clock.ensures.moves
 
 pub returns-in-Ok-Line-Some-clause-moves : goal.returns-in-Ok-Line-Some-clause-moves

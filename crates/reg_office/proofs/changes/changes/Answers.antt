@@ -14,7 +14,7 @@ pub returns-in-Some : goal.returns-in-Some
 returns-in-Some g c =
     so (and_so (by_finding c.in_ok-issuer.ensures) c.changes_after.ensures)
     (λ records sound it.
-    ok_then c.changes_after.result it.1 (λ given told. subst (λ (after : Option Positions). GivesChanges records after given) (sym c.in-Some.is) (told it.0)))
+    ok_then c.changes_after.result it.1 (λ given gives. subst (λ (after : Option Positions). GivesChanges records after given) (sym c.in-Some.is) (gives it.0)))
 
 pub returns-in_err-text-in-None : goal.returns-in_err-text-in-None
 returns-in_err-text-in-None g c =

@@ -27,9 +27,9 @@ returns-in-Err-Malformed-clause-counts g c = unasked_counts Malformed _ c.refuse
 
 pub returns-in-Ok-ocsp_data-clause-looks : goal.returns-in-Ok-ocsp_data-clause-looks
 returns-in-Ok-ocsp_data-clause-looks g c =
-    so c.in-Ok-ocsp_data.ensures.looks (λ records sound told.
+    so c.in-Ok-ocsp_data.ensures.looks (λ records sound it.
     message_begun g.S.Signer.signs _ records c.args.now c.args.request.now (ids_model c.in-Ok.asked.ids.items) (option_copied c.in-Ok.asked.nonce) c.in-Ok-ocsp_data.message.items c.respond.result
-    c.in-Ok.ensures.found told.0 told.1 (rw c.deref.ensures.value at c.respond.ensures.responds))
+    c.in-Ok.ensures.found it.0 it.1 (rw c.deref.ensures.value at c.respond.ensures.responds))
 
 pub returns-in-Ok-ocsp_data-clause-refuses : goal.returns-in-Ok-ocsp_data-clause-refuses
 returns-in-Ok-ocsp_data-clause-refuses g c =
@@ -38,8 +38,8 @@ returns-in-Ok-ocsp_data-clause-refuses g c =
 
 pub returns-in-Err-Clock-clause-looks : goal.returns-in-Err-Clock-clause-looks
 returns-in-Err-Clock-clause-looks g c =
-    so (rw c.in-Err-Clock.field-0-is at c.in-Err-Clock.ensures.looks) (λ records sound told.
-    let refusal = the_refusal (first_refusal (clock_checks c.args.now records.last)) told in
+    so (rw c.in-Err-Clock.field-0-is at c.in-Err-Clock.ensures.looks) (λ records sound it.
+    let refusal = the_refusal (first_refusal (clock_checks c.args.now records.last)) it in
     ready_begun g.S.Signer.signs _ records c.args.now c.args.request.now _ _ c.refused-in-Err-Clock.result
     (inr (ids_model c.in-Ok.asked.ids.items, option_copied c.in-Ok.asked.nonce, c.in-Ok.ensures.found, (refusal, refl))) c.refused-in-Err-Clock.ensures)
 
@@ -53,7 +53,7 @@ returns-in-Err-Clock-clause-counts g c = unasked_counts TryLater _ c.refused-in-
 
 pub returns-in-Err-Store-clause-looks : goal.returns-in-Err-Store-clause-looks
 returns-in-Err-Store-clause-looks g c =
-    so c.in-Err-Store.ensures.looks (λ records sound told.
+    so c.in-Err-Store.ensures.looks (λ records sound it.
     ready_begun g.S.Signer.signs _ records c.args.now c.args.request.now _ _ c.refused-in-Err-Store.result
     (inr (ids_model c.in-Ok.asked.ids.items, option_copied c.in-Ok.asked.nonce, c.in-Ok.ensures.found, refl)) c.refused-in-Err-Store.ensures)
 

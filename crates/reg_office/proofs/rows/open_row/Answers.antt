@@ -1,5 +1,5 @@
 use Rattle.reg_store_tables.proofs.PublicLaws.{and_so, by_finding, by_none, looked_none, looked_then, not_found, so}
-use Rattle.reg_office.proofs.ListedRows.{declined_none, open_is, open_none, open_told}
+use Rattle.reg_office.proofs.ListedRows.{declined_none, open_is, open_none, open_some}
 use Rattle.reg_office.proofs.rows.open_row.Goals as goal
 
 pub returns-then-request : goal.returns-then-request
@@ -22,7 +22,7 @@ returns-in_ok-listed g c =
     so (and_so (and_so c.in_ok-certificate.ensures (by_finding c.in_ok-revocation.ensures)) c.in_ok-listed.ensures)
     (λ records sound it.
     let is = open_is records c.args.now c.args.request c.in_ok-certificate.certificate c.in_ok-revocation.revocation c.is_good.result c.if-request.false it.0.0 it.0.1 c.is_good.ensures in
-    open_told records c.args.now c.args.request c.is_good.result c.in_ok-listed.listed is c.if-is_good.true (it.1 it.0.0))
+    open_some records c.args.now c.args.request c.is_good.result c.in_ok-listed.listed is c.if-is_good.true (it.1 it.0.0))
 
 pub returns-else-is_good : goal.returns-else-is_good
 returns-else-is_good g c =

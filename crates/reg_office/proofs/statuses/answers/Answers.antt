@@ -1,13 +1,13 @@
 use Rattle.std.proofs.Common.{sym, ap, subst, ◌∙◌, arith}
 use Rattle.reg_ocsp.specs.Views.{answered}
 use Rattle.reg_store_tables.proofs.PublicLaws.{and_so, by_none, gives_none, looked_none, looked_then, so}
-use Rattle.reg_office.proofs.Responding.{AreTold, answered_push, told_push}
+use Rattle.reg_office.proofs.Responding.{AreStatuses, answered_push, statuses_push}
 use Rattle.reg_office.proofs.statuses.answers.Goals as goal
 
 pub loop-id-init : goal.loop-id-init
 loop-id-init g c = record {
   ids = ap answered c.new-answers.ensures.items;
-  looks = by_none looked_none (λ records issuer. subst (AreTold records c.args.now) (sym c.new-answers.ensures.items) tt);
+  looks = by_none looked_none (λ records issuer. subst (AreStatuses records c.args.now) (sym c.new-answers.ensures.items) tt);
 }
 
 pub loop-id-preserved : goal.loop-id-preserved
@@ -17,7 +17,7 @@ loop-id-preserved g c =
     record {
       ids = ap answered items ∙ answered_push c.loop-id.answers.items c.args.ids.now c.loop-id.id-index _ c.in_ok-status.status it.ids (omega (arith, c.loop-id-test.true, c.loop-id.auto.id-index-end));
       looks = so (and_so it.looks c.in_ok-status.ensures.looks)
-          (λ records sound told issuer. subst (AreTold records c.args.now) (sym items) (told_push records c.args.now c.loop-id.answers.items _ c.in_ok-status.status (told.0 issuer) (told.1 issuer)));
+          (λ records sound status_so issuer. subst (AreStatuses records c.args.now) (sym items) (statuses_push records c.args.now c.loop-id.answers.items _ c.in_ok-status.status (status_so.0 issuer) (status_so.1 issuer)));
     }
 
 pub returns-in_err-status-clause-looks : goal.returns-in_err-status-clause-looks

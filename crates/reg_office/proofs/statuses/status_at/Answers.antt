@@ -13,5 +13,5 @@ returns-in_err-revocation g c =
 -- What is told comes first, so that another status is refused by it.
 pub returns : goal.returns
 returns g c =
-    let told : c.status_of.result ≡ status_by c.args.now c.in_ok-certificate.certificate c.in_ok-revocation.revocation = c.status_of.ensures in
-    so (and_so (by_finding c.in_ok-certificate.ensures) (by_finding c.in_ok-revocation.ensures)) (λ records sound it. told ∙ (λ i. status_by c.args.now (it.0 i) (it.1 i)))
+    let status_is : c.status_of.result ≡ status_by c.args.now c.in_ok-certificate.certificate c.in_ok-revocation.revocation = c.status_of.ensures in
+    so (and_so (by_finding c.in_ok-certificate.ensures) (by_finding c.in_ok-revocation.ensures)) (λ records sound it. status_is ∙ (λ i. status_by c.args.now (it.0 i) (it.1 i)))

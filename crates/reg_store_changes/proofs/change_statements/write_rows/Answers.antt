@@ -2,7 +2,7 @@ use Rattle.std.proofs.Common.{sym, subst, ◌∙◌}
 use Rattle.sqlite.specs.Held.{state}
 use Rattle.reg_core.specs.declared.change.Change.{Change}
 use Rattle.reg_core_laws.proofs.PublicLaws.{next_is}
-use Rattle.reg_store_tables.proofs.PublicLaws.{here}
+use Rattle.reg_store_tables.proofs.PublicLaws.{moves_in_place}
 use Rattle.reg_store_changes.specs.ChangeSteps.{Puts}
 use Rattle.reg_store_changes.proofs.Making.{puts}
 use Rattle.reg_store_changes.proofs.change_statements.write_rows.Goals as goal
@@ -10,7 +10,7 @@ use Rattle.reg_store_changes.proofs.change_statements.write_rows.Goals as goal
 pub returns-in-Touch-clause-made : goal.returns-in-Touch-clause-made
 returns-in-Touch-clause-made g c under within clean =
     let db = (state g.S.Store c.args.conn.now).now in
-    here under (subst (λ (change : Change). Puts change db db) (sym c.in-Touch.is) (record { turns = λ records columns now sound fits both. both; one = λ records columns both. tt }))
+    moves_in_place under (subst (λ (change : Change). Puts change db db) (sym c.in-Touch.is) (record { turns = λ records columns now sound fits both. both; one = λ records columns both. tt }))
 
 pub returns-in-Subscriber-clause-made : goal.returns-in-Subscriber-clause-made
 returns-in-Subscriber-clause-made g c under within clean =

@@ -4,14 +4,14 @@ use Rattle.reg_core.specs.Records.{certificate_in}
 use Rattle.reg_core.specs.declared.rows.CertRow.{CertRow}
 use Rattle.reg_core_laws.proofs.PublicLaws.{some_and_of}
 use Rattle.reg_store_tables.specs.Shows.{AreRecordsAndDerived}
-use Rattle.reg_store_tables.proofs.PublicLaws.{stepped_then, here, leading, moves_on, stepped_clean}
+use Rattle.reg_store_tables.proofs.PublicLaws.{stepped_then, moves_in_place, leading, moves_on, stepped_clean}
 use Rattle.reg_store_migration.specs.Refilled.{AreIssued, listed_by, with_listed, HasRelisted}
 use Rattle.reg_store_migration.proofs.RebuildsDerived.{rows_issued, relisted_more}
 use Rattle.reg_store_migration.proofs.derived_listings.rebuild_listed_rows.Goals as goal
 
 pub loop-revocation-init : goal.loop-revocation-init
 loop-revocation-init g c =
-    record { stepped = search rules; made = λ clean under. here under (λ records sound all issued had. had, record { schema = λ has. has; obeys = λ has obeyed. obeyed }) }
+    record { stepped = search rules; made = λ clean under. moves_in_place under (λ records sound all issued had. had, record { schema = λ has. has; obeys = λ has obeyed. obeyed }) }
 
 pub loop-revocation-preserved : goal.loop-revocation-preserved
 loop-revocation-preserved g c =

@@ -17,8 +17,8 @@ read_rows-requires g c = office_query
 pub read_rows-requires-2 : goal.read_rows-requires-2
 read_rows-requires-2 g c = steps_query
 
-pub returns-clause-told : goal.returns-clause-told
-returns-clause-told g c clean =
+pub returns-clause-reported : goal.returns-clause-reported
+returns-clause-reported g c clean =
     let first = c.in_ok-office.ensures.asked (stepped_clean c.read_rows-2.ensures.stepped clean) in
     let second = c.in_ok-steps.ensures.asked clean in
     let steps = subst (λ (d : Database). IsRead d STEPS.now c.in_ok-steps.steps.items) first.0.0.now_is second.1 in

@@ -10,8 +10,8 @@ use Rattle.reg_store_opening.proofs.version_check.check_older_office.Goals as go
 pub read_rows-requires : goal.read_rows-requires
 read_rows-requires g c = older_query
 
-pub returns-clause-told : goal.returns-clause-told
-returns-clause-told g c clean =
+pub returns-clause-reported : goal.returns-clause-reported
+returns-clause-reported g c clean =
     let read = c.in_ok-rows.ensures.asked clean in
     judged_ok _ _ c.older_office_in.result c.older_office_in.ensures (λ found are. (read.0.0.was_open, (c.in_ok-rows.rows.items, read.1, are)))
 

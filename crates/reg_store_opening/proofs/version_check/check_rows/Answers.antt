@@ -10,8 +10,8 @@ use Rattle.reg_store_opening.proofs.version_check.check_rows.Goals as goal
 
 pub returns-in_err-older-clause-shown : goal.returns-in_err-older-clause-shown
 returns-in_err-older-clause-shown g c version clean records before =
-    let told = c.in_err-older.ensures.version clean version (λ up. of_version version (state g.S.Store c.args.tx.now.conn.now).now records (before up)) in
-    search (rules, told)
+    let version_is = c.in_err-older.ensures.version clean version (λ up. of_version version (state g.S.Store c.args.tx.now.conn.now).now records (before up)) in
+    search (rules, version_is)
 
 pub returns-in_err-check_office-in-None-clause-none : goal.returns-in_err-check_office-in-None-clause-none
 returns-in_err-check_office-in-None-clause-none g c clean is =
@@ -24,8 +24,8 @@ pub returns-in_err-check_office-in-None-clause-shown : goal.returns-in_err-check
 returns-in_err-check_office-in-None-clause-shown g c version clean records before =
     let s0 = state g.S.Store c.args.tx.now.conn.now in
     let was = stepped_clean c.check_office.ensures.stepped clean in
-    let told = sym c.in-None.is ∙ c.in_ok-older.ensures.version was version (λ up. of_version version s0.now records (before up)) in
-    let refused = c.in_err-check_office-in-None.ensures.shown clean records (shown_next s0 (state g.S.Store c.check_version.new.tx.conn.now) None version records (c.in_ok-older.ensures.asked was).0 told before) in
+    let version_is = sym c.in-None.is ∙ c.in_ok-older.ensures.version was version (λ up. of_version version s0.now records (before up)) in
+    let refused = c.in_err-check_office-in-None.ensures.shown clean records (shown_next s0 (state g.S.Store c.check_version.new.tx.conn.now) None version records (c.in_ok-older.ensures.asked was).0 version_is before) in
     search (rules, refused)
 
 pub returns-in_err-days-in-Some-clause-none : goal.returns-in_err-days-in-Some-clause-none
@@ -39,35 +39,35 @@ pub returns-in_err-days-in-Some-clause-shown : goal.returns-in_err-days-in-Some-
 returns-in_err-days-in-Some-clause-shown g c version clean records before =
     let s0 = state g.S.Store c.args.tx.now.conn.now in
     let was = stepped_clean c.check_older_office.ensures.stepped clean in
-    let told = sym c.in-Some.is ∙ c.in_ok-older.ensures.version was version (λ up. of_version version s0.now records (before up)) in
+    let version_is = sym c.in-Some.is ∙ c.in_ok-older.ensures.version was version (λ up. of_version version s0.now records (before up)) in
     let refused =
-    c.in_err-days-in-Some.ensures.shown c.in-Some.version clean records (shown_next s0 (state g.S.Store c.check_version.new.tx.conn.now) (Some c.in-Some.version) version records (c.in_ok-older.ensures.asked was).0 told before) in
+    c.in_err-days-in-Some.ensures.shown c.in-Some.version clean records (shown_next s0 (state g.S.Store c.check_version.new.tx.conn.now) (Some c.in-Some.version) version records (c.in_ok-older.ensures.asked was).0 version_is before) in
     search (rules, refused)
 
-pub returns-in_ok-check_office-in-None-clause-told : goal.returns-in_ok-check_office-in-None-clause-told
-returns-in_ok-check_office-in-None-clause-told g c clean =
+pub returns-in_ok-check_office-in-None-clause-reported : goal.returns-in_ok-check_office-in-None-clause-reported
+returns-in_ok-check_office-in-None-clause-reported g c clean =
     let db = (state g.S.Store c.args.tx.now.conn.now).now in
     let asked = c.in_ok-older.ensures.asked (stepped_clean c.check_office.ensures.stepped clean) in
     let version = subst (λ v. HasVersion db (version_of v)) c.in-None.is asked.1 in
-    (asked.0.0.was_open, (version, subst (λ (d : Database). HasOfficeRow d) asked.0.0.now_is (c.in_ok-check_office-in-None.ensures.told clean).1))
+    (asked.0.0.was_open, (version, subst (λ (d : Database). HasOfficeRow d) asked.0.0.now_is (c.in_ok-check_office-in-None.ensures.reported clean).1))
 
 pub returns-in_ok-check_office-in-None-clause-shown : goal.returns-in_ok-check_office-in-None-clause-shown
 returns-in_ok-check_office-in-None-clause-shown g c version clean records before =
-    let told = sym c.in-None.is ∙ c.in_ok-older.ensures.version (stepped_clean c.check_office.ensures.stepped clean) version (λ up. of_version version (state g.S.Store c.args.tx.now.conn.now).now records (before up)) in
-    subst (λ v. IsFoundOf v records None) told refl
+    let version_is = sym c.in-None.is ∙ c.in_ok-older.ensures.version (stepped_clean c.check_office.ensures.stepped clean) version (λ up. of_version version (state g.S.Store c.args.tx.now.conn.now).now records (before up)) in
+    subst (λ v. IsFoundOf v records None) version_is refl
 
-pub returns-in_ok-days-in-Some-clause-told : goal.returns-in_ok-days-in-Some-clause-told
-returns-in_ok-days-in-Some-clause-told g c clean =
+pub returns-in_ok-days-in-Some-clause-reported : goal.returns-in_ok-days-in-Some-clause-reported
+returns-in_ok-days-in-Some-clause-reported g c clean =
     let db = (state g.S.Store c.args.tx.now.conn.now).now in
     let asked = c.in_ok-older.ensures.asked (stepped_clean c.check_older_office.ensures.stepped clean) in
     let version = subst (λ v. HasVersion db (version_of v)) c.in-Some.is asked.1 in
-    (asked.0.0.was_open, (version, subst (λ (d : Database). ReadsOlder d c.in_ok-days-in-Some.days c.in_ok-days-in-Some.last) asked.0.0.now_is (c.in_ok-days-in-Some.ensures.told clean).1))
+    (asked.0.0.was_open, (version, subst (λ (d : Database). ReadsOlder d c.in_ok-days-in-Some.days c.in_ok-days-in-Some.last) asked.0.0.now_is (c.in_ok-days-in-Some.ensures.reported clean).1))
 
 pub returns-in_ok-days-in-Some-clause-shown : goal.returns-in_ok-days-in-Some-clause-shown
 returns-in_ok-days-in-Some-clause-shown g c version clean records before =
     let s0 = state g.S.Store c.args.tx.now.conn.now in
     let was = stepped_clean c.check_older_office.ensures.stepped clean in
-    let told = sym c.in-Some.is ∙ c.in_ok-older.ensures.version was version (λ up. of_version version s0.now records (before up)) in
-    let read = c.in_ok-days-in-Some.ensures.shown c.in-Some.version clean records (shown_next s0 (state g.S.Store c.check_version.new.tx.conn.now) (Some c.in-Some.version) version records (c.in_ok-older.ensures.asked was).0 told before) in
+    let version_is = sym c.in-Some.is ∙ c.in_ok-older.ensures.version was version (λ up. of_version version s0.now records (before up)) in
+    let read = c.in_ok-days-in-Some.ensures.shown c.in-Some.version clean records (shown_next s0 (state g.S.Store c.check_version.new.tx.conn.now) (Some c.in-Some.version) version records (c.in_ok-older.ensures.asked was).0 version_is before) in
     let found : OlderOffice = record { version = c.in-Some.version; days = c.in_ok-days-in-Some.days; last = c.in_ok-days-in-Some.last } in
-    subst (λ v. IsFoundOf v records (Some found)) told (refl, read.0, read.1)
+    subst (λ v. IsFoundOf v records (Some found)) version_is (refl, read.0, read.1)

@@ -11,14 +11,14 @@ returns-clause-ok g c clean =
     let s = g.S.Store in
     let entered = c.check_rows-tested.new.tx.conn.now in
     let was = was_clean (state s entered) (state s c.rollback.new.self.0) c.rollback.ensures.survives.clean (search (rules, clean)) in
-    ok_then _ _ c.check_rows-tested.result (λ found told. subst (λ h. HasVersionAndOffice (state s h).now found) c.transaction-tx.ensures.begun told.1) (c.check_rows-tested.ensures.told was)
+    ok_then _ _ c.check_rows-tested.result (λ found holds. subst (λ h. HasVersionAndOffice (state s h).now found) c.transaction-tx.ensures.begun holds.1) (c.check_rows-tested.ensures.reported was)
 
 pub returns-clause-live : goal.returns-clause-live
 returns-clause-live g c clean =
     let s = g.S.Store in
     let entered = c.check_rows-tested.new.tx.conn.now in
     let was = was_clean (state s entered) (state s c.rollback.new.self.0) c.rollback.ensures.survives.clean (search (rules, clean)) in
-    ok_then _ _ c.check_rows-tested.result (λ found told. subst (λ h. IsTrue (state s h).is_open) c.transaction-tx.ensures.begun told.0) (c.check_rows-tested.ensures.told was)
+    ok_then _ _ c.check_rows-tested.result (λ found holds. subst (λ h. IsTrue (state s h).is_open) c.transaction-tx.ensures.begun holds.0) (c.check_rows-tested.ensures.reported was)
 
 pub returns-clause-newer : goal.returns-clause-newer
 returns-clause-newer g c clean is =

@@ -16,10 +16,10 @@ returns-in_err-found-clause-unopened g c =
     let old = c.args.conn.now in
     let mid = c.examine.new.conn in
     let why = c.in_err-found.field-0.0 in
-    let told = c.in_err-found.ensures in
+    let examined = c.in_err-found.ensures in
     err_as (IsFailedOpen s old mid) (λ fault. fault ≡ why) c.from_residual.result c.from_residual.ensures.1 (λ fault is. subst (IsFailedOpen s old mid) (sym is)
-    (refuses s old mid why c.examine.ensures.same c.examine.ensures.survives (λ version records within shows clean. told.shown version records shows clean within) (λ clean newer. told.newer clean (ap Err newer))
-    (λ clean none. inl (told.none clean (ap Err none))) told.faults))
+    (refuses s old mid why c.examine.ensures.same c.examine.ensures.survives (λ version records within shows clean. examined.shown version records shows clean within) (λ clean newer. examined.newer clean (ap Err newer))
+    (λ clean none. inl (examined.none clean (ap Err none))) examined.faults))
 
 pub returns-in_err-check_schema-clause-unopened : goal.returns-in_err-check_schema-clause-unopened
 returns-in_err-check_schema-clause-unopened g c =

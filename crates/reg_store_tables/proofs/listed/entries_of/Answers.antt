@@ -15,7 +15,7 @@ returns-clause-at_most c = omega arith
 
 pub returns-in_err-entries-clause-has : goal.returns-in_err-entries-clause-has
 returns-in_err-entries-clause-has c shown serials is values ascend few =
-    let told : row_fault_of c.in_err-entries.field-0.0 ≡ Memory = ap row_fault_of (c.in_err-entries.ensures.has shown serials values (c.deref.ensures.value ∙ is)) in
+    let fault_is : row_fault_of c.in_err-entries.field-0.0 ≡ Memory = ap row_fault_of (c.in_err-entries.ensures.has shown serials values (c.deref.ensures.value ∙ is)) in
     search rules
 
 pub returns-then-len-gt-MOST_ENTRIES-clause-has : goal.returns-then-len-gt-MOST_ENTRIES-clause-has

@@ -39,6 +39,6 @@ returns-in_err-rows_in-clause-reads g c reading =
           let it = shows c.in_ok-rows.rows.items (asked.rows register clean) in
           let each = both_all g.T.RowKind.has_valid_serial g.T.RowKind.has_values wanted it.0 in
           let memory = c.in_err-rows_in.ensures.has wanted each.0 each.1 (c.deref.ensures.value ∙ it.1) in
-          let told : row_fault_of c.in_err-rows_in.field-0.0 ≡ call.Store → HasFailed (state g.S.Store c.args.conn.now) (state g.S.Store c.read.new.conn) = λ store. absurd (no_store c.in_err-rows_in.field-0.0 memory store) in
+          let has_failed : row_fault_of c.in_err-rows_in.field-0.0 ≡ call.Store → HasFailed (state g.S.Store c.args.conn.now) (state g.S.Store c.read.new.conn) = λ store. absurd (no_store c.in_err-rows_in.field-0.0 memory store) in
           search rules;
     }

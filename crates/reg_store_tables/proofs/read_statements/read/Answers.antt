@@ -25,7 +25,7 @@ returns-in_err-query_all-clause-reads g c reading =
       rows = λ register clean. gives_none _ _ c.from_residual.ensures.0;
       fails = λ asked register clean.
           let before : HasCleanDisk (state g.S.Store c.args.conn.now) = omega (arith, c.query_all.ensures.survives.clean) in
-          let told : database_fault_of c.in_err-query_all.field-0.0 ≡ Store → HasFailed (state g.S.Store c.args.conn.now) (state g.S.Store c.query_all.new.self) =
+          let has_failed : database_fault_of c.in_err-query_all.field-0.0 ≡ Store → HasFailed (state g.S.Store c.args.conn.now) (state g.S.Store c.query_all.new.self) =
           λ store. fails_by c.args.sql.now (bound c.args.params.now) reading asked old new _ (register before) store (c.in_err-query_all.ensures.err clean) in
           search rules;
     }

@@ -11,5 +11,5 @@ returns-clause-ok g c =
       refl,
       answers_meet g.M.Office.Office.is_clean g.M.Office.Office.stands g.M.Office.Office.signs c.in-Ok.now c.args.self.now.admission _ c.args.self.now.is_open _ _
           (AnsweredAtSomePath g.M.Machine.signer_answered) (λ identity message answer given form. g.met.M.Machine.answer_in_form_signs identity given.0 message answer given.1 form)
-          (collected_bytes c.args.request.now) g.M.Machine.clock_reached begun (outcome_of c.answer_http-begun.result) recounted _ c.in-Ok.ensures.told counted moves,
+          (collected_bytes c.args.request.now) g.M.Machine.clock_reached begun (outcome_of c.answer_http-begun.result) recounted _ c.in-Ok.ensures.by_clock counted moves,
     )

@@ -19,6 +19,6 @@ returns-clause-ok g c =
         follows g.M.Office.Office.is_clean g.M.Office.Office.stands
             (λ identity before after. AnswersLinesAt accepted g.M.Office.Office.signs c.in-Ok.now identity before (pieces bytes) replies.text.items after)
             (λ identity before after. AnswersLinesByClock accepted g.M.Office.Office.signs g.M.Machine.clock_reached identity before bytes replies.text.items after)
-            (λ identity before after said. (c.in-Ok.now, c.in-Ok.ensures.told, said)) _ _ c.answer_first_lines-replies.ensures.moves,
+            (λ identity before after said. (c.in-Ok.now, c.in-Ok.ensures.by_clock, said)) _ _ c.answer_first_lines-replies.ensures.moves,
       ),
     )

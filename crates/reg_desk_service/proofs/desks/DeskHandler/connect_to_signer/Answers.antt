@@ -5,5 +5,5 @@ use Rattle.reg_desk_service.proofs.desks.DeskHandler.connect_to_signer.Goals as 
 
 pub returns-in-Some : goal.returns-in-Some
 returns-in-Some g c =
-    let told = rw c.in-Some.is at c.socket_of.ensures in
-    asked_at _ c.in-Some.socket.now g.M.Machine.reached (λ path. IsSignatureRequest path []) c.connect_to_signer.result told c.connect_to_signer.ensures.reached c.connect_to_signer.ensures.kept
+    let socket_is = rw c.in-Some.is at c.socket_of.ensures in
+    asked_at _ c.in-Some.socket.now g.M.Machine.reached (λ path. IsSignatureRequest path []) c.connect_to_signer.result socket_is c.connect_to_signer.ensures.reached c.connect_to_signer.ensures.kept

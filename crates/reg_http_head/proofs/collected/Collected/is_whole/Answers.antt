@@ -2,12 +2,12 @@ use Rattle.std.proofs.Common.{◌≤◌, ◌<◌, arith, length}
 use Rattle.std.proofs.Math.Logic.{∥∥₁_map}
 use Rattle.std.proofs.lemmas.Bool.{leb-true, leb-false}
 use Rattle.reg_http_head.specs.Bytes.{collected_bytes}
-use Rattle.reg_http_head.proofs.CollectLemmas.{known_of_told, whole_of_refused, whole_of_needs, unfinished_of_no_end, unfinished_of_needs}
+use Rattle.reg_http_head.proofs.CollectLemmas.{known_of_all, whole_of_refused, whole_of_needs, unfinished_of_no_end, unfinished_of_needs}
 use Rattle.reg_http_head.proofs.collected.Collected.is_whole.Goals as goal
 
 pub invariant_of-self : goal.invariant_of-self
 invariant_of-self c = record {
-  is_known = ∥∥₁_map (rw c.as_slice.ensures.value at c.scan_all-self.ensures) (known_of_told c.args.self.now.bytes.items c.scan_all-self.result);
+  is_known = ∥∥₁_map (rw c.as_slice.ensures.value at c.scan_all-self.ensures) (known_of_all c.args.self.now.bytes.items c.scan_all-self.result);
 }
 
 pub returns-in-NoHeadEnd-clause-unfinished : goal.returns-in-NoHeadEnd-clause-unfinished

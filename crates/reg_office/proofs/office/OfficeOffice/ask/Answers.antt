@@ -29,7 +29,7 @@ returns-then-lt-clause-looks g c =
     let below : c.args.now < clock_end = search rules in
     let decides = c.answer.ensures in
     office_looks g.C.Store g.S.Signer _ _ _ _ (lent c.deref_mut.ensures.shows decides.looks) refl
-    (λ records sound told. is_answered records c.args.now c.args.query.now _ below decides.faults told)
+    (λ records sound reported. is_answered records c.args.now c.args.query.now _ below decides.faults reported)
 
 pub returns-then-lt-clause-asks : goal.returns-then-lt-clause-asks
 returns-then-lt-clause-asks g c =

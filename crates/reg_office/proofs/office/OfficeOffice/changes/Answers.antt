@@ -7,10 +7,10 @@ use Rattle.reg_office.proofs.office.OfficeOffice.changes.Goals as goal
 
 pub returns-clause-looked : goal.returns-clause-looked
 returns-clause-looked g c =
-    let Told : Records → Type 0 = λ records. HasChanges records c.args.after.now c.changes_in.result in
-    office_looks g.C.Store g.S.Signer _ _ Told Told (lent c.deref_mut.ensures.shows c.changes_in.ensures.looks) refl (λ records sound told. told)
+    let IsSo : Records → Type 0 = λ records. HasChanges records c.args.after.now c.changes_in.result in
+    office_looks g.C.Store g.S.Signer _ _ IsSo IsSo (lent c.deref_mut.ensures.shows c.changes_in.ensures.looks) refl (λ records sound it. it)
 
 pub returns-clause-looks : goal.returns-clause-looks
 returns-clause-looks g c =
-    let Told : Records → Type 0 = λ records. HasChanges records c.args.after.now c.changes_in.result in
-    office_leads g.C.Store g.S.Signer _ _ Told (λ signers before after. Told before × (after ≡ before)) (returns-clause-looked g c) (λ records told. (told, refl))
+    let IsSo : Records → Type 0 = λ records. HasChanges records c.args.after.now c.changes_in.result in
+    office_leads g.C.Store g.S.Signer _ _ IsSo (λ signers before after. IsSo before × (after ≡ before)) (returns-clause-looked g c) (λ records it. (it, refl))

@@ -7,7 +7,7 @@ use Rattle.reg_office.proofs.office.OfficeOffice.ocsp.Goals as goal
 pub returns-in_err-response-clause-looks : goal.returns-in_err-response-clause-looks
 returns-in_err-response-clause-looks g c =
     then_signed g.C.Store g.S.Signer _ _ _ _ c.begin_ocsp.ensures.looks refl refl
-    (λ records told. gives_nothing _ _ c.from_residual.result c.from_residual.ensures.1)
+    (λ records reported. gives_nothing _ _ c.from_residual.result c.from_residual.ensures.1)
 
 pub returns-in_err-response-clause-answers : goal.returns-in_err-response-clause-answers
 returns-in_err-response-clause-answers g c =
@@ -17,7 +17,7 @@ pub returns-in-Ready-clause-looks : goal.returns-in-Ready-clause-looks
 returns-in-Ready-clause-looks g c =
     let response = c.in-Ready.response in
     then_signed g.C.Store g.S.Signer _ _ _ _ (rw c.in-Ready.is at c.in_ok-response.ensures.looks) refl refl
-    (λ records told. replied g.S.Signer.signs _ records c.args.now c.args.request.now response.kind response.bytes.items told)
+    (λ records reported. replied g.S.Signer.signs _ records c.args.now c.args.request.now response.kind response.bytes.items reported)
 
 pub returns-in-Ready-clause-answers : goal.returns-in-Ready-clause-answers
 returns-in-Ready-clause-answers g c =

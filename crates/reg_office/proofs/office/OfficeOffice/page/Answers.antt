@@ -9,7 +9,7 @@ pub returns-clause-looks : goal.returns-clause-looks
 returns-clause-looks g c =
     let decides = c.page.ensures in
     office_looks g.C.Store g.S.Signer _ _ _ (λ records. IsPageOfSoundRows records c.args.now c.args.most c.args.from c.page.result) (lent c.deref_mut.ensures.shows decides.looks) refl
-    (λ records sound told. (sound, paged records c.args.now c.args.most c.args.from c.page.result decides.faults told))
+    (λ records sound reported. (sound, paged records c.args.now c.args.most c.args.from c.page.result decides.faults reported))
 
 pub returns-clause-pages : goal.returns-clause-pages
 returns-clause-pages g c =

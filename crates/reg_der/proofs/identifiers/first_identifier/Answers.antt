@@ -1,6 +1,6 @@
 use Rattle.std.proofs.Common.{arith, ap, length}
 use Rattle.reg_der.proofs.ValueLemmas.{length-tlv_at_least}
-use Rattle.reg_der.proofs.identifiers.first_element.Goals as goal
+use Rattle.reg_der.proofs.identifiers.first_identifier.Goals as goal
 
 pub returns-clause-shorter : goal.returns-clause-shorter
 returns-clause-shorter c =

@@ -1,5 +1,5 @@
 use Rattle.std.proofs.Common.{None, refl}
-use Rattle.reg_desk_program.proofs.host.HostMachine.create_in.Goals as goal
+use Rattle.reg_desk_program.proofs.host.SystemHostMachine.create_in.Goals as goal
 
 pub returns-in-Ok-clause-made : goal.returns-in-Ok-clause-made
 returns-in-Ok-clause-made c =

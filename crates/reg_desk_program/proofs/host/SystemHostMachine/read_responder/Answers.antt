@@ -1,4 +1,4 @@
-use Rattle.reg_desk_program.proofs.host.HostMachine.read_responder.Goals as goal
+use Rattle.reg_desk_program.proofs.host.SystemHostMachine.read_responder.Goals as goal
 
 pub returns-in-Issuer-clause-certified : goal.returns-in-Issuer-clause-certified
 returns-in-Issuer-clause-certified c = rw c.in-Issuer.is c.issuer_responder.ensures.ok

@@ -1,4 +1,4 @@
-use Rattle.reg_desk_program.proofs.host.HostMachine.open_in.Goals as goal
+use Rattle.reg_desk_program.proofs.host.SystemHostMachine.open_in.Goals as goal
 
 pub returns-in-Ok-clause-opened : goal.returns-in-Ok-clause-opened
 returns-in-Ok-clause-opened c = record { opens = c.in-Ok.ensures.opened; answers = c.in-Ok.ensures.responder }
