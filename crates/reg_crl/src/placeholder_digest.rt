@@ -21,6 +21,8 @@ impl Signer for DigestSeal {
 
     ghost signs = { λ _ message signature. signature ≡ sha1 message };
 
+    ghost forms = { λ _ message signature. signature ≡ sha1 message };
+
     ghost failure_count = { λ _. 0 };
 
     #[tactic(auto, using(crate::proofs::Algorithms::sha1_algorithm_is), unfolding(reg_der::specs::Der::tlv, reg_der::specs::Der::length_octets))]
@@ -37,6 +39,10 @@ impl Signer for DigestSeal {
     }
 
     fn reset_backoff(&mut self) {}
+
+    fn has_form(&self, message: &[u8], signature: &[u8]) -> bool {
+        signature == Sha1::digest(message).as_slice()
+    }
 
     fn failures(&self) -> u64 {
         0

@@ -37,6 +37,7 @@ impl From<SignFault> for Fault {
 /// A signer has one algorithm, and one key or none ([`crate::DigestSeal`], which gives a placeholder digest). No call changes algorithm or key.
 pub trait Signer {
     ghost use Rattle.std.specs.Prelude.{ℕ, List};
+    ghost use Rattle.std.specs.Bool.{OnTrue};
     ghost use Rattle.reg_crl.specs.Signing.{Identity, IsAlgorithm};
     ghost use Rattle.reg_crl.specs.Signatures.{SignsOrFails};
 
@@ -44,6 +45,9 @@ pub trait Signer {
 
     // `signs identity message signature`: with this identity (algorithm and public key), the message has this signature.
     ghost signs: { Identity → List ℕ → List ℕ → Type 0 };
+
+    // `forms identity message signature`: the signature has the form of a signature of the message by this identity. Its key may not have made it.
+    ghost forms: { Identity → List ℕ → List ℕ → Type 0 };
 
     ghost failure_count: { Self → ℕ };
 
@@ -65,6 +69,10 @@ pub trait Signer {
     fn reset_backoff(&mut self)
         ensures same_identity { identity self.new ≡ identity self.old }
         ensures same_failures { failure_count self.new ≡ failure_count self.old };
+
+    /// Whether the signature, which another program gave, has the form of one of the message by this signer's algorithm and key. It is not verified.
+    fn has_form(&self, message: &[u8], signature: &[u8]) -> bool
+        ensures { OnTrue result (forms (identity self.now) message.now signature.now) };
 
     /// How many failures of the device the signer has counted.
     fn failures(&self) -> u64

@@ -14,3 +14,9 @@ abbrev pub SignsByKeyOrDigest : (List ℕ → List ℕ → List ℕ → Type 0) 
 SignsByKeyOrDigest answers identity message signature =
     ((identity ≡ digest) × (signature ≡ sha1 message))
     ⊎ (answers identity.public_key message signature × HasForm identity signature)
+
+-- Either the identity is that of a signer without a key, and the signature is the SHA-1 of the message; or the signature has the form of one by the
+-- identity's algorithm and key.
+abbrev pub FormsByKeyOrDigest : Identity → List ℕ → List ℕ → Type 0
+FormsByKeyOrDigest identity message signature =
+    ((identity ≡ digest) × (signature ≡ sha1 message)) ⊎ HasForm identity signature

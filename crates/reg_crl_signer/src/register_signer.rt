@@ -54,12 +54,14 @@ impl<D: Device + Drop> RegisterSigner<D> {
 
 impl<D: Device + Drop> Signer for RegisterSigner<D> {
     ghost use Rattle.std.specs.Prelude.{◌≡◌, None, IfOk, IfSome, OnOk};
-    ghost use Rattle.reg_crl_signer.specs.KeyOrDigestSignatures.{SignsByKeyOrDigest};
+    ghost use Rattle.reg_crl_signer.specs.KeyOrDigestSignatures.{FormsByKeyOrDigest, SignsByKeyOrDigest};
     ghost use Rattle.reg_crl_signer.specs.RegisterSigners.{HasNoSigner, SigningByRegisterSigner, register_signer_identity, register_signer_failures, register_signer_path, key_of};
 
     ghost identity = { register_signer_identity D.Device };
 
     ghost signs = { SignsByKeyOrDigest D.answers };
+
+    ghost forms = { FormsByKeyOrDigest };
 
     ghost failure_count = { register_signer_failures D.Device };
 
@@ -99,6 +101,14 @@ impl<D: Device + Drop> Signer for RegisterSigner<D> {
             RegisterSigner::Key(signer) => signer.reset_backoff(),
             RegisterSigner::Digest(_) => {}
             RegisterSigner::NoSigner(_, _) => {}
+        }
+    }
+
+    fn has_form(&self, message: &[u8], signature: &[u8]) -> bool {
+        match self {
+            RegisterSigner::Key(signer) => signer.has_form(message, signature),
+            RegisterSigner::Digest(digest) => digest.has_form(message, signature),
+            RegisterSigner::NoSigner(digest, _) => digest.has_form(message, signature),
         }
     }
 

@@ -7,6 +7,7 @@ ghost use Rattle.reg_crl_signer.specs.PresetSignature.{IsPreset};
 
 use crate::algorithm::Algorithm;
 use crate::device::Device;
+use crate::forms::has_form;
 use crate::preset_signature::{PresetSignature, answer_to};
 use reg_crl::{SignFault, Signer};
 use std::alloc::Global;
@@ -129,10 +130,13 @@ impl<D: Device + Drop> DeviceSigner<D> {
 
 impl<D: Device + Drop> Signer for DeviceSigner<D> {
     ghost use Rattle.reg_crl_signer.specs.DeviceSigners.{AsksAtItsPath, SigningByDevice, SignsByDevice, device_identity};
+    ghost use Rattle.reg_crl_signer.specs.Forms.{HasForm};
 
     ghost identity = { device_identity D.Device };
 
     ghost signs = { SignsByDevice D.Device };
+
+    ghost forms = { λ identity _ signature. HasForm identity signature };
 
     ghost failure_count = { λ it. it.failures };
 
@@ -156,6 +160,14 @@ impl<D: Device + Drop> Signer for DeviceSigner<D> {
 
     fn reset_backoff(&mut self) {
         self.device.reset_backoff();
+    }
+
+    fn has_form(&self, message: &[u8], signature: &[u8]) -> bool {
+        has_form(
+            self.algorithm.identifier(),
+            self.device.public_key(),
+            signature,
+        )
     }
 
     fn failures(&self) -> u64 {

@@ -40,6 +40,13 @@ module _ {C : Type 0} (g : Ghosts C) (connection opened after held : Held C) (is
       subst P (sym is)
       (survives_then (state g connection) (state g opened) (state g after) Made (λ _. ⊥) Made (λ clean trees made. made) (λ clean trees none. absurd none) first second)
 
+  -- what the connection showed, the store shows, with derived tables that match it
+  pub shown_kept : (records : Records) → (ShowsKept g connection records → ShowsKept g opened records)
+      → ((version : OlderVersion) → ShowsOlder version g connection records → SoundRows records → ShowsKept g opened records)
+      → Showed g connection records → ShowsKept g opened records
+  shown_kept records kept migrated (inl now) = kept now
+  shown_kept records kept migrated (inr (version, older, sound)) = migrated version older sound
+
   -- what the connection showed, the store shows
   pub shown : (records : Records) → (ShowsKept g connection records → ShowsKept g opened records)
       → ((version : OlderVersion) → ShowsOlder version g connection records → SoundRows records → ShowsKept g opened records)

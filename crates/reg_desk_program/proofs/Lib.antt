@@ -2,6 +2,7 @@ pub mod Audits
 pub mod Clean
 pub mod Holding
 pub mod AlgorithmMismatches
+pub mod Migrated
 pub mod Missing
 pub mod Opened
 pub mod OpeningFaults

@@ -56,11 +56,9 @@ module _ {C : Type 0} (g : Ghosts C) (connection : Held C) where
   -- A register that was opened over it has the records that the tables showed, also those of an older version. The signer of CRLs is the given one,
   -- or one with the algorithm of the latest CRL if nothing is to be signed. It has the issuer's key, and the algorithm of the latest CRL unless
   -- that has a placeholder digest. A certificate that is embedded in OCSP responses signed with the issuer's key has that key. A stop leaves
-  -- the records that the tables showed, if they are of this version, and the database was complete (`IsWhole`).
+  -- the records that the tables showed, if the database was complete (`IsWhole`).
   pub record OpensOver (signing : CrlSignerChoice) (register : Held C) (signers : OfficeSigners) : Type 0 where
-    pub kept : (records : Records) → ShowsKept g connection records → ShowsKept g register records
-    pub migrated : (version : OlderVersion) (records : Records) → ShowsOlder version g connection records
-        → SoundRows records → ShowsKept g register records
+    pub shows : (records : Records) → Showed g connection records → ShowsKept g register records
     pub clean : doubt (state g connection).is_clean ≤ doubt (state g register).is_clean
     pub is_signing : (records : Records) → Showed g connection records → HasCleanDisk (state g register)
         → IsSigning signing records.issuer.key signers.crls
@@ -69,8 +67,7 @@ module _ {C : Type 0} (g : Ghosts C) (connection : Held C) where
         → Follows records signers.crls.algorithm
     pub embeds : (records : Records) → Showed g connection records → HasCleanDisk (state g register)
         → EmbeddedKeyFits records.issuer.key signers.answers
-    pub leaves : IsWhole → (records : Records) → ShowsKept g connection records
-        → LeavesThese g register records
+    pub leaves : IsWhole → (records : Records) → Showed g connection records → LeavesThese g register records
 
   -- In a register that was created over it these records stand, and a stop leaves them. The database had no table, index or view.
   pub record MakesOver (signs : Signs) (register : Held C) (signers : Identity)

@@ -17,8 +17,7 @@ use Rattle.reg_office.specs.Calls.{StandsFor, StandsWith}
 use Rattle.reg_office.specs.InterruptedCalls.{InterruptsOneOfThem, InterruptsOnlyItself}
 use Rattle.reg_office.specs.OpenedAgain.{OpensReported}
 use Rattle.reg_office.specs.Stands.{SoundFor, Stands}
-use Rattle.reg_store_tables.specs.Kept.{ShowsKept}
-use Rattle.reg_desk_program.specs.Files.{IsOpenedFrom}
+use Rattle.reg_desk_program.specs.Files.{IsOpenedFrom, Showed}
 
 -- The files of an open connection were closed, perhaps the machine stopped then, and what the files have was opened. `copied` is a clause of
 -- `Connection::close_files` in the crate `sqlite`, and `found` and `opened` are clauses of `Connection::open_files`, if the disk returned what was
@@ -31,14 +30,15 @@ pub record IsReopened {D : Type 0} {g : disk.Ghosts D} (held again : Held (FileS
   pub found : Finds files again
   pub opened : IsOpened again
 
--- An office is a store and its signers. In an office that is opened, the sound records stand that the file's tables showed in this version, and no
--- call was interrupted (`begins`). The machine may stop in any later call, or after it. A call that is executed over an open connection interrupts
--- only itself (`call`), and of calls one after another only one is interrupted (`calls`). If a register is then opened again, it has the records that
--- stood in the office, or those after the interrupted call (`leaves`). A closing in order leaves the records that stood (`closes`).
+-- An office is a store and its signers. In an office that is opened, the sound records stand that the file's tables showed, also those of an older
+-- version, and no call was interrupted (`begins`). The machine may stop in any later call, or after it. A call that is executed over an open
+-- connection interrupts only itself (`call`), and of calls one after another only one is interrupted (`calls`). If a register is then opened again,
+-- it has the records that stood in the office, or those after the interrupted call (`leaves`). A closing in order leaves the records that stood
+-- (`closes`).
 pub record LeavesWhatWasReported {D : Type 0} (g : disk.Ghosts D) (signs : Signs) : Type 0 where
   pub begins : (signing : CrlSignerChoice) (office : Held (FileStore D g) × OfficeSigners)
       (opened : IsOpenedFrom signing office.0 office.1) (records : Records)
-      → ShowsKept over_files opened.connection records → SoundFor signs office.1.crls records
+      → Showed over_files opened.connection records → SoundFor signs office.1.crls records
       → StandsWith over_files signs office office.1 records None
   pub call : InterruptsOnlyItself (over_files {D = D} {g = g}) signs
   pub calls : InterruptsOneOfThem (over_files {D = D} {g = g}) signs

@@ -1,12 +1,12 @@
 //! The office of a register in a file.
 
 use reg_core::{Command, Fault, Label, Memory, Moment, Outcome, Query, Schedule, Serial};
-use reg_core_lists::{Cursor, Page, Positions};
+use reg_core_lists::{Cursor, Page, Positions, ReceivedPage};
 use reg_crl_signer::{BackoffDevice, RegisterSigner, SocketDevice, UnixConnection};
 use reg_io::ReadyOrUnsigned;
 use reg_ocsp::Draft;
 use reg_office::Office;
-use reg_office_api::{Changes, OcspResponse, RegisterSummary, RequestLoad};
+use reg_office_api::{Changes, FollowFault, OcspResponse, RegisterSummary, RequestLoad};
 use sqlite::{FileFrom, FileStore};
 use sqlite_disk::Unknown;
 use std::alloc::Global;
@@ -33,6 +33,8 @@ impl reg_office_api::Office for FileOffice {
     ghost stands = { λ signers it records. ⟦<OfficeInFile as reg_office_api::Office>⟧.stands signers it.office records };
 
     ghost signs = { ⟦<OfficeInFile as reg_office_api::Office>⟧.signs };
+
+    ghost forms = { ⟦<OfficeInFile as reg_office_api::Office>⟧.forms };
 
     ghost failures = { λ it. ⟦<OfficeInFile as reg_office_api::Office>⟧.failures it.office };
 
@@ -81,6 +83,19 @@ impl reg_office_api::Office for FileOffice {
 
     fn changes(&mut self, alloc: Global, after: &Option<Positions>) -> Result<Changes, Fault> {
         self.office.changes(alloc, after)
+    }
+
+    fn positions(&mut self, alloc: Global) -> Result<Positions, Fault> {
+        self.office.positions(alloc)
+    }
+
+    fn follow(
+        &mut self,
+        alloc: Global,
+        from: &Positions,
+        pages: &[ReceivedPage],
+    ) -> Result<Positions, FollowFault> {
+        self.office.follow(alloc, from, pages)
     }
 
     fn summary(&mut self) -> Result<RegisterSummary, Fault> {

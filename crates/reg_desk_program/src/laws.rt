@@ -29,7 +29,7 @@ pub fn without_a_key_only_digests_are_made<D: Device>()
 /// the job closed the register without an error, it has those that the replies reported. `begins` and so on are fields of `LeavesWhatWasReported`.
 ///
 /// From the opening of a register to its closing, a job ([`perform`](crate::perform)) changes its records only as the replies report (`UsesRegister`
-/// of reg_desk_service). A register of this program's version that is opened has the sound records that its file showed (`begins`). The machine may
+/// of reg_desk_service). A register that is opened has the sound records that its file showed, also in an older version (`begins`). The machine may
 /// stop in any later call, or after it. Then the disk refuses each call, and no client gets a reply: a reply is written only after its call. A
 /// register that is opened again from what the disk kept has the records from before the interrupted call, or those after it (`leaves`). The
 /// interrupted call is the last one (`call`), or an earlier one in which a failure of the disk closed the connection, so that no later call changed

@@ -30,7 +30,7 @@ use Rattle.reg_office.proofs.Following.{step_keeps_sound_for}
 
 module _ {C : Type 0} (g : Ghosts C) (signs : Identity → List ℕ → List ℕ → Type 0) (identity : Identity) where
   -- what stands in a transaction that is still under way after a look-up is shown until its end
-  until_end : (old mid : Held C) (records : Records) → mid.in_transaction ≡ true → StandsWithin signs identity (state g old) records → ShowsKeptUntil g old mid records
+  pub until_end : (old mid : Held C) (records : Records) → mid.in_transaction ≡ true → StandsWithin signs identity (state g old) records → ShowsKeptUntil g old mid records
   until_end old mid records under stands =
       (stands.columns, record { saved = λ idle. absurd (false≢true (sym idle ∙ under)); tables = λ clean up. stands.both }, stands.kept)
 

@@ -14,13 +14,13 @@ use Rattle.reg_core_laws.proofs.PublicLaws.{next_is}
 use Rattle.reg_office.specs.Stands.{SoundFor}
 
 -- what is signed goes by the issuer's Name and by the key identifier that a CRL of this number has
-same_tbs : (a b : Issuer) (algorithm : List ℕ) (number this_update next_update : ℕ) (entries : List Entry) → name_of a ≡ name_of b → key_identifier a number ≡ key_identifier b number
+pub same_tbs : (a b : Issuer) (algorithm : List ℕ) (number this_update next_update : ℕ) (entries : List Entry) → name_of a ≡ name_of b → key_identifier a number ≡ key_identifier b number
     → tbs_cert_list a algorithm number this_update next_update entries ≡ tbs_cert_list b algorithm number this_update next_update entries
 unfolding tbs_cert_list crl_extensions
 same_tbs a b algorithm number this_update next_update entries name identifier = rw (name, identifier) refl
 
 -- that key identifier is the issuer's own, or follows from its key
-same_identifier : (a b : Issuer) (number : ℕ) → key_identifier_at a number ≡ key_identifier_at b number → a.key ≡ b.key → key_identifier a number ≡ key_identifier b number
+pub same_identifier : (a b : Issuer) (number : ℕ) → key_identifier_at a number ≡ key_identifier_at b number → a.key ≡ b.key → key_identifier a number ≡ key_identifier b number
 same_identifier a b number own key = rw (own, key) refl
 
 module _ (signs : Identity → List ℕ → List ℕ → Type 0) (identity : Identity) (records : Records) (octets : List ℕ)

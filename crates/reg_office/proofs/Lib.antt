@@ -6,8 +6,14 @@ pub mod Beginning
 pub mod Composing
 pub mod CommandsRun
 pub mod Deciding
+pub mod DeclinedTwice
 pub mod Facts
 pub mod FeedPages
+pub mod FollowCalls
+pub mod FollowDeclines
+pub mod FollowLookUps
+pub mod FollowStops
+pub mod FollowedPages
 pub mod Following
 pub mod Identified
 pub mod Interrupting
@@ -15,8 +21,11 @@ pub mod Issuing
 pub mod Leading
 pub mod Leaving
 pub mod Looking
+pub mod NewIssuer
 pub mod OpenedAgain
 pub mod Paging
+pub mod ReplayedRows
+pub mod Replaying
 pub mod Responding
 pub mod Setting
 pub mod ListedRows

@@ -17,7 +17,7 @@ use Rattle.sqlite_schema.specs.declared.schema.Schema.{Schema}
 use Rattle.reg_store.proofs.PublicLaws.{shows_again}
 use Rattle.reg_store_tables.specs.Schema.{register_schema}
 use Rattle.reg_store_tables.specs.AfterStop.{HaveRegisterSchema, ShowsDerivedAfterStop}
-use Rattle.reg_office.specs.AfterStoppedCommand.{ChangingCall, IsCallDone, IsDone, IsNext, ShowsPrefix, LeavesReported, batch_call, command_call, schedule_call, identifier_call}
+use Rattle.reg_office.specs.AfterStoppedCommand.{ChangingCall, IsCallDone, IsDone, IsNext, ShowsPrefix, LeavesReported, batch_call, command_call, follow_call, schedule_call, identifier_call}
 use Rattle.reg_office.specs.OpenedAgain.{OpensReported, ShowsAccepted, ShowsCallDone, StandsPartlyRun}
 use Rattle.reg_office.specs.Stands.{SoundFor, Stands}
 
@@ -61,6 +61,8 @@ module _ {C : Type 0} (g : Ghosts C) (signs : Identity → List ℕ → List ℕ
   shows_call records (command_call now command) schema it = stands_done records now command it
   shows_call records (batch_call commands) schema it =
       (it.outcomes, record { after = it.after; run = it.run; stands = record { shown = shows_again g again opens live it.after (it.rests schema); sound = it.sound } })
+  shows_call records (follow_call pages) schema it =
+      (it.reached, it.after, it.follows, record { shown = shows_again g again opens live it.after (it.rests schema); sound = it.sound })
   shows_call records (schedule_call steps) schema rests = shows_again g again opens live (with_schedule records steps) rests
   shows_call records (identifier_call octets) schema rests = shows_again g again opens live (with_key_identifier records octets) rests
 

@@ -10,7 +10,10 @@ use Rattle.reg_core.specs.Records.{Records}
 use Rattle.reg_core.specs.declared.command.Command.{Command}
 use Rattle.reg_core.specs.declared.command.Reply.{Reply}
 use Rattle.reg_core.specs.declared.refusal.Fault.{Fault}
+use Rattle.reg_core_lists.specs.declared.feed_reader.ReceivedPage.{ReceivedPage}
+use Rattle.reg_core_lists.specs.declared.positions.Positions.{Positions}
 use Rattle.reg_crl.specs.Signing.{Identity, signed_by}
+use Rattle.reg_office_api.specs.Follows.{FollowsPages}
 use Rattle.reg_office_api.specs.Signers.{Signs}
 use Rattle.reg_der.specs.Issuers.{with_key_identifier}
 use Rattle.reg_store_tables.specs.Kept.{ShowsKept}
@@ -42,6 +45,16 @@ pub record IsBatchDone (signs : Signs) (identity : Identity) (records : Records)
   pub outcomes : List (Result Reply Fault)
   pub after : Records
   pub run : Run (signed_by signs identity) records commands outcomes after
+  pub sound : SoundFor signs identity after
+  pub rests : HaveRegisterSchema trees → ShowsDerivedAfterStop after trees
+
+-- the pages were entered over `records`, and the rows, if they are those of a register's tables, show the records after them, which are sound for the
+-- office's signer
+pub record IsFollowDone (signs : Signs) (identity : Identity) (records : Records) (pages : List ReceivedPage)
+    (trees : Trees) : Type 0 where
+  pub reached : Positions
+  pub after : Records
+  pub follows : FollowsPages pages reached records after
   pub sound : SoundFor signs identity after
   pub rests : HaveRegisterSchema trees → ShowsDerivedAfterStop after trees
 
@@ -114,19 +127,23 @@ LeavesThese g held records =
     HasCleanDisk (state g held) → (trees : Trees) → (state g held).may_leave trees
     → ShowsDerivedAfterStop records trees
 
--- a call that may change the records: a command at a moment, commands in one transaction, or the setting of a schedule or of a key identifier
+-- a call that may change the records: a command at a moment, commands or pages of another register's feed in one transaction, or the setting of a
+-- schedule or of a key identifier
 pub data ChangingCall : Type 0 where
   command_call : ℕ → Command → ChangingCall
   batch_call : List (ℕ × Command) → ChangingCall
+  follow_call : List ReceivedPage → ChangingCall
   schedule_call : List (ℕ × ℕ) → ChangingCall
   identifier_call : List ℕ → ChangingCall
 
--- the rows show the records after the call: after an accepted command, after a batch, or with this schedule or this key identifier
+-- the rows show the records after the call: after an accepted command, a batch or pages, or with this schedule or this key identifier
 abbrev pub IsCallDone : Signs → Identity → Records → ChangingCall → Trees → Type 0
 IsCallDone signs identity records (command_call now command) trees =
     IsDone signs identity records now command trees
 IsCallDone signs identity records (batch_call commands) trees =
     IsBatchDone signs identity records commands trees
+IsCallDone signs identity records (follow_call pages) trees =
+    IsFollowDone signs identity records pages trees
 IsCallDone signs identity records (schedule_call steps) trees =
     ShowsDerivedAfterStop (with_schedule records steps) trees
 IsCallDone signs identity records (identifier_call octets) trees =

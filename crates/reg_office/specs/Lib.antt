@@ -14,5 +14,6 @@ pub mod Issuing
 pub mod ListById
 pub mod Looking
 pub mod OpenedAgain
+pub mod Replays
 pub mod Shown
 pub mod Stands

@@ -8,13 +8,15 @@ use Rattle.reg_core.specs.Records.{Records}
 use Rattle.reg_core.specs.declared.command.Command.{Command}
 use Rattle.reg_core.specs.declared.command.Reply.{Reply}
 use Rattle.reg_core.specs.declared.refusal.Fault.{Fault}
+use Rattle.reg_core_lists.specs.declared.positions.Positions.{Positions}
 use Rattle.reg_crl.specs.Signing.{Identity}
+use Rattle.reg_office_api.specs.Follows.{FollowsPages}
 use Rattle.reg_office_api.specs.Signers.{Signs}
 use Rattle.reg_der.specs.Issuers.{with_key_identifier}
 use Rattle.reg_store.specs.OpenedAgain.{IsOpenedAgain}
 use Rattle.reg_store_tables.specs.Kept.{ShowsKept}
 use Rattle.reg_store_tables.specs.Schema.{register_schema}
-use Rattle.reg_office.specs.AfterStoppedCommand.{AreRunByOne, ChangingCall, Does, PartlyRun, batch_call, command_call, schedule_call, identifier_call}
+use Rattle.reg_office.specs.AfterStoppedCommand.{AreRunByOne, ChangingCall, Does, PartlyRun, batch_call, command_call, follow_call, schedule_call, identifier_call}
 use Rattle.reg_office.specs.Stands.{Stands, HasOutcome, HasRun}
 
 -- the command was accepted over the records, and the store shows the records after it
@@ -53,12 +55,15 @@ OpensAfterAPrefix {C = C} g signs =
 
 -- ---- over any calls
 
--- the store shows the records after the call: after an accepted command, after a batch, or with this schedule or this key identifier
+-- the store shows the records after the call: after an accepted command, a batch or pages, or with this schedule or this key identifier
 abbrev pub ShowsCallDone : {C : Type 0} → Ghosts C → Signs → Held C → Identity → Records → ChangingCall → Type 0
 ShowsCallDone g signs held identity records (command_call now command) =
     ShowsAccepted g signs held identity records now command
 ShowsCallDone g signs held identity records (batch_call commands) =
     (outcomes : List (Result Reply Fault)) × HasRun g signs held identity records commands outcomes
+ShowsCallDone g signs held identity records (follow_call pages) =
+    (reached : Positions) × (after : Records) × FollowsPages pages reached records after
+    × Stands g signs held identity after
 ShowsCallDone g signs held identity records (schedule_call steps) =
     ShowsKept g held (with_schedule records steps)
 ShowsCallDone g signs held identity records (identifier_call octets) =

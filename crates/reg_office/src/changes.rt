@@ -216,7 +216,7 @@ fn der_of<C: Alter>(tables: &mut Tables<C>, number: u64) -> Result<Vec<u8>, Data
 }
 
 /// The digest of positions with these counts: of issuer, counts, last rows and the last CRL's end. `changes_after` compares the copy's to it.
-fn digest_at<C: Alter>(
+pub(crate) fn digest_at<C: Alter>(
     tables: &mut Tables<C>,
     alloc: Global,
     issuer: &Issuer,

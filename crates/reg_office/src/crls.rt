@@ -77,7 +77,10 @@ fn signature_of<S: Signer>(
 }
 
 /// The row of the next CRL, and its nextUpdate; or the refusal of `crl`. `head`: now, the last accepted moment, the policy, the number of CRLs.
-fn next_row<C: Alter>(tables: &mut Tables<C>, now: Moment) -> Result<(CrlRow, Moment), Fault>
+pub(crate) fn next_row<C: Alter>(
+    tables: &mut Tables<C>,
+    now: Moment,
+) -> Result<(CrlRow, Moment), Fault>
     requires { now < clock_end }
     ensures { LooksAndDecides C.Store tables.old tables.new (λ records. refusal records now IssueCrl)
         (λ records next. IsNextOf records now next) result }
@@ -90,7 +93,7 @@ fn next_row<C: Alter>(tables: &mut Tables<C>, now: Moment) -> Result<(CrlRow, Mo
 }
 
 /// The issuer, and the entries of the CRL with this number. The CRL may be an issued one, or the next one.
-fn listed<C: Alter>(
+pub(crate) fn listed<C: Alter>(
     tables: &mut Tables<C>,
     number: u64,
 ) -> Result<(Issuer, Vec<Entry>), DatabaseFault>

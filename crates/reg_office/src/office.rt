@@ -4,6 +4,7 @@ ghost use Rattle.reg_office.specs.declared.responder.Responder.TheVariants.{Issu
 use crate::changes::changes_in;
 use crate::commands::decide;
 use crate::crls::{issue_crl, latest_der, next_message, numbered_der};
+use crate::follow::{no_page, own_positions};
 use crate::identifiers::set_key_identifier;
 use crate::ocsp_answer::{begin_ocsp, sign_draft};
 use crate::pages::page;
@@ -11,11 +12,11 @@ use crate::queries::answer;
 use crate::register_state::{last_in, longest_in, open_count_in, request_load_in, summary_in};
 use crate::responder::{Responder, failures_in};
 use reg_core::{Command, Fault, Label, Memory, Moment, Outcome, Query, Refusal, Schedule, Serial};
-use reg_core_lists::{Cursor, Page, Positions};
+use reg_core_lists::{Cursor, Page, Positions, ReceivedPage};
 use reg_crl::Signer;
 use reg_io::ReadyOrUnsigned;
 use reg_ocsp::Draft;
-use reg_office_api::{Changes, OcspResponse, RegisterSummary, RequestLoad};
+use reg_office_api::{Changes, FollowFault, OcspResponse, RegisterSummary, RequestLoad};
 use reg_store::{DatabaseFault, Store};
 use sqlite::Alter;
 use std::alloc::Global;
@@ -84,6 +85,7 @@ impl<C: Alter, S: Signer> reg_office_api::Office for Office<C, S> {
     ghost use Rattle.reg_office_api.specs.Answered.{IsAnswered, IsGiven};
     ghost use Rattle.reg_office_api.specs.CallSteps.{BatchStep, CommandStep, QueryStep, OcspStep, CrlStep};
     ghost use Rattle.reg_office_api.specs.Drafts.{BeginStep, IsSignerFailure};
+    ghost use Rattle.reg_office_api.specs.Follows.{ArePositionsOf, FollowStep, FormsSign};
     ghost use Rattle.reg_office_api.specs.Items.{items_of};
     ghost use Rattle.reg_office_api.specs.LookUps.{HasChanges, HasLastMoment, HasLongest, HasOpen, HasRequestLoad, HasSummary, IsOfStore, PageStep};
     ghost use Rattle.reg_office_api.specs.Ocsp.{IsNoOcspRequest, IsOcspReply};
@@ -102,6 +104,8 @@ impl<C: Alter, S: Signer> reg_office_api::Office for Office<C, S> {
     ghost stands = { λ signers office records. StandsFor C.Store S.signs (seen S.Signer office) signers records };
 
     ghost signs = { S.signs };
+
+    ghost forms = { S.forms };
 
     ghost failures = { λ office. S.failure_count office.signer };
 
@@ -274,6 +278,37 @@ impl<C: Alter, S: Signer> reg_office_api::Office for Office<C, S> {
         ensures faults { IfErr result IsOfStore }
     {
         changes_in(&mut self.store, alloc, after)
+    }
+
+    fn positions(&mut self, alloc: Global) -> Result<Positions, Fault>
+        ensures looks { OfficeReports C.Store S.Signer
+            (λ records. IfOk result (ArePositionsOf records)) self.old self.new }
+        ensures looked { OfficeLooks C.Store S.Signer
+            (λ records. IfOk result (ArePositionsOf records)) self.old self.new }
+        ensures faults { IfErr result IsOfStore }
+    {
+        own_positions(&mut self.store, alloc)
+    }
+
+    /// If a disk failure during the commit closes the connection, the register has all of the pages or none of them when it is opened again. Until
+    /// then no later call changes the records.
+    fn follow(
+        &mut self,
+        alloc: Global,
+        from: &Positions,
+        pages: &[ReceivedPage],
+    ) -> Result<Positions, FollowFault>
+        ensures { FormsSign S.signs S.forms → OfficeLeads C.Store S.Signer
+            (λ signers. FollowStep from.now pages.now result) self.old self.new }
+    {
+        let Some((page, earlier)) = pages.split_last() else {
+            return Err(no_page());
+        };
+        let news = self.have_news(from, earlier, page)?;
+        if news {
+            return self.follow_news(alloc, from, pages, page);
+        }
+        Ok(*from)
     }
 
     fn summary(&mut self) -> Result<RegisterSummary, Fault>

@@ -1,7 +1,9 @@
 pub mod Answered
+pub mod BrokenFeeds
 pub mod CallSteps
 pub mod Calls
 pub mod Drafts
+pub mod Follows
 pub mod Items
 pub mod Leads
 pub mod LookUps

@@ -3,12 +3,14 @@
 
 mod changes;
 mod effects;
+mod follow;
 mod office;
 mod register_summary;
 mod response;
 
 pub use changes::Changes;
 pub use effects::{LineEffects, LineReply, SignatureOutcome, StoreEffect};
+pub use follow::{BrokenFeed, FeedPart, FeedRule, FollowFault};
 pub use office::Office;
 pub use register_summary::{RegisterSummary, RequestLoad, TableSizes};
 pub use response::{OcspResponse, ResponseKind};

@@ -1,10 +1,11 @@
 //! The trait `Office`, of types that keep a register's records and sign for it. `now` is the moment of a call, an `Outcome` its reply or `Fault`.
 
 use crate::changes::Changes;
+use crate::follow::FollowFault;
 use crate::register_summary::{RegisterSummary, RequestLoad};
 use crate::response::OcspResponse;
 use reg_core::{Command, Fault, Label, Memory, Moment, Outcome, Query, Schedule, Serial};
-use reg_core_lists::{Cursor, Page, Positions};
+use reg_core_lists::{Cursor, Page, Positions, ReceivedPage};
 use reg_io::ReadyOrUnsigned;
 use reg_ocsp::Draft;
 use std::alloc::Global;
@@ -15,6 +16,7 @@ pub trait Office {
     ghost use Rattle.std.specs.Prelude.{◌≡◌, ◌≤◌, ◌<◌, ◌↔◌, ◌^◌, ℕ, List, IfErr, IfOk, IsErrOf};
     ghost use Rattle.reg_office_api.specs.CallSteps.{BatchStep, CommandStep, QueryStep, OcspStep, CrlStep};
     ghost use Rattle.reg_office_api.specs.Drafts.{BeginStep, IsSignerFailure};
+    ghost use Rattle.reg_office_api.specs.Follows.{ArePositionsOf, FollowStep, FormsSign};
     ghost use Rattle.reg_office_api.specs.Items.{items_of};
     ghost use Rattle.reg_office_api.specs.Leads.{Leads, Looks};
     ghost use Rattle.reg_office_api.specs.LookUps.{HasChanges, HasRequestLoad, HasLastMoment, HasLongest, HasOpen, HasSummary, IsOfStore, PageStep};
@@ -32,6 +34,9 @@ pub trait Office {
 
     /// `signs identity message signature`: the signer with this identity gave the signature for the message.
     ghost signs: { Identity → List ℕ → List ℕ → Type 0 };
+
+    /// `forms identity message signature`: the signature has the form of one of the message by this identity.
+    ghost forms: { Identity → List ℕ → List ℕ → Type 0 };
 
     /// How many failures the signer of the office's CRLs has counted; `answer_failures`: the signer of its OCSP answers.
     ghost failures: { Self → ℕ };
@@ -94,6 +99,25 @@ pub trait Office {
         ensures looks { Looks is_clean stands (λ records. HasChanges records after.now result)
             self.old self.new }
         ensures faults { IfErr result IsOfStore };
+
+    /// The positions of this register in its own changes feed. The call goes through the declined requests. Errors: `Memory`, `Store`.
+    fn positions(&mut self, alloc: Global) -> Result<Positions, Fault>
+        ensures looks { Looks is_clean stands (λ records. IfOk result (ArePositionsOf records))
+            self.old self.new }
+        ensures faults { IfErr result IsOfStore };
+
+    /// Enters pages of the changes feed of a register of which this one is a copy: all rows in one transaction, in an order in which a register can
+    /// have accepted the commands that entered them. `from` has this register's positions; the pages go on from there, and the last one ends the
+    /// feed. Returns the positions after the pages. A CRL must have the octets that the records give for it, with a signature in the form of one by
+    /// the signer of CRLs, which is not asked. At an error nothing changes.
+    fn follow(
+        &mut self,
+        alloc: Global,
+        from: &Positions,
+        pages: &[ReceivedPage],
+    ) -> Result<Positions, FollowFault>
+        ensures { FormsSign signs forms → Leads is_clean stands
+            (λ signers. FollowStep from.now pages.now result) self.old self.new };
 
     /// The register's summary. Errors: `Memory`, `Store`.
     fn summary(&mut self) -> Result<RegisterSummary, Fault>

@@ -2,9 +2,9 @@
 
 ghost use Rattle.std.specs.Prelude.{◌≡◌, OnOk, not, true};
 ghost use Rattle.reg_core.specs.declared.change.Change.TheVariants.{Touch, Subscriber, Order, Certificate, Request, Decline, Revocation, Crl};
-ghost use Rattle.reg_store_changes.specs.ChangeSteps.{Enters};
+ghost use Rattle.reg_store_changes.specs.ChangeSteps.{Enters, ReplacesIssuer, WritesSchedule};
 ghost use Rattle.reg_store_changes.specs.MadeChanges.{MakesChange, SetsIssuer, SetsSchedule};
-ghost use Rattle.reg_store_changes.specs.WithinTransactions.{BeginsTransaction, EndsTransaction, MakesWithin, StepsWithin};
+ghost use Rattle.reg_store_changes.specs.WithinTransactions.{BeginsTransaction, EndsTransaction, MakesRowsWithin, MakesWithin, StepsWithin};
 
 use crate::store::Store;
 use reg_core::{
@@ -29,6 +29,25 @@ impl<S: Alter> Store<S> {
         ensures under_way { OnOk result (self.old.in_transaction ≡ true) }
     {
         reg_store_changes::enter(&mut self.tables.connection, now, change)
+    }
+
+    /// Sets the schedule of longest validities inside the transaction that is under way. Errors: those of [`reg_store_changes::enter_schedule`].
+    pub fn enter_schedule(&mut self, schedule: Schedule) -> Result<(), DatabaseFault>
+        ensures made { MakesWithin S.Store self.old self.new result (WritesSchedule schedule) }
+        ensures stepped { StepsWithin S.Store self.old self.new }
+        ensures under_way { OnOk result (self.old.in_transaction ≡ true) }
+    {
+        reg_store_changes::enter_schedule(&mut self.tables.connection, &schedule)
+    }
+
+    /// Sets the issuer's Name and key identifiers inside the transaction that is under way. The issuer must have the same key as before; the call
+    /// doesn't check it. Errors: those of [`reg_store_changes::enter_issuer`].
+    pub fn enter_issuer(&mut self, issuer: &Issuer) -> Result<(), DatabaseFault>
+        ensures made { MakesRowsWithin S.Store self.old self.new result (ReplacesIssuer issuer.now) }
+        ensures stepped { StepsWithin S.Store self.old self.new }
+        ensures under_way { OnOk result (self.old.in_transaction ≡ true) }
+    {
+        reg_store_changes::enter_issuer(&mut self.tables.connection, issuer)
     }
 
     /// Whether no transaction is under way.

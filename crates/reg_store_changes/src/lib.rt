@@ -4,6 +4,7 @@
 mod change_statements;
 mod issuer_change;
 mod schedule_change;
+mod settings;
 mod sql;
 pub mod statements;
 mod transaction;
@@ -12,5 +13,6 @@ mod writes;
 pub use change_statements::enter;
 pub use issuer_change::set_issuer;
 pub use schedule_change::set_schedule;
+pub use settings::{enter_issuer, enter_schedule};
 pub use transaction::apply;
 pub use writes::{begin, end};

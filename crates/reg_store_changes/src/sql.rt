@@ -45,4 +45,6 @@ pub(crate) const SET_LAST_LISTED: &str =
 
 pub(crate) const CLEAR_STEPS: &str = "DELETE FROM longest";
 
+pub(crate) const PUT_STEP: &str = "INSERT INTO longest (from_at, days) VALUES (?1, ?2)";
+
 pub(crate) const SET_COUNTS: &str = "UPDATE kept SET n_good = ?1, n_revoked = ?2, n_expired = ?3";

@@ -43,6 +43,7 @@ module _ {S : Type 0} {g : Ghosts S} {old mid : Held S} (leaves : LeavesNothing 
     shows = λ records. stays_shows g old mid records leaves.clean stays;
     kept = λ records. stays_kept g old mid records leaves.clean stays;
     migrated = λ version records shows sound. any_kept g mid records (never version records shows);
+    live = λ version records shows clean. absurd (never version records shows clean);
     days = λ records shows. stays_days g old mid leaves.clean stays;
     older_days = λ version records shows sound. any_days g mid (greatest_of records.policy.schedule) (never version records shows);
     registers = register;
@@ -84,6 +85,7 @@ module _ {S : Type 0} {g : Ghosts S} {old mid : Held S} (leaves : LeavesNothing 
         kept = λ records kept. any_kept g new records (never records (kept_shows g old records kept));
         migrated = λ version records shows sound. kept_whole g new records (turns done (λ db. IsShownByOlder version db records) (λ db. HasKept db records) (older_stays older says found done version records shows)
             (λ clean before after shown on. (made older says found done version records shows sound (was clean) before after shown on).0));
+        live = λ version records shows clean. (done.made clean).is_open;
         days = λ records shows days has. any_days g new days (never records shows);
         older_days = λ version records shows sound. turns done (λ db. IsShownByOlder version db records) (λ db. HasGreatestDays db records) (older_stays older says found done version records shows)
             (λ clean before after shown on. (made older says found done version records shows sound (was clean) before after shown on).1);

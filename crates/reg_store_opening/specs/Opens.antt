@@ -1,5 +1,5 @@
 -- A register's database after it was opened or created, and after that failed.
-use Rattle.std.specs.Prelude.{◌≡◌, ◌≢◌, ◌⊎◌, ◌↔◌, Option}
+use Rattle.std.specs.Prelude.{◌≡◌, ◌≢◌, ◌⊎◌, ◌↔◌, IsTrue, Option}
 use Rattle.sqlite_trees.specs.declared.store.Store.{Ghosts}
 use Rattle.sqlite.specs.Held.{Held, state}
 use Rattle.sqlite.specs.State.{HasCleanDisk, Survives}
@@ -28,6 +28,9 @@ pub record Opens {S : Type 0} (g : Ghosts S) (old new : Held S) : Type 0 where
   -- the tables show sound records that older tables showed, with derived tables that match them
   pub migrated : (version : OlderVersion) (records : Records) → ShowsOlder version g old records
       → SoundRows records → ShowsKept g new records
+  -- then the connection is open
+  pub live : (version : OlderVersion) (records : Records) → ShowsOlder version g old records
+      → HasCleanDisk (state g new) → IsTrue (state g new).is_open
   -- the office's row keeps its days
   pub days : (records : Records) → Shows g old records → KeepsOfficeDays g old new
   -- the office's row of an older register gets the greatest days of the schedule

@@ -12,8 +12,8 @@ pub use Rattle.reg_store_tables.proofs.Greatest.{numbered_rises}
 pub use Rattle.reg_store_tables.proofs.Keeping.{deletes_keep, deletes_rows, inserts_rows, updates_rows, writes_on}
 pub use Rattle.reg_store_tables.proofs.Letters.{counts_stand, found_each, map_same, same_counts}
 pub use Rattle.reg_store_tables.proofs.LookingUp.{on_err}
-pub use Rattle.reg_store_tables.proofs.Meaning.{IsWriting, deletes, inserts, set_counts_means, updates}
-pub use Rattle.reg_store_tables.proofs.Stages.{sets_counts}
+pub use Rattle.reg_store_tables.proofs.Meaning.{IsWriting, deletes, inserts, put_step_means, set_counts_means, updates}
+pub use Rattle.reg_store_tables.proofs.Stages.{earlier_steps, puts_step, sets_counts}
 pub use Rattle.reg_store_tables.proofs.Moving.{asked_moves, moves_in_place, leading, may_move, moves, moves_as, moves_on, ok_if, stays_here, stepped_clean, then_moves, unchanged_before, under_way, was_clean as moving-was_clean}
 pub use Rattle.reg_store_tables.proofs.OverdueLemmas.{not_good}
 pub use Rattle.reg_store_tables.proofs.PageLemmas.{crl_out}

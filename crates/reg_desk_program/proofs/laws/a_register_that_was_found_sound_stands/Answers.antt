@@ -1,5 +1,5 @@
 -- The tables that are opened show what those that were audited show, and what an audit found of these is all that is asked.
-use Rattle.std.proofs.Common.{sym, subst}
+use Rattle.std.proofs.Common.{inl, sym, subst}
 use Rattle.sqlite.specs.Files.{over_files}
 use Rattle.sqlite_disk.specs.declared.Disk as disk
 use Rattle.reg_core.specs.Records.{Records}
@@ -26,7 +26,7 @@ returns g c = λ found.
           let it = says.sound records columns (by_connection found records columns shown) found.clean found.sound in
           let there = subst (λ db. AreRecordsAndDerived db records columns) (sym opens.same) shown in
           record {
-            shown = opened.opens.kept records (columns, record { saved = λ clean up. (opened.connects.whole clean).0.clean; tables = λ clean up. there }, it.1);
+            shown = opened.opens.shows records (inl (columns, record { saved = λ clean up. (opened.connects.whole clean).0.clean; tables = λ clean up. there }, it.1));
             sound = record { since = since; reached = reached; rows = reached_sound records it.0.rows; signatures = signed };
           };
     }

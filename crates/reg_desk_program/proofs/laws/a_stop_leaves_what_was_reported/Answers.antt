@@ -25,12 +25,12 @@ last_commit {g = g} held again reopened = by_stop reopened.kept
 
 pub returns : goal.returns
 returns g c = record {
-  begins = λ signing office opened records kept sound. (
+  begins = λ signing office opened records showed sound. (
     refl,
-    record { shown = opened.opens.kept records kept; sound = sound },
+    record { shown = opened.opens.shows records showed; sound = sound },
     record {
       closed = λ clean. tt;
-      leaves = λ clean trees may register. inl (opened.opens.leaves opened.connects.whole records kept clean trees may);
+      leaves = λ clean trees may register. inl (opened.opens.leaves opened.connects.whole records showed clean trees may);
     },
   );
   call = only_itself over_files g.S.Signer.signs;

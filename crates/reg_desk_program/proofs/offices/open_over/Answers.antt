@@ -1,7 +1,8 @@
-use Rattle.std.proofs.Common.{sym}
+use Rattle.std.proofs.Common.{inl, inr, sym}
 use Rattle.reg_office.proofs.PublicLaws.{leaves_opened}
 use Rattle.reg_store.proofs.PublicLaws.{opened_rests}
-use Rattle.reg_desk_program.proofs.Holding.{holds, shown, survives, was_clean}
+use Rattle.reg_desk_program.proofs.Holding.{holds, shown, shown_kept, survives, was_clean}
+use Rattle.reg_desk_program.proofs.Migrated.{leaves_looked_up}
 use Rattle.reg_desk_program.proofs.Opened.{embeds_as, lent_looked, lent_signs}
 use Rattle.reg_desk_program.proofs.offices.open_over.Goals as goal
 
@@ -15,12 +16,12 @@ returns-in-Ok-signer_for-clause-opened g c =
     let signs = lent_signs c.deref_mut.ensures.shows c.in-Ok-signer_for.ensures.signs in
     let clean = was_clean store c.args.connection c.in-Ok.store after c.answering.result.store answering.store in
     let shows = shown store c.args.connection c.in-Ok.store after c.answering.result.store answering.store in
+    let kept = shown_kept store c.args.connection c.in-Ok.store after c.answering.result.store answering.store in
     let stays = holds store c.args.connection c.in-Ok.store after c.answering.result.store answering.store in
     let outlives = survives store c.args.connection c.in-Ok.store after c.answering.result.store answering.store
     _ opened.survives looked.survives in
     record {
-      kept = λ records before. stays records looked.survives.clean looked.same (opened.kept records before);
-      migrated = λ version records older sound. stays records looked.survives.clean looked.same (opened.migrated version records older sound);
+      shows = λ records showed. stays records looked.survives.clean looked.same (kept records (opened.kept records) (λ version. opened.migrated version records) showed);
       clean = outlives.clean;
       is_signing = λ records showed is_clean.
           rw (sym answering.signer) at (signs.is_signing records (shows records (opened.kept records) (λ version. opened.migrated version records) showed) (clean is_clean));
@@ -29,8 +30,15 @@ returns-in-Ok-signer_for-clause-opened g c =
           (signs.follows records (shows records (opened.kept records) (λ version. opened.migrated version records) showed) sound (clean is_clean) crl is other under);
       embeds = λ records showed is_clean. embeds_as _ records.issuer.key _ _ _ answering.responder
           (signs.embeds records (shows records (opened.kept records) (λ version. opened.migrated version records) showed) (clean is_clean));
-      leaves = λ whole records before.
-          leaves_opened store c.args.connection c.answering.result.store records _
-          (λ held trees is_open leaves. g.met.C.Store.settled held.store trees is_open leaves)
-          whole outlives before (λ trees undoubted up showed. opened_rests store c.args.connection records trees undoubted up showed);
+      leaves = λ whole records showed. elim showed [
+        | inl before ↦
+            leaves_opened store c.args.connection c.answering.result.store records _
+            (λ held trees is_open leaves. g.met.C.Store.settled held.store trees is_open leaves)
+            whole outlives before (λ trees undoubted up shown_now. opened_rests store c.args.connection records trees undoubted up shown_now)
+        | inr (version, older, sound) ↦
+            leaves_looked_up store c.args.connection c.in-Ok.store after c.answering.result.store answering.store version records _
+            (λ held trees is_open leaves. g.met.C.Store.settled held.store trees is_open leaves)
+            whole opened.survives (λ trees made. made.1 version records older sound) older (opened.migrated version records older sound)
+            (opened.live version records older) looked.survives
+      ];
     }
