@@ -1,17 +1,19 @@
 -- Lemmas about whole connections, one for each step (specs/Connections.antt).
-use Rattle.std.proofs.Common.{◌≡◌, ℕ, Bool, List, [], ◌∷◌, ◌++◌, ◌⊎◌, take, drop, refl, sym, subst, ap, ◌∙◌, inl, inr, take-append-drop}
+use Rattle.std.proofs.Common.{◌≡◌, ◌≢◌, ◌==◌, ℕ, Bool, List, [], ◌∷◌, ◌++◌, ◌⊎◌, take, drop, refl, sym, subst, ap, ◌∙◌, inl, inr, take-append-drop}
 use Rattle.std.specs.Io.KnownBytes.{Appends}
-use Rattle.std.specs.Prelude.{Option, is_some, true}
-use Rattle.std.specs.List.{concat}
+use Rattle.std.specs.Prelude.{Option, flat_map, is_some, true, false}
+use Rattle.std.specs.List.{AllByRecursion, AllZip, concat}
 use Rattle.std.proofs.lemmas.List.{append-nil, append_assoc}
-use Rattle.std.proofs.lemmas.List.Elements.{AllZip-push}
+use Rattle.std.proofs.lemmas.Bool.Decides.{eqb_tells}
+use Rattle.std.proofs.lemmas.Grind.{flat_map-append}
+use Rattle.std.proofs.lemmas.List.Elements.{All-cons, All-nil}
 use Rattle.std.proofs.lemmas.List.Folds.{concat-append}
 use Rattle.reg_crl_signer.specs.OpenConnections.{SinceOpened, more_received, more_sent, nothing_yet}
 use Rattle.reg_http_head.specs.Bytes.{collected_bytes}
 use Rattle.reg_http_head.specs.declared.collected.Collected.{Collected}
-use Rattle.reg_desk_server.specs.Connections.{FinishesInSomeState, IsServedOnce, HasAnsweredLines, IsAnsweredAtMostOnce, IsAnsweredBy, KeepsServed, ServesOn, AnswersNoMoreLines, AnswersMoreLines, WasAnswered, WasLeftUnsigned}
+use Rattle.reg_desk_server.specs.Connections.{AnsweredInCalls, AnyReplies, FinishesInSomeState, AnsweredInOneCall, IsServedOnce, HasAnsweredLines, HasOwnReplies, IsAnsweredAtMostOnce, IsAnsweredBy, KeepsServed, ServesOn, AnswersNoMoreLines, AnswersMoreLines, WasAnswered, WasLeftUnsigned}
 use Rattle.reg_desk_server.specs.ControlLines.{DefersFirstLine, Gathers, IsFresh, SameLines, SameStreamAndEnd, AnswersFirstLines, AnswersDeferred}
-use Rattle.reg_desk_server.specs.LineEnds.{IsWholeLines}
+use Rattle.reg_desk_server.specs.LineEnds.{IsLine, IsWholeLines}
 use Rattle.reg_desk_server.specs.Exchange.{Outcome, said, pending, later}
 use Rattle.reg_desk_server.specs.Stages.{Answering, Finishing, HasReceived, HasUnsentText, HasUnsentRest, IsDraining, IsDropped, KeepsOutcome, AwaitsSignature, KeepsReceived}
 use Rattle.reg_desk_server.specs.Buffers.{unsent_of}
@@ -20,10 +22,6 @@ use Rattle.reg_desk_server.specs.declared.handler.Handler.{Ghosts}
 use Rattle.reg_desk_server.specs.declared.http_connection.HttpConnection.{HttpConnection}
 use Rattle.reg_desk_server.specs.declared.http_connection.Stage.{Stage}
 use Rattle.reg_desk_server.specs.declared.http_connection.Stage.TheVariants as stage
-
--- `concat` of lists with one more list at the end
-concat_more : (xs : List (List ℕ)) (x : List ℕ) → concat (xs ++ x ∷ []) ≡ concat xs ++ x
-concat_more xs x = concat-append xs (x ∷ []) ∙ ap (λ (l : List ℕ). concat xs ++ l) (append-nil x)
 
 -- the bytes that came next are kept, or lost at the end; if bytes were lost before, the connection had ended, and no more are kept
 lost_on : (front held held' lost kept lost' : List ℕ) (ended ended' : Bool) → (lost ≡ []) ⊎ (ended ≡ true) → held' ≡ held ++ kept
@@ -48,9 +46,86 @@ lost_on front held held' lost kept lost' ended ended' (inr ends) grows whole ove
 part_on : (gone went rest text : List ℕ) → text ≡ went ++ rest → gone ++ text ≡ gone ++ went ++ rest
 part_on gone went rest text parted = ap (λ (l : List ℕ). gone ++ l) parted ∙ sym (append_assoc gone went rest)
 
-module _ {S H : Type 0} (contents remaining : S → Option (List ℕ)) (answers_lines : H → List ℕ → List ℕ → H → Type 0) where
+-- ---- lines and their replies
+
+zip_append : (R : List ℕ → List ℕ → Type 0) (lines replies more given : List (List ℕ)) → AllZip R lines replies → AllZip R more given
+    → AllZip R (lines ++ more) (replies ++ given)
+zip_append R [] [] more given each next = next
+zip_append R [] (reply ∷ replies) more given each next = absurd each
+zip_append R (line ∷ lines) [] more given each next = absurd each
+zip_append R (line ∷ lines) (reply ∷ replies) more given each next = (each.0, zip_append R lines replies more given each.1 next)
+
+all_push : {X : Type 0} (P : X → Type 0) (all : List X) (last : X) → AllByRecursion P all → P last → AllByRecursion P (all ++ last ∷ [])
+all_push P [] last each is = (is, tt)
+all_push P (one ∷ all) last each is = (each.0, all_push P all last each.1 is)
+
+-- `flat_map` of a list with one more element
+flat_more : {X : Type 0} (part : X → List (List ℕ)) (all : List X) (last : X) → flat_map part (all ++ last ∷ []) ≡ flat_map part all ++ part last
+flat_more part all last =
+    flat_map-append part all (last ∷ []) ∙ ap (λ (l : List (List ℕ)). flat_map part all ++ l) (append-nil (part last))
+
+-- one more call of the handler
+calls_more : {H : Type 0} (answers_lines : H → List ℕ → List ℕ → H → Type 0) (s t : H) (lines replies more given : List (List ℕ)) (bytes text : List ℕ)
+    → AnsweredInCalls answers_lines lines replies → bytes ≡ concat more → text ≡ concat given → IsWholeLines bytes → answers_lines s bytes text t
+    → AnsweredInCalls answers_lines (lines ++ more) (replies ++ given)
+calls_more {H = H} answers_lines s t lines replies more given bytes text (calls, lines_are, replies_are, each) bytes_are text_is whole step =
+    let Call : Type 0 = List (List ℕ) × List (List ℕ) in
+    let last : Call = (more, given) in (
+      calls ++ last ∷ [],
+      ap (λ (l : List (List ℕ)). l ++ more) lines_are ∙ sym (flat_more (λ (call : Call). call.0) calls last),
+      ap (λ (l : List (List ℕ)). l ++ given) replies_are ∙ sym (flat_more (λ (call : Call). call.1) calls last),
+      all_push (AnsweredInOneCall answers_lines) calls last each (
+        subst IsWholeLines bytes_are whole,
+        (s, t, subst (λ (l : List ℕ). answers_lines s l (concat given) t) bytes_are (subst (λ (l : List ℕ). answers_lines s bytes l t) text_is step)),
+      ),
+    )
+
+-- no text for each of these lines
+abbrev no_texts : List (List ℕ) → List (List ℕ)
+no_texts [] = []
+no_texts (line ∷ lines) = [] ∷ no_texts lines
+
+no_texts_joined : (lines : List (List ℕ)) → concat (no_texts lines) ≡ []
+no_texts_joined [] = refl
+no_texts_joined (line ∷ lines) = no_texts_joined lines
+
+each_no_text : (lines : List (List ℕ)) → AllByRecursion IsLine lines → AllZip (IsAnsweredBy (λ line reply. Unit {0})) lines (no_texts lines)
+each_no_text [] all = tt
+each_no_text (line ∷ lines) all = ((all.0, tt), each_no_text lines all.1)
+
+-- bytes and a last LF, as lines
+lines_of : (front : List ℕ)
+    → (line : List ℕ) × (lines : List (List ℕ)) × (front ++ 10 ∷ [] ≡ concat (line ∷ lines)) × IsLine line × AllByRecursion IsLine lines
+lines_of [] = (10 ∷ [], [], refl, ([], refl, All-nil (λ byte. byte ≢ 10)), tt)
+lines_of (byte ∷ front) =
+    let (line, lines, joined, is, all) = lines_of front in
+    go line lines joined is all (eqb_tells byte 10)
+  where
+    go : (line : List ℕ) (lines : List (List ℕ)) → front ++ 10 ∷ [] ≡ concat (line ∷ lines) → IsLine line → AllByRecursion IsLine lines
+        → ((byte == 10) ≡ true × (byte ≡ 10)) ⊎ ((byte == 10) ≡ false × (byte ≢ 10))
+        → (line : List ℕ) × (lines : List (List ℕ)) × (byte ∷ front ++ 10 ∷ [] ≡ concat (line ∷ lines)) × IsLine line × AllByRecursion IsLine lines
+    go line lines joined is all (inl (test, lf)) =
+        (byte ∷ [], line ∷ lines, ap (λ (l : List ℕ). byte ∷ l) joined, ([], ap (λ (b : ℕ). b ∷ []) lf, All-nil (λ b. b ≢ 10)), (is, all))
+    go line lines joined (prefix, is, free) all (inr (test, other)) =
+        (byte ∷ line, lines, ap (λ (l : List ℕ). byte ∷ l) joined, (byte ∷ prefix, ap (λ (l : List ℕ). byte ∷ l) is, All-cons (λ b. b ≢ 10) byte prefix other free), all)
+
+-- any whole lines and any text: the text is the reply to the first line, and the others get none
+pub any_replies : AnyReplies
+any_replies bytes text (front, is) =
+    let (line, lines, joined, first, all) = lines_of front in
+    record {
+      lines = line ∷ lines;
+      replies = text ∷ no_texts lines;
+      bytes_are = is ∙ joined;
+      text_is = sym (ap (λ (l : List ℕ). text ++ l) (no_texts_joined lines) ∙ append-nil text);
+      each = ((first, tt), each_no_text lines all);
+    }
+
+-- ---- control connections
+
+module _ {S H : Type 0} (contents remaining : S → Option (List ℕ)) (answers_lines : H → List ℕ → List ℕ → H → Type 0) (answers_line : List ℕ → List ℕ → Type 0) where
   -- on a connection that was just accepted, no line was answered
-  pub lines_answered_none : (connection : ControlConnection S) → IsFresh connection → HasAnsweredLines contents remaining answers_lines connection.stream connection [] []
+  pub lines_answered_none : (connection : ControlConnection S) → IsFresh connection → HasAnsweredLines contents remaining answers_lines answers_line connection.stream connection [] []
   lines_answered_none connection fresh = record {
     arrived = [];
     gone = [];
@@ -59,11 +134,12 @@ module _ {S H : Type 0} (contents remaining : S → Option (List ℕ)) (answers_
     arrived_is = ap (λ (l : List ℕ). l ++ []) (sym fresh.0);
     answered = sym fresh.1;
     each = tt;
+    calls = ([], refl, refl, tt);
     whole = inl refl;
   }
 
   -- the connection was advanced
-  pub lines_answered_on : AnswersNoMoreLines contents remaining answers_lines
+  pub lines_answered_on : AnswersNoMoreLines contents remaining answers_lines answers_line
   lines_answered_on first old new lines replies was step =
       let it = step.gathered in
       let (lost, front, whole) =
@@ -79,15 +155,17 @@ module _ {S H : Type 0} (contents remaining : S → Option (List ℕ)) (answers_
         arrived_is = ap (λ (l : List ℕ). l ++ (it.kept ++ it.lost)) was.arrived_is ∙ front;
         answered = was.answered ∙ part_on was.gone step.went (unsent_of new.unsent) (unsent_of old.unsent) step.parted;
         each = was.each;
+        calls = was.calls;
         whole = whole;
       }
 
-  -- the first lines were answered
+  -- the first lines were answered, each with its own reply
   lines_answered_more : (first : S) (s t : H) (old new : ControlConnection S) (lines replies : List (List ℕ)) (end : ℕ)
-      → HasAnsweredLines contents remaining answers_lines first old lines replies → SameStreamAndEnd old new → IsWholeLines (take end old.arrived.items)
-      → unsent_of old.unsent ≡ [] → answers_lines s (take end old.arrived.items) (unsent_of new.unsent) t → new.arrived.items ≡ drop end old.arrived.items
-      → HasAnsweredLines contents remaining answers_lines first new (lines ++ take end old.arrived.items ∷ []) (replies ++ unsent_of new.unsent ∷ [])
-  lines_answered_more first s t old new lines replies end was same mark none step rest =
+      → HasAnsweredLines contents remaining answers_lines answers_line first old lines replies → SameStreamAndEnd old new
+      → IsWholeLines (take end old.arrived.items) → unsent_of old.unsent ≡ [] → answers_lines s (take end old.arrived.items) (unsent_of new.unsent) t
+      → new.arrived.items ≡ drop end old.arrived.items → (own : HasOwnReplies answers_line (take end old.arrived.items) (unsent_of new.unsent))
+      → HasAnsweredLines contents remaining answers_lines answers_line first new (lines ++ own.lines) (replies ++ own.replies)
+  lines_answered_more first s t old new lines replies end was same whole none step rest own =
       let held = old.arrived.items in
       record {
         arrived = was.arrived;
@@ -99,18 +177,23 @@ module _ {S H : Type 0} (contents remaining : S → Option (List ℕ)) (answers_
             ∙ ap (λ (l : List ℕ). l ++ was.lost)
             (ap (λ (l : List ℕ). concat lines ++ l) (sym (take-append-drop end held))
             ∙ sym (append_assoc (concat lines) (take end held) (drop end held))
-            ∙ ap (λ (l : List ℕ). l ++ drop end held) (sym (concat_more lines (take end held)))
-            ∙ ap (λ (l : List ℕ). concat (lines ++ take end held ∷ []) ++ l) (sym rest));
+            ∙ ap (λ (l : List ℕ). l ++ drop end held)
+            (ap (λ (l : List ℕ). concat lines ++ l) own.bytes_are ∙ sym (concat-append lines own.lines))
+            ∙ ap (λ (l : List ℕ). concat (lines ++ own.lines) ++ l) (sym rest));
         answered =
-            concat_more replies (unsent_of new.unsent)
+            concat-append replies own.replies
+            ∙ ap (λ (l : List ℕ). concat replies ++ l) (sym own.text_is)
             ∙ ap (λ (l : List ℕ). l ++ unsent_of new.unsent) (was.answered ∙ ap (λ (l : List ℕ). was.gone ++ l) none ∙ append-nil was.gone);
-        each = AllZip-push (IsAnsweredBy answers_lines) lines replies (take end held) (unsent_of new.unsent) was.each (mark, (s, t, step));
+        each = zip_append (IsAnsweredBy answers_line) lines replies own.lines own.replies was.each own.each;
+        calls =
+            calls_more answers_lines s t lines replies own.lines own.replies (take end held) (unsent_of new.unsent) was.calls own.bytes_are own.text_is whole
+            step;
         whole = subst (λ (ended : Bool). (was.lost ≡ []) ⊎ (ended ≡ true)) (sym same.1) was.whole;
       }
 
   -- neither the kept bytes nor the unsent ones changed
   lines_answered_same : (first : S) (old new : ControlConnection S) (lines replies : List (List ℕ)) → SameStreamAndEnd old new → SameLines old new
-      → HasAnsweredLines contents remaining answers_lines first old lines replies → HasAnsweredLines contents remaining answers_lines first new lines replies
+      → HasAnsweredLines contents remaining answers_lines answers_line first old lines replies → HasAnsweredLines contents remaining answers_lines answers_line first new lines replies
   lines_answered_same first old new lines replies same as_held was = record {
     arrived = was.arrived;
     gone = was.gone;
@@ -119,20 +202,21 @@ module _ {S H : Type 0} (contents remaining : S → Option (List ℕ)) (answers_
     arrived_is = was.arrived_is ∙ ap (λ (l : List ℕ). concat lines ++ l ++ was.lost) (sym as_held.0);
     answered = was.answered ∙ ap (λ (l : List ℕ). was.gone ++ l) (sym as_held.1);
     each = was.each;
+    calls = was.calls;
     whole = subst (λ (ended : Bool). (was.lost ≡ []) ⊎ (ended ≡ true)) (sym same.1) was.whole;
   }
 
   -- the first lines were answered, or none was
-  pub lines_answered_next : AnswersMoreLines contents remaining answers_lines (AnswersFirstLines answers_lines) (λ s t _. t ≡ s)
+  pub lines_answered_next : AnswersMoreLines contents remaining answers_lines answers_line (AnswersFirstLines answers_lines) (λ s t _. t ≡ s)
   lines_answered_next first s t old new lines replies was same (inl (end, mark, none, step, rest)) =
-      inl (take end old.arrived.items, step, lines_answered_more first s t old new lines replies end was same mark.1 none step rest)
+      inl (take end old.arrived.items, mark.1, step, lines_answered_more first s t old new lines replies end was same mark.1 none step rest)
   lines_answered_next first s t old new lines replies was same (inr (none, nothing, as_held)) =
       inr (nothing, lines_answered_same first old new lines replies same as_held was)
 
   -- a deferred line was answered, or deferred again
-  pub lines_answered_later : (defers : H → List ℕ → H → Type 0) → AnswersMoreLines contents remaining answers_lines (AnswersDeferred answers_lines defers) (DefersFirstLine defers)
+  pub lines_answered_later : (defers : H → List ℕ → H → Type 0) → AnswersMoreLines contents remaining answers_lines answers_line (AnswersDeferred answers_lines defers) (DefersFirstLine defers)
   lines_answered_later defers first s t old new lines replies was same (inl (inl (end, mark, none, step, rest))) =
-      inl (take end old.arrived.items, step, lines_answered_more first s t old new lines replies end was same mark.here none step rest)
+      inl (take end old.arrived.items, mark.here, step, lines_answered_more first s t old new lines replies end was same mark.here none step rest)
   lines_answered_later defers first s t old new lines replies was same (inl (inr (none, nothing, as_held))) =
       inr (inr nothing, lines_answered_same first old new lines replies same as_held was)
   lines_answered_later defers first s t old new lines replies was same (inr (looked, as_held)) =

@@ -1,13 +1,13 @@
 -- A whole connection, since it was accepted: which lines of a control connection, or which part of a request, were answered. If the connection ends
 -- early, because it failed or there was no memory, the rest is not answered, and the unsent bytes are not sent. Nothing is answered or sent twice.
-use Rattle.std.specs.Prelude.{◌≡◌, ◌⊎◌, ℕ, Bool, true, List, [], ◌∷◌, ◌++◌, Option, is_some}
+use Rattle.std.specs.Prelude.{◌≡◌, ◌⊎◌, ℕ, Bool, true, List, [], ◌++◌, flat_map, Option, is_some}
 use Rattle.std.specs.Io.KnownBytes.{Appends, Consumes}
-use Rattle.std.specs.List.{AllZip, concat}
+use Rattle.std.specs.List.{AllByRecursion, AllZip, concat}
 use Rattle.reg_crl_signer.specs.OpenConnections.{SinceOpened}
 use Rattle.reg_http_head.specs.Bytes.{collected_bytes}
 use Rattle.reg_desk_server.specs.Exchange.{Outcome, said, pending}
 use Rattle.reg_desk_server.specs.ControlLines.{Advances, SameStreamAndEnd}
-use Rattle.reg_desk_server.specs.LineEnds.{IsWholeLines}
+use Rattle.reg_desk_server.specs.LineEnds.{IsLine, IsWholeLines}
 use Rattle.reg_desk_server.specs.Stages.{Drops, Sends, ReceivesMore}
 use Rattle.reg_desk_server.specs.Buffers.{unsent_of}
 use Rattle.reg_desk_server.specs.declared.control_connection.ControlConnection.{ControlConnection}
@@ -16,16 +16,42 @@ use Rattle.reg_desk_server.specs.declared.http_connection.HttpConnection.{HttpCo
 use Rattle.reg_desk_server.specs.declared.http_connection.Stage.{Stage}
 use Rattle.reg_desk_server.specs.declared.http_connection.Stage.TheVariants as stage
 
--- these whole lines got these replies from the handler, in some state of the handler
-abbrev pub IsAnsweredBy : {H : Type 0} → (H → List ℕ → List ℕ → H → Type 0) → List ℕ → List ℕ → Type 0
-IsAnsweredBy {H = H} answers_lines lines replies =
-    IsWholeLines lines × ((s : H) × (t : H) × answers_lines s lines replies t)
+-- a line, with its LF, got this reply
+abbrev pub IsAnsweredBy : (List ℕ → List ℕ → Type 0) → List ℕ → List ℕ → Type 0
+IsAnsweredBy answers_line line reply = IsLine line × answers_line line reply
+
+-- Each line got its own reply: the bytes are the lines, each with its LF, and the text is the replies, as many, in the order of their lines. Neither
+-- has a gap.
+pub record HasOwnReplies (answers_line : List ℕ → List ℕ → Type 0) (bytes text : List ℕ) : Type 0 where
+  pub lines : List (List ℕ)
+  pub replies : List (List ℕ)
+  pub bytes_are : bytes ≡ concat lines
+  pub text_is : text ≡ concat replies
+  pub each : AllZip (IsAnsweredBy answers_line) lines replies
+
+-- whole lines have their own replies in any text, if a reply to a line may be any text
+abbrev pub AnyReplies : Type 0
+AnyReplies = (bytes text : List ℕ) → IsWholeLines bytes → HasOwnReplies (λ line reply. Unit {0}) bytes text
+
+-- these lines got these replies in one call of the handler, in some state of the handler
+abbrev pub AnsweredInOneCall : {H : Type 0} → (H → List ℕ → List ℕ → H → Type 0) → List (List ℕ) × List (List ℕ) → Type 0
+AnsweredInOneCall {H = H} answers_lines call =
+    IsWholeLines (concat call.0)
+    × ((s : H) × (t : H) × answers_lines s (concat call.0) (concat call.1) t)
+
+-- these lines got these replies in calls of the handler, one after the other, each of one or several lines
+abbrev pub AnsweredInCalls
+    : {H : Type 0} → (H → List ℕ → List ℕ → H → Type 0) → List (List ℕ) → List (List ℕ) → Type 0
+AnsweredInCalls answers_lines lines replies =
+    (calls : List (List (List ℕ) × List (List ℕ)))
+    × (lines ≡ flat_map (λ call. call.0) calls) × (replies ≡ flat_map (λ call. call.1) calls)
+    × AllByRecursion (AnsweredInOneCall answers_lines) calls
 
 module _ {S H : Type 0} (contents remaining : S → Option (List ℕ))
-    (answers_lines : H → List ℕ → List ℕ → H → Type 0) where
-  -- These inputs of a control connection, of one or several lines each, were answered, each once. The bytes that came are these inputs, one after the
-  -- other, then the bytes that are kept for the next lines, and then lost bytes. If bytes are lost, because there was no memory for them, the
-  -- connection has ended. The bytes that were sent, followed by the unsent ones, are the replies, in the same order, each once.
+    (answers_lines : H → List ℕ → List ℕ → H → Type 0) (answers_line : List ℕ → List ℕ → Type 0) where
+  -- These lines of a control connection, each with its LF, were answered, each once, and each has its own reply. The bytes that came are the lines,
+  -- one after the other, then the bytes that are kept for the next lines, and then lost bytes. If bytes are lost, because there was no memory for
+  -- them, the connection has ended. The bytes that were sent, followed by the unsent ones, are the replies, as many, in the order of their lines.
   pub record HasAnsweredLines (first : S) (connection : ControlConnection S)
       (lines replies : List (List ℕ)) : Type 0 where
     pub arrived : List ℕ
@@ -34,7 +60,8 @@ module _ {S H : Type 0} (contents remaining : S → Option (List ℕ))
     pub since : SinceOpened contents remaining first arrived gone connection.stream
     pub arrived_is : arrived ≡ concat lines ++ connection.arrived.items ++ lost
     pub answered : concat replies ≡ gone ++ unsent_of connection.unsent
-    pub each : AllZip (IsAnsweredBy answers_lines) lines replies
+    pub each : AllZip (IsAnsweredBy answers_line) lines replies
+    pub calls : AnsweredInCalls answers_lines lines replies
     pub whole : (lost ≡ []) ⊎ (connection.has_ended ≡ true)
 
   -- when a control connection is advanced, the answered lines and their replies stay the same
@@ -44,16 +71,18 @@ module _ {S H : Type 0} (contents remaining : S → Option (List ℕ))
       → HasAnsweredLines first old lines replies
       → Advances contents remaining old new → HasAnsweredLines first new lines replies
 
-  -- after a step of the handler and the connection that may answer lines: either one or several more lines were answered, and their replies are
-  -- unsent; or none was, and the relation `rests` states how the handler changed
+  -- After a step of the handler and the connection that may answer lines: either the handler answered whole lines with the text that is now unsent,
+  -- and if each of these lines has its own reply in the text, they are answered lines, too; or it answered none, and the relation `rests` states how
+  -- the handler changed.
   abbrev pub AnswersMoreLines
       : (H → H → ControlConnection S → ControlConnection S → Type 0) → (H → H → ControlConnection S → Type 0)
       → Type 0
   AnswersMoreLines step rests =
       (first : S) (s t : H) (old new : ControlConnection S) (lines replies : List (List ℕ))
       → HasAnsweredLines first old lines replies → SameStreamAndEnd old new → step s t old new
-      → ((more : List ℕ) × answers_lines s more (unsent_of new.unsent) t
-      × HasAnsweredLines first new (lines ++ more ∷ []) (replies ++ unsent_of new.unsent ∷ []))
+      → ((bytes : List ℕ) × IsWholeLines bytes × answers_lines s bytes (unsent_of new.unsent) t
+      × ((own : HasOwnReplies answers_line bytes (unsent_of new.unsent))
+      → HasAnsweredLines first new (lines ++ own.lines) (replies ++ own.replies)))
       ⊎ (rests s t old × HasAnsweredLines first new lines replies)
 
 -- this text finishes the answer with this ticket, in some state of the handler
