@@ -218,6 +218,7 @@ impl<'a> Machine for SystemHost<'a> {
     }
 
     fn connect(&mut self, path: &str) -> Result<FileConnection, Failure> {
+        // `Unknown`: no contract knows what the file holds; a torn write leaves each byte old or new, so most commits sync once.
         match open_file(&self.rt, path, Unknown) {
             Ok(connection) => Ok(connection),
             Err(why) => Err(Failure::Fault(self.fault_of(Some(Location::File), why))),
@@ -234,6 +235,7 @@ impl<'a> Machine for SystemHost<'a> {
     ) -> Result<Responder<FileSigner>, Failure> {
         match responder {
             ResponderChoice::Issuer { certificate } => issuer_responder(self, certificate),
+            // `address`: the socket and algorithm of the responder's signer.
             ResponderChoice::Delegate {
                 certificate,
                 address,
@@ -384,6 +386,7 @@ impl<'a> Machine for SystemHost<'a> {
         message: &[u8],
         kept: Option<SignatureRequest>,
     ) -> io::Result<SignatureRequest> {
+        // `as_would_block`: the error is `WouldBlock` if no file descriptor is left; others stay.
         match SignatureRequest::send_to(&self.rt, path, message, kept) {
             Ok(request) => Ok(request),
             Err(error) => Err(as_would_block(error)),
