@@ -255,6 +255,15 @@ def a_log_of_an_older_desk_is_replayed_as_well(t, is_older):
 
 
 @test
+def a_line_of_more_than_two_hundred_bytes_is_replayed(t):
+    """The log has the whole line if it has fewer than 256 bytes, as a schedule of nine steps has."""
+    opened(t)
+    line = "schedule " + " ".join(f"{year}-01-01T00:00:00Z=398" for year in range(1970, 1979))
+    (t.room / "ca.log").write_text(f'{DAY} control "{line}" "schedule set" 13 99\n{DAY} control "subscriber gamma" "subscriber 3" 13 99\n')
+    t.same(t.done("replay", "control", "ca.log"), "schedule set\nsubscriber 3\n")
+
+
+@test
 def a_request_that_came_between_shifts_no_revocation(t):
     a_day(t)
     desk = t.open("copy.db")
