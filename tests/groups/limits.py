@@ -209,6 +209,17 @@ def a_long_ocsp_line_holds_up_nobody(t):
         t.true(ANY_SIGNATURE.hex() in reply.result(), "the reply is not signed")
 
 
+@test
+def at_writes_a_reply_of_more_than_ten_thousand_bytes(t):
+    """It is the OCSP answer to 60 CertIDs. The line after it runs."""
+    t.register()
+    t.clock(DAY)
+    desk = t.open()
+    answer = parted(desk.ask("POST", "/ocsp", asks(60)))[2]
+    t.true(len(answer) > 5_000, f"the answer has only {len(answer)} octets")
+    t.same(t.done("at", "control", given=f"ocsp {asks(60).hex()}\ncounts\n"), f"ocsp {answer.hex()}\ngood 0 revoked 0 expired 0\n")
+
+
 @test(seconds=3)
 def the_sixth_crl_of_a_connection_holds_up_nobody(t):
     signs = threading.Event()
@@ -419,6 +430,23 @@ def as_many_replies_as_a_file_has_rows(t, option, rows, reply):
     (t.room / "rows.csv").write_text(rows(MANY))
     ran = t.desk("at", "control", option, "rows.csv")
     t.same((ran.status, ran.lines.count(reply), len(ran.lines), ran.err), (3, MANY, MANY, b"refused\n"))
+
+
+@test(seconds=2)
+def a_file_is_sent_whose_lines_have_more_than_8_mib(t):
+    """The test is at the control socket. It takes the first 256 lines, and disconnects."""
+    serial = "5".zfill(40)
+    (t.room / "rows.csv").write_text(f"1,{serial},{DAY},2026-01-02T00:00:00Z\n" * 95_000)
+    wanted = f"register 1 {serial} {DAY} 2026-01-02T00:00:00Z\n".encode() * 256
+    with socket.socket(socket.AF_UNIX) as server, ThreadPoolExecutor(1) as pool:
+        server.bind(str(t.room / "control"))
+        server.listen()
+        ran = pool.submit(t.desk, "at", "control", "--import", "rows.csv")
+        authority.until(lambda: ran.done() or select.select([server], [], [], 0)[0], "a connection", seconds=20)
+        t.true(not ran.done(), "`desk at` ended, and sent nothing")
+        with server.accept()[0] as client, client.makefile("rb") as lines:
+            t.same(lines.read(len(wanted)), wanted, "the first lines")
+        t.same((ran.result().status, ran.result().out, ran.result().err), (1, b"", b"F4 read\n"))
 
 
 @test
