@@ -50,6 +50,15 @@ def an_older_register_is_made_newer_by_the_first_command(t, version):
         t.same(t.desk("crl", "ca.db", "--number", number).out, records.crls[number - 1][2], f"CRL {number}")
 
 
+@each(VERSIONS, seconds=3)
+def one_of_more_than_ten_thousand_revocations_is_made_newer(t, version):
+    records = registers.Records(10_100, 1, every=1)
+    registers.make(t.room / "ca.db", records, version)
+    line, reply = counts_line(t, records)
+    t.same(t.done("script", "ca.db", given=line), reply, "the counts")
+    t.same(registers.beside(t.room / "ca.db")[0], registers.expected(records), "the derived rows")
+
+
 @each(VERSIONS, seconds=2)
 def each_command_that_opens_makes_it_newer(t, version):
     records = records_of(50)

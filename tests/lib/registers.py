@@ -144,9 +144,9 @@ def on_crl(listed, number):
 
 
 class Records:
-    """Sound records: a CRL each day, certificates that expire on some day, and a fifth of them revoked before their end."""
+    """Sound records: a CRL each day, certificates that expire on some day, and one in `every` of them revoked before its end."""
 
-    def __init__(self, certificates, crls=40):
+    def __init__(self, certificates, crls=40, every=5):
         choice = random.Random(certificates)
         self.last = START + crls * DAY + 1
         self.updates = [(n, START + n * DAY) for n in range(1, crls + 1)]
@@ -155,7 +155,7 @@ class Records:
             serial = (choice.getrandbits(158) + 1).to_bytes(20, "big")
             self.certs.append((serial, order, START, START + choice.randint(1, 60 * DAY)))
         ends = {cert[0]: cert[3] for cert in self.certs}
-        gone = choice.sample(self.certs, certificates // 5)
+        gone = choice.sample(self.certs, certificates // every)
         moments = sorted((choice.randint(START, min(cert[3], self.last)), cert[0]) for cert in gone)
         self.requests = [(id, serial, 6, at, 0) for id, (at, serial) in enumerate(moments, 1)]
         self.revocations = []
