@@ -444,6 +444,16 @@ def a_file_of_more_than_50_mb_is_counted_and_found_sound(t):
     t.same(t.done("audit", "ca.db"), f"sound, 135001 certificates, {revoked} revoked, 60 CRLs\n")
 
 
+@test(seconds=2)
+def a_crl_of_more_than_a_megabyte_is_compared(t):
+    """It lists more than 20,000 certificates."""
+    records = registers.Records(24_000, 1, every=1)
+    registers.make(t.room / "ca.db", records, 3)
+    der = records.crls[0][2]
+    t.true(len(der) > 1_048_576, f"the CRL has only {len(der)} octets")
+    t.same(t.done("audit", "ca.db"), "sound, 24000 certificates, 24000 revoked, 1 CRLs\n")
+
+
 def with_long_signature(der):
     ((_, start, end),) = values(der, 0, len(der))
     *_, (signature, _, _) = values(der, start, end)
