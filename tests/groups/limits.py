@@ -1010,6 +1010,14 @@ def an_import_takes_few_reads(t):
     t.true(20 < count["read"] < 100, f"{count['read']} reads of 100 KB")
 
 
+@test
+def a_script_takes_few_reads(t):
+    """Each one takes as much as the buffer has room for, some 8 KiB."""
+    ran, count = faults.run(t, ["script"], given=f"{DAY} counts\n" * 4_000, only="stdin")
+    t.same((ran.status, len(ran.lines)), (0, 4_000), "status, and replies")
+    t.true(10 < count["read"] < 100, f"{count['read']} reads of 112 KB")
+
+
 @test(seconds=2)
 def a_long_request_and_a_long_answer_take_turns_with_others(t):
     """Each call moves one byte. The desk polls for other clients after some calls, though this client has always sent more, and has read all."""
@@ -1441,6 +1449,16 @@ def a_script_sends_a_long_message_in_pieces_of_32_kib(t):
     (message,) = signer.asked
     t.true(len(message) > 2 * 32_768, f"the message has only {len(message)} bytes")
     t.true(count["write"] * 32_768 >= len(message), f"{len(message)} bytes in {count['write']} writes")
+
+
+@test(seconds=3)
+def a_script_has_a_crl_of_more_than_a_mebibyte_signed(t):
+    count = 20_000
+    registers.make_revoked(t.room / "ca.db", count, P256_KEY, every=1)
+    signer = t.signer()
+    ran = t.desk("script", "ca.db", *SIGNING, given="2026-01-02T00:00:00Z crl\n")
+    t.same((ran.status, ran.lines, len(signer.asked)), (0, [f"crl 1 entries {count}"], 1), "status, reply, and messages to the signer")
+    t.true(len(signer.asked[0]) > 1_048_576, f"the message has only {len(signer.asked[0])} bytes")
 
 
 @test(seconds=4)

@@ -206,9 +206,9 @@ def make(path, records, version):
     db.close()
 
 
-def make_revoked(path, count, key):
-    """Makes a register with this key, in which `count` certificates, a fifth of all, are revoked, and no CRL was issued."""
-    make(path, Records(5 * count, 0), 3)
+def make_revoked(path, count, key, every=5):
+    """Makes a register with this key, in which `count` certificates, one in `every`, are revoked, and no CRL was issued."""
+    make(path, Records(every * count, 0, every), 3)
     with sqlite3.connect(path) as db:
         db.execute("UPDATE office SET pubkey = ?", (bytes.fromhex(key),))
     db.close()
