@@ -1,5 +1,6 @@
 """Calls fail, are interrupted or move few bytes: on standard input, output and error, on the signer's socket and on the socket of `desk at`."""
 
+from groups.signers import LONGEST_RSA_KEY
 from lib import faults, program
 from lib.faults import DAY_1, DAY_2, LIFE, REGISTERED
 from lib.trial import each, test
@@ -153,6 +154,17 @@ def thousands_of_signals_at_the_signer_s_socket_change_nothing(t, kind):
     signer = t.signer()
     ran, count = faults.run(t, ["script", "ca.db", *SIGNING], f"{DAY_1} crl\n", only="socket", fail=f"{kind}:1-5000=EINTR")
     t.same((ran.status, ran.out, ran.err, count["met"], len(signer.asked)), (0, b"crl 1 entries 0\n", b"", 5_000, 1))
+
+
+@test
+def a_signature_that_comes_octet_by_octet_is_whole(t):
+    """It is as long as the longest modulus of a key. The answer takes some two thousand reads."""
+    t.register(key=LONGEST_RSA_KEY)
+    t.signer("ca.sign", lambda message, call: b"\7" * 2_037)
+    words = ["script", "ca.db", "--signer", "ca.sign", "--algorithm", "rsa-sha256"]
+    ran, count = faults.run(t, words, f"{DAY_1} crl\n", only="socket", short=1)
+    t.same((ran.status, ran.out, ran.err), (0, b"crl 1 entries 0\n", b""), "the CRL")
+    t.true(count["read"] > 2_037, f"only {count['read']} reads")
 
 
 AT = {
