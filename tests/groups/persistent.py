@@ -10,6 +10,7 @@ import time
 from concurrent import futures
 from concurrent.futures import ThreadPoolExecutor
 
+from groups.limits import asks
 from groups.waiting import SIGNING, asked_for, files, names, ocsp_answer, own_signature
 from lib import authority, faults, native, program
 from lib.authority import INTERNAL, Authority
@@ -130,6 +131,18 @@ def one_client_uses_one_connection(t):
     for at in range(50):
         t.true(is_own(ocsp_answer(desk, 0x1100 + at), 0x1100 + at), f"answer {at}")
     t.same((len(signer.asked), [len(it) for it in signer.kept]), (1, [49]), "messages on each connection")
+
+
+@test(seconds=2)
+def long_messages_go_on_one_connection(t):
+    """Each answer is for 900 CertIDs."""
+    signer = t.enter_context(Keeping(t.room / "ca.sign"))
+    desk = opened(t)
+    for at in range(5):
+        part, _, signature = authority.signed_part(authority.basic_of(authority.body_of(t, desk.ask("POST", "/ocsp", asks(900)))))
+        t.same(signature, own_signature(part), f"the signature of answer {at}")
+        t.true(len(part) > 65_536, f"the message has only {len(part)} bytes")
+    t.same((len(signer.asked), [len(it) for it in signer.kept]), (1, [4]), "messages on each connection")
 
 
 @test(seconds=3)
