@@ -183,8 +183,12 @@ def each_line_is_one_write(t):
     desk = t.open("ca.db", "--log-file", "ca.log", faults=faults.environment(count=t.room / "count", only="ca.log"))
     t.desk("at", "control", given="subscriber acme\nsubscriber b\ncounts\n")
     desk.send(b"GET /counts HTTP/1.1\r\n\r\n")
+    # The longest line: each octet of its request has four characters.
+    desk.send(b"\xff" * 300 + b" / HTTP/1.1\r\n\r\n")
     desk.end()
-    t.same(((t.room / "ca.log").read_text().count("\n"), faults.counted(t.room / "count")["write"]), (4, 4), "lines, and writes")
+    text = (t.room / "ca.log").read_text()
+    t.true(len(text.splitlines()[-1]) > 1_024, f"the last line is short: {text}")
+    t.same((text.count("\n"), faults.counted(t.room / "count")["write"]), (5, 5), "lines, and writes")
 
 
 @test
