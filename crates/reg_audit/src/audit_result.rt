@@ -43,15 +43,15 @@ fn is_over_register<S: Alter>(alloc: Global, conn: &Connection<S>) -> Result<boo
     }
 }
 
-/// Checks the version, the issuer, the policy and the last accepted moment by [`examine`], as the opening of a register does. [`examine`] gives
-/// `None` if the version is the program's, 3. In that case the schema must be a register's, and all rows are checked ([`crate::audit`]). Nothing
-/// changes: an older register is not migrated. The connection must be in no transaction. The observer receives the progress.
+/// Checks the version, issuer, policy and last accepted moment by [`examine`], as the opening of a register does. [`examine`] gives `None` for the
+/// program's version, 3: then the schema must be a register's, and all rows are checked ([`crate::audit`]). Nothing changes: no register is migrated.
 ///
 /// `Sound`: the tables show sound records (they obey all rules of a register), if the connection was open and two facts hold that no query can check
-/// (`IsPresumed`): no call left a broken transaction; each row of the table `listed` has its last column. `Broken`: one or more of these four are
-/// false (`Disproves`): the values are a register's, the records are sound, the derived tables match them, each CRL has the bytes of its entries. If
-/// the defect isn't `OtherBytes`, one of the first three is false. `Older`: version 1 or 2. `OtherSchema`: version 3, but not a register's schema.
-/// Errors: `NotARegister` if the table `office` or the schedule can't be read or is out of range; `NewVersion` above 3; `Memory`; `Store`.
+/// (`IsPresumed`): no failed call left its transaction half written; no row of the table `listed` lacks its last column (a query would give NULL).
+/// `Broken`: at least one of four statements is false (`Disproves`): the values are a register's; the records are sound; the derived tables match
+/// them; each CRL has the bytes of its entries. If the defect isn't `OtherBytes`, one of the first three is false. `Older`: version 1 or 2.
+/// `OtherSchema`: version 3, but not a register's schema. Errors: `NotARegister` if the table `office` or the schedule can't be read or is out of
+/// range; `NewVersion` above 3; `Memory`; `Store`.
 pub fn judge<S: Alter, W: ProgressObserver>(
     alloc: Global,
     conn: &mut Connection<S>,

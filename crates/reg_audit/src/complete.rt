@@ -1,6 +1,6 @@
-//! Checks that each row has the values of a record, or of a row derived from records, and that ids, CRL numbers and rowids are 1, 2, 3 and so on. A
-//! register never deletes a record. It deletes derived rows only to fill their table anew. The derived tables: `standing` has the state of each
-//! certificate; `kept` has one row, with the counts of each state; `listed` has the CRL entries.
+//! Checks that each row has the values of a record, or of a row derived from records, and that ids, CRL numbers and rowids are 1, 2, 3 and so on: a
+//! register deletes no record, and derived rows only to fill their table anew. `office` has one row: version, issuer, policy, last accepted moment.
+//! The derived tables: `standing` has the state of each certificate; `kept` has one row, the counts of each state; `listed` has the CRL entries.
 
 ghost use Rattle.std.specs.Prelude.{◌≡◌, ℕ, IsTrue, IfOk, IfSome, OnOk};
 ghost use Rattle.std.specs.List.{AllByRecursion, AllZip};
@@ -89,7 +89,7 @@ fn check_are_of_some_record<T: RowKind>(rows: &[Row]) -> Result<(), AuditFault>
     Ok(())
 }
 
-/// For a table whose id or CRL number (column 0 of `rows`) is the rowid. [`check_by_rowid`] is for tables that have another rowid (`rowids`).
+/// Checks a table whose id or CRL number (column 0 of `rows`) is the rowid. [`check_by_rowid`] checks one that has another rowid (in `rowids`).
 fn check_by_id<T: RowKind>(table: RegisterTable, rows: &[Row]) -> Result<(), AuditFault>
     ensures counted { OnOk result (CountedFrom 1 rows.now) }
     ensures stand { OnOk result (AllByRecursion (IsOfSomeRecord T.has_valid_serial T.shown) rows.now) }
@@ -112,7 +112,7 @@ fn check_by_rowid<T: RowKind>(
     check_are_of_some_record::<T>(rows)
 }
 
-/// Checks that the table `kept` (`db.trees 14`) has one row, of three counts (in `rows`), with the rowid 1 (in `rowids`). `Store` if not.
+/// Checks that the table `kept` has one row, of three counts (in `rows`), with the rowid 1 (in `rowids`). `Store` if not. `db.trees 14`: its B-tree.
 fn check_counts(rows: &[Row], rowids: &[Row]) -> Result<(), AuditFault>
     ensures hold { (db : Database) → AreTables db → IsReadFrom db OfCounts rows.now
         → IsReadFrom db CountsRowid rowids.now → OnOk result (AreCounts (db.trees 14)) }
@@ -205,7 +205,7 @@ fn check_office(alloc: Global, office: &[Row], steps: &[Row]) -> Result<(), Audi
     }
 }
 
-/// Checks all tables. `all` has, at the index of each item of `TABLE_QUERIES`, the rows that it read; `more` has those of [`OTHER_QUERIES`].
+/// Checks all tables, as this file's first lines say. `all[i]` has the rows that item i of `TABLE_QUERIES` read; `more[i]`: of [`OTHER_QUERIES`].
 pub(crate) fn check_complete(
     alloc: Global,
     all: &[Vec<Row>],

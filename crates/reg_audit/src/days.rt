@@ -14,7 +14,7 @@ use reg_core::Schedule;
 use reg_store_tables::sql_values::number_at;
 use sqlite::Row;
 
-/// Whether column 6 (`days`, the longest validity at the register's creation) is 1 to 398 in the row that `AuditQuery::Terms` read from `office`.
+/// Whether `days`, the longest validity at creation, is 1 to 398 (`can_allow`). It is column 6 of the row of `office` that `AuditQuery::Terms` reads.
 fn has_allowed_days(row: &Row) -> bool
     ensures allowed { IsTrue result → (days : ℕ) × (column row.now 6 ≡ number days) × IsDays days }
     ensures others { (days : ℕ) → column row.now 6 ≡ number days → IsDays days → IsTrue result }

@@ -20,7 +20,7 @@ use reg_audit_rows::{Audited, Rows, StoredDerivedRows, check};
 use sqlite::Row;
 use std::alloc::Global;
 
-/// The rows of the query with this index: `all` has the rows of each query of a list, in the list's order. No rows if there is no such query.
+/// The rows of the query with this index, or none if it is too high. `all` has the rows of each query of an array, as `TABLE_QUERIES`, in order.
 pub(crate) fn rows_at(all: &[Vec<Row>], query_index: usize) -> &[Row]
     ensures read { (records : Records) → (columns : DerivedRows) → (whats : List AuditQuery)
         → (other : AuditQuery)
@@ -54,7 +54,7 @@ pub(crate) fn check_read(alloc: Global, all: &[Vec<Row>]) -> Result<Audited, Aud
     let requests = requests(alloc, rows_at(all, 4))?;
     let revocations = revocations(alloc, rows_at(all, 5))?;
     let crls = crls(alloc, rows_at(all, 6))?;
-    // The rows of `standing`: the state letter of each certificate (good, revoked or expired).
+    // The tables derived from these: the state letter of each certificate (good, revoked, expired); how many have each letter; the CRL entries.
     let letters = letters(alloc, rows_at(all, 7))?;
     let counts = counts(rows_at(all, 8))?;
     let listed = listings(alloc, rows_at(all, 9))?;

@@ -1,6 +1,6 @@
 //! The SQL queries of an audit. Rows come in the order of rowids; some queries read only rowids. `reg_store_tables` has the queries for the issuer
 //! and the bytes of CRLs. `office` has one row: version, issuer, policy and last accepted moment. `longest` is the schedule of longest validities.
-//! Derived from other tables: `standing` (the state letter of each certificate), `kept` (one row: their counts), `listed` (CRL entries).
+//! Derived: `standing` (each certificate's state letter), `kept` (one row: their counts), `listed` (CRL entries). `one`: the rowid of the only row.
 
 ghost use Rattle.std.specs.Prelude.{◌≡◌};
 ghost use Rattle.reg_audit.specs.ReadQueries.{sql_of};

@@ -41,7 +41,7 @@ const MOST_ALGORITHM: usize = 1_024;
 /// 2^28 octets, more than a register's CRL can have (2^27 + 66,573, by the contracts of `reg_crl`). A longer one is a defect, and is not parsed.
 const MOST_CRL: usize = 268_435_456;
 
-/// The fault for the CRL with this number. Its row has the same number, because CRL numbers are 1, 2, 3 and so on.
+/// The fault for the CRL with this number, whatever `check_crl` found. Its row has the same number, because CRL numbers are 1, 2, 3 and so on.
 fn other_bytes_fault(number: u64) -> AuditFault
     ensures { ¬ BreaksRule result }
 {

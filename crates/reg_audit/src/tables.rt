@@ -13,6 +13,7 @@ use reg_core::{CertRow, Counts, CrlRow, OrderRow, RequestRow, RevocationRow, Sub
 use sqlite::Row;
 use std::alloc::Global;
 
+/// From the only row of the table `office`: the cap, and the last accepted moment.
 pub(crate) fn office(rows: &[Row]) -> Result<OfficeRow, AuditFault>
     ensures read { OnRead OfOffice rows.now
         (λ records columns. IfOk result
@@ -79,6 +80,7 @@ pub(crate) fn letters(alloc: Global, rows: &[Row]) -> Result<Vec<Standing>, Audi
     typed::<StandingRows>(alloc, RegisterTable::Standing, rows)
 }
 
+/// The row of the table `kept`: how many certificates have each state letter.
 pub(crate) fn counts(rows: &[Row]) -> Result<Counts, AuditFault>
     ensures read { OnRead OfCounts rows.now
         (λ records columns. IfOk result (λ found. found ≡ columns.counts)) }
@@ -87,6 +89,7 @@ pub(crate) fn counts(rows: &[Row]) -> Result<Counts, AuditFault>
     only::<Counts>(RegisterTable::Kept, rows)
 }
 
+/// The rows of `listed`. Each has a revocation's CRL entry, and the numbers of the first and last CRL that list it.
 pub(crate) fn listings(alloc: Global, rows: &[Row]) -> Result<Vec<Listed>, AuditFault>
     ensures read { OnRead Listings rows.now
         (λ records columns. IfOk result (λ found. map listed_in found.items ≡ columns.listed)) }

@@ -46,6 +46,7 @@ impl RowKind for OfficeRow {
     }
 }
 
+/// Rows of `standing`: certificates' state letters. `RowKind` and [`Standing`] are of other crates, so this type implements `RowKind`.
 pub(crate) struct StandingRows;
 
 impl RowKind for StandingRows {
@@ -70,6 +71,7 @@ impl RowKind for StandingRows {
     }
 }
 
+/// Rows of `listed`: CRL entries. `first` and `last` are the numbers of the first and last CRL that list the entry.
 pub(crate) struct ListedRows;
 
 impl RowKind for ListedRows {

@@ -36,14 +36,14 @@ const TABLE_QUERIES: [AuditQuery; 10] = [
     AuditQuery::Listings,
 ];
 
-/// The audit of an open database. It reads all rows, and checks that the records are sound (they obey all rules of a register), and that `standing`
-/// (the state of each certificate), `kept` (the counts of each state) and `listed` (CRL entries) follow from them. Then it checks that the bytes of
-/// each CRL encode the entries that the records have for it (RFC 5280 5.1), with the algorithm that the CRL names. Last, it checks the rowids, the
-/// numbers in the table `office` (version, policy, last accepted moment), and the schedule. It verifies no signature, checks neither the schema nor a
-/// validity against the schedule, changes nothing, and reports its progress. `IsDisproved` says what a broken row disproves. If the tables have a
-/// register's schema (`AreTables`) and the audit succeeds, they show sound records (`ShowsSound`). Errors: `Broken` with a row that breaks a rule or
-/// has a value that no register has; `Memory`; `Store` if the database fails, or if its issuer, policy, version, or the rowid in `office` or `kept`
-/// is one that no register writes.
+/// Reads all rows of an open database. `check_read` checks that the records are sound (they obey all rules of a register), and that `standing` (the
+/// state of each certificate), `kept` (the counts of each state) and `listed` (CRL entries) follow from them. `check_crls` checks that the bytes of
+/// each CRL encode the entries that the records have for it (RFC 5280 5.1), with the algorithm that the CRL names. `check_complete` checks ids,
+/// rowids, the numbers in the table `office` (version, policy, last accepted moment), and the schedule. Verifies no signature, checks neither the
+/// schema nor a validity against the schedule, changes nothing, and reports its progress. The audit reports a broken row only if the tables show no
+/// sound register with valid values (`IsDisproved`). If the tables have a register's schema (`AreTables`) and the audit succeeds, they show sound
+/// records (`ShowsSound`). Errors: `Store` if the database fails, or if no register writes its issuer, policy, version, or rowid in `office` or
+/// `kept` (but `Broken` if the policy's `cap` is no number); `Broken` with a row that breaks a rule or has another invalid value; `Memory`.
 pub fn audit<S: Alter, W: ProgressObserver>(
     alloc: Global,
     conn: &mut Connection<S>,

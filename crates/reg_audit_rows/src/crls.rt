@@ -1,5 +1,5 @@
-//! Checks the bytes of a stored CRL: encodes the CRL anew from the rows of `listed`, with the stored signature, and compares.
-//! `number` is the CRL number. `take` gives a DER value and the bytes after it. For a `Broken` from here, `reg_audit` reports the CRL's row.
+//! Checks the bytes of a stored CRL: encodes the CRL anew from the rows of `listed` (the table of CRL entries), with the stored signature, and
+//! compares. `number`: the CRL number. `take` gives a DER value and the bytes after it. For a `Broken` from here, `reg_audit` reports the CRL's row.
 
 ghost use Rattle.std.specs.Prelude.{◌≡◌, ◌+◌, ◌≤◌, ◌↔◌, ℕ, List, Some, length, IsTrue, OnOk, IfOk};
 ghost use Rattle.std.specs.List.Sorted.{IsPermutation};

@@ -51,6 +51,7 @@ pub struct StoredDerivedRows<'a> {
     pub listed: &'a [Listed],
 }
 
+/// A row of a derived table. It has a serial number; `is` compares it with another row, field by field.
 pub(crate) trait HasSerial: Copy {
     ghost use Rattle.std.specs.Prelude.{◌≡◌, ◌↔◌, ℕ, IsTrue};
 

@@ -1,4 +1,4 @@
-//! Maps of rows by serial number, order id or request id. Of two rows with the same key (in `rows_differ`: name), the later is reported as broken.
+//! Maps of rows by serial number, order id or request id. Of two rows with the same key (in `names_differ`: name), the later is reported as broken.
 
 ghost use Rattle.std.specs.Prelude.{OnOk, IfOk};
 ghost use Rattle.std.specs.BTreeMap.{get};
@@ -81,7 +81,7 @@ pub(crate) fn revocations_by_request(
     Ok(found)
 }
 
-pub(crate) fn rows_differ(alloc: Global, subscribers: &[SubscriberRow]) -> Result<(), CheckFault>
+pub(crate) fn names_differ(alloc: Global, subscribers: &[SubscriberRow]) -> Result<(), CheckFault>
     ensures ok { OnOk result (KeysDiffer (λ row. row.name) subscribers.now) }
     ensures broken { NotBrokenIf (KeysDiffer (λ row. row.name) subscribers.now) result }
 {

@@ -114,6 +114,7 @@ pub(crate) fn are_in_time(
     Ok(())
 }
 
+/// Whether the request was received at the moment of the revocation or before, or there is no revocation.
 fn is_before(request: &RequestRow, revocation: Option<RevocationRow>) -> bool
     ensures { IsTrue result ↔ IsBefore request.now revocation }
 {
@@ -140,7 +141,7 @@ pub(crate) fn no_request_after_revocation(
     Ok(())
 }
 
-/// Why this request can't have led to the revocation. A request for another serial number is reported as `NoRequest`, like a missing one.
+/// Why this request can't have led to the revocation (`NoRequest`: it is for another serial number). Its ground (why to revoke) fixes the reasonCode.
 fn request_mismatch(request: &RequestRow, revocation: &RevocationRow) -> Option<Defect>
     ensures { NoDefectIff (LeadsTo revocation.now request.now) result }
 {

@@ -15,8 +15,8 @@ ghost use Rattle.reg_audit_rows.specs.Faults.{NotBrokenIf};
 use crate::ascending::{are_at_most_last, firsts_never_decrease, in_order, moments_never_decrease};
 use crate::fault::{CheckFault, broken_at, within_cap};
 use crate::index::{
-    certificates_by_order, certificates_by_serial, revocations_by_request, revocations_by_serial,
-    rows_differ,
+    certificates_by_order, certificates_by_serial, names_differ, revocations_by_request,
+    revocations_by_serial,
 };
 use crate::relations::{
     are_as_ordered, are_in_time, no_request_after_revocation, revocations_fit, subscribers_exist,
@@ -49,7 +49,7 @@ fn check_subscribers(alloc: Global, rows: &[SubscriberRow], cap: u64) -> Result<
     within_cap(RegisterTable::Subscriber, rows.len(), cap)?;
     in_order(RegisterTable::Subscriber, rows)?;
     names_are_good(rows)?;
-    rows_differ(alloc, rows)
+    names_differ(alloc, rows)
 }
 
 fn check_orders(

@@ -1,4 +1,4 @@
-//! Checks of each row by itself: names of subscribers have only allowed bytes, days of orders are 1 to 398, no notBefore is after its notAfter.
+//! Checks of each row by itself: names of subscribers have only allowed bytes, days of orders are 1 to 398 (in any schedule), notBefore ≤ notAfter.
 
 ghost use Rattle.std.specs.Prelude.{◌≤◌, OnOk};
 ghost use Rattle.std.specs.List.{AllByRecursion};

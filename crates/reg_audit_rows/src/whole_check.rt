@@ -14,7 +14,7 @@ use crate::fault::CheckFault;
 use crate::rows::{Rows, RowsBySerial, check_rows};
 use std::alloc::Global;
 
-/// Checks the derived rows against the sound records, `rows`. `found`: certificates and revocations by serial number. `letters`: rows of `standing`.
+/// Checks the derived rows against sound records: `rows`, some by serial number in `found`. `letters`: rows of `standing`. `listed`: CRL entries.
 fn check_derived(
     alloc: Global,
     rows: &Rows<'_>,

@@ -110,7 +110,7 @@ pub fn port_cause_of(kind: ErrorKind) -> Option<Cause>
     }
 }
 
-/// The cause for the first value out of its range (see `Policy::new`), or `None`. `days`: the longest validity. `cap`: the most rows of a table.
+/// The cause for the first value out of its range (`Policy::new`), if any. `days`: longest validity. Lives: seconds to nextUpdate. `cap`: most rows.
 #[tactic(auto, unfolding(crate::specs::Causes::policy_cause))]
 pub fn policy_cause_of(days: u64, crl_life: u64, ocsp_life: u64, cap: u64) -> Option<Cause>
     ensures { result ≡ policy_cause days crl_life ocsp_life cap }

@@ -5,7 +5,7 @@ use crate::rows::{CertRow, CrlRow, OrderRow, RequestRow, RevocationRow, Subscrib
 /// `Revocation` also has the certificate's notAfter (it decides which CRL lists it last), and `Crl` the DER. `Decline` has a request's id.
 #[derive(Clone, Copy)]
 pub enum Change<'a> {
-    /// Only the last accepted moment: the command `register` named a certificate that is registered already.
+    /// Only the last accepted moment: `register` named a certificate that is registered already, or a copy takes the moment of a page of the feed.
     Touch,
     Subscriber(SubscriberRow),
     Order(OrderRow),

@@ -1,5 +1,5 @@
 //! The pure decisions, one for each command. Each takes the rows that the caller looked up (`None`: there is no such row), and returns the row to
-//! write or the first refusal that applies. Each calls [`clock`] first; its comment lists its other refusals, in the order of their checks.
+//! write or the first refusal that applies. Each calls [`clock`] first; the comment of each lists its other refusals, in the order of their checks.
 //! `head` has the moments, the policy, and in `held` the number of rows in the table to which the command would add one; a new id is `held` + 1.
 
 ghost use Rattle.std.specs.Prelude.{◌≡◌, ℕ, ◌+◌, ◌<◌, ◌^◌, false, IfSome, ⊤};
@@ -151,8 +151,8 @@ pub fn decide_decline(
 }
 
 /// The row of the new revocation, and whether it is after the request's deadline. Field `first`: the number of the next CRL, the first to list it.
-/// `certificate` and `revocation` are those of the request's serial number; `latest` is the newest CRL. Refusals: `NoRequest`, `DeclinedBefore`,
-/// `RevokedBefore`, `Expired`. `Full` is none of them: each certificate has at most one revocation.
+/// `certificate` and `revocation` are those of the request's serial number; `latest` is the newest CRL, whose number is below 10^18, so that one more
+/// fits. Refusals: `NoRequest`, `DeclinedBefore`, `RevokedBefore`, `Expired`; not `Full`, because each certificate has at most one revocation.
 pub fn decide_revoke(
     head: &Head,
     request: Option<RequestRow>,
@@ -227,6 +227,7 @@ fn check_validity(head: &Head, wanted: &CertRow, order: &OrderRow) -> Result<(),
     if wanted.not_after < wanted.not_before {
         return Err(Refusal::BadValidity);
     }
+    // The policy's longest validity, in days, for this notBefore.
     let longest = head.policy.schedule().longest(wanted.not_before);
     // From notBefore through notAfter, both included (RFC 5280 4.1.2.5).
     let seconds = wanted.not_after.secs() - wanted.not_before.secs() + 1;

@@ -29,7 +29,7 @@ pub enum Refusal {
     BadValidity,
     TooLong,
     Ended,
-    // E14: no certificate has the serial number. E15: the ground is `hold`, but no certificate is put on hold. E16: no ground has the name.
+    // E14: no certificate has the serial number. E15: the ground is `hold`, but there is no certificateHold. E16: no ground has the name.
     UnknownSerial,
     NoHold,
     BadGround,
@@ -78,6 +78,7 @@ impl From<Memory> for Fault {
     }
 }
 
+/// The label with this text. A label may have 64 bytes; no text here has more than 30.
 fn line_of(text: &[u8]) -> Label
     requires not_empty { 1 ≤ length text.now }
     requires short { length text.now ≤ 30 }

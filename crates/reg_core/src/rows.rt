@@ -81,7 +81,7 @@ pub struct Entry {
 }
 
 /// What a decision (`decide.rt`) takes besides looked-up rows and the command's fields: the command's moment, `now`; the last accepted one, `last`;
-/// the policy; and `held`, how many rows the table has that the command adds to. `revoke` and `decline` use only the moments: they never get `Full`.
+/// the policy; and `held`, the number of rows in the table that would grow. `revoke` and `decline` use only the moments: they never get `Full`.
 #[derive(Clone, Copy, PartialEq, Eq)]
 pub struct Head {
     pub now: Moment,

@@ -23,8 +23,8 @@ pub fn headline<S: SignsCrls>()
     ensures refused { (signer : S) → RefusalsChangeNothing (S.signed signer) }
 {}
 
-/// Records are reached (reg_core's `Reached`) if they are sound and obey more rules. `desk audit` checks them all, but verifies no signature. A new
-/// register with a valid policy has reached records. Every list of commands and every valid new schedule keeps them reached.
+/// Records are reached (reg_core's `Reached`) if they are sound and obey more rules. `desk audit` checks all these rules, but verifies no signature.
+/// A new register with a valid policy has reached records. Every list of commands and every valid new schedule keeps them reached.
 pub fn reached<S: SignsCrls>()
     ensures is_sound { (signer : S) → ReachedIsSound (S.signed signer) }
     ensures created { (signer : S) → CreatedReached (S.signed signer) }
@@ -32,8 +32,8 @@ pub fn reached<S: SignsCrls>()
     ensures scheduled { (signer : S) → SchedulesKeepReached (S.signed signer) }
 {}
 
-/// Exactly these CRLs list a revoked serial number: the one with the number `first` of its revocation, and each later one, up to the first of them
-/// with a thisUpdate after notAfter, if issued. No CRL lists anything else. A recorded CRL stays signed; its entries and signed fields never change.
+/// Exactly these CRLs list a revoked serial number: the number `first` of its revocation, and each later one. The first of them with a thisUpdate
+/// after notAfter is the last, once it is issued. CRLs list nothing else. A recorded CRL stays signed; its entries and signed fields never change.
 pub fn history<S: SignsCrls>()
     ensures { (signer : S) → HistoryIsKept (S.signed signer) }
 {}

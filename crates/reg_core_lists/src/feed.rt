@@ -30,7 +30,6 @@ pub struct FeedRows {
     pub revocations: Vec<RevocationRow>,
 }
 
-/// A CRL in the changes feed.
 #[derive(Drop)]
 pub struct FeedCrl {
     pub row: CrlRow,
@@ -121,8 +120,9 @@ pub struct FeedPage {
     rows: FeedRows,
     /// A page with a CRL has no other row.
     crl: Option<FeedCrl>,
-    /// Whether nothing comes after the page. `counts` and `declines`: the positions after it, without their digest.
+    /// Whether nothing comes after the page.
     ends: bool,
+    /// The positions after the page, in two fields, without their digest.
     counts: RowCounts,
     declines: Declines,
 }

@@ -11,6 +11,7 @@ use std::alloc::{AllocError, Global};
 /// The octets of a moment, `YYYY-MM-DDTHH:MM:SSZ`.
 const MOMENT_OCTETS: usize = 20;
 
+/// What a text can begin with: the line of a row or of a declined request's id, or a step of a schedule.
 pub(crate) trait Leading: Copy {
     ghost use Rattle.std.specs.Prelude.{ℕ, List, Option, ◌≡◌, ◌<◌, IfSome, length, option_map};
 

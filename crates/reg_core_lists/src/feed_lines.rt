@@ -152,8 +152,9 @@ fn put_each(out: &mut Vec<u8>, fields: &[Cell]) -> Result<(), AllocError>
     Ok(())
 }
 
-/// The lines before the rows: the version of the feed, 1; the issuer; the policy; its schedule; `last`, the moment of the last accepted command.
-/// `stored_name` (the issuer's Name, then any key identifiers) and `key` are the columns `name` and `pubkey` of the table `office`.
+/// The lines before the rows: the feed's version, 1; the issuer; the policy (lives of CRLs and OCSP answers in seconds, most rows of a table); the
+/// schedule of longest validities; `last`, the moment of the last accepted command. `stored_name` (the issuer's Name, then any key identifiers) and
+/// `key` are the columns `name` and `pubkey` of the table `office`.
 #[tactic(auto, unfolding(crate::specs::FeedLines::page_head))]
 pub fn put_head(
     alloc: Global,
@@ -172,7 +173,7 @@ pub fn put_head(
     put_fields(out, "last", &[Cell::At(last)])
 }
 
-/// The line of the issuer, in hexadecimal digits. In the text that a digest of positions covers, `stored_name` has no key identifiers.
+/// The line of the issuer, in hexadecimal digits. The text that `digest_of` hashes (`feed.rt`) has it too, but there `stored_name` is the Name alone.
 #[tactic(auto, unfolding(crate::specs::FeedLines::issuer_line))]
 pub(crate) fn put_issuer(
     alloc: Global,

@@ -25,6 +25,7 @@ pub(crate) struct Field {
     pub(crate) cell: Cell,
 }
 
+/// `Request` is an open request. `AnyRequest` is a request in any state.
 pub(crate) fn fields_of(alloc: Global, row: &Row) -> Result<Vec<Field>, AllocError>
     ensures { IfOk result (λ fields. map field_of_text fields.items ≡ row_fields row.now) }
 {
@@ -281,7 +282,7 @@ pub fn ground_word(ground: Ground) -> Label
     }
 }
 
-/// The label with this text. Not by `Label::of`, whose result may be `None`: `Label::joined` (here with an empty second text) always gives a label.
+/// The label with this text, of 1 to 64 bytes. Not by `Label::of`, which may give `None`: `Label::joined` (with an empty second text) never does.
 fn word_label(text: &[u8]) -> Label
     requires not_empty { 1 ≤ length text.now }
     requires short { length text.now ≤ 64 }

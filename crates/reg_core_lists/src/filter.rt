@@ -59,6 +59,7 @@ impl Filter {
     }
 }
 
+/// The name of the row's subscriber; `None` for a CRL. [`Row`] says which lists have rows `Request`, and which list has rows `AnyRequest`.
 fn name_of_row(row: &Row) -> Option<Label>
     ensures { result ≡ name_of_row row.now }
 {

@@ -1,4 +1,4 @@
-//! The query for a page of a list, by the list's name and its parameters, `after=KEY&limit=N&before=MOMENT` and a filter,
+//! The query for a page of a list, by the list's name and up to seven parameters: `after=KEY&limit=N&before=MOMENT`, and those of a filter,
 //! `subscriber=NAME&serial=PREFIX&from=MOMENT&to=MOMENT`. KEY is the serial number, id or CRL number after which the page begins. Only the list
 //! `ending` takes `before`: it has the good certificates whose notAfter is before that moment.
 
@@ -99,12 +99,12 @@ fn read_params(query: &[u8]) -> Option<Params>
         if end == rest.len() {
             return Some(params);
         }
-        rest = behind(rest, end);
+        rest = text_after(rest, end);
     }
     None
 }
 
-fn behind(text: &[u8], index: usize) -> &[u8]
+fn text_after(text: &[u8], index: usize) -> &[u8]
     requires { index < length text.now }
     ensures { result.now ≡ drop (index + 1) text.now }
 {
@@ -135,7 +135,7 @@ fn with_parameter(params: Params, parameter: &[u8]) -> Option<Params>
     if end == parameter.len() {
         return None;
     }
-    with_value(params, &parameter[..end], behind(parameter, end))
+    with_value(params, &parameter[..end], text_after(parameter, end))
 }
 
 /// `params` with the parameter `name` added. `None`, as from the functions below, if `params` has it already, it is unknown, or its value is invalid.
@@ -187,6 +187,7 @@ fn with_filter(params: Params, name: &[u8], value: &[u8]) -> Option<Params>
     Some(Params { filter, ..params })
 }
 
+/// `filter` with the parameter `name` added. Each `filtered_..` function adds one parameter. [`with_filter`] puts the filter into `params`.
 fn filter_with(filter: Filter, name: &[u8], value: &[u8]) -> Option<Filter>
     ensures { result ≡ filter_with filter name.now value.now }
 {
@@ -242,7 +243,7 @@ fn filtered_to(filter: Filter, value: &[u8]) -> Option<Filter>
     Some(Filter { to, ..filter })
 }
 
-/// Reads the 1 to 40 hexadecimal digits with which a serial number begins; `None` for any other text.
+/// Reads the 1 to 40 hexadecimal digits with which a serial number begins; `None` for any other text. [`Label::of`] refuses the empty text.
 pub fn read_prefix(text: &[u8]) -> Option<Label>
     ensures { result ≡ prefix_of text.now }
 {

@@ -12,7 +12,7 @@ use crate::feed_lines::put_issuer;
 use reg_core::{Decimal, read_number};
 use std::alloc::{AllocError, Global};
 
-/// The most rows of each table in the digest of [`Positions`]: the last ones up to its count (all would take too long). Of CRLs: the end of the last.
+/// The most rows of each table in the digest of [`Positions`]: the copy's last ones (all would take too long). Of CRLs: the end of the last.
 pub const WINDOW: u64 = 32;
 
 /// How many rows of each table a copy of a register has: the first ones, in the order of entry.
@@ -34,8 +34,8 @@ pub struct Declines {
 }
 
 impl Declines {
-    /// `count` is how many requests with ids up to `last` are declined in the register. If these declines have that count, the result is these
-    /// declines. If not, one of these requests was declined later: then the result is `no_declines`, so that the feed has all declines again.
+    /// `count` is how many requests with ids up to `self.last` are declined in the register. If it equals `self.count`, the result is `self`. If not,
+    /// one of these requests was declined after the copy got `self`: the result is `no_declines`, so that the feed has all declines again.
     pub fn if_counted(&self, count: u64) -> Declines
         ensures { result ≡ cond (count == self.now.count) self.now no_declines }
     {

@@ -38,7 +38,7 @@ pub struct ListedRequest {
 pub struct RequestWithState {
     pub request: ListedRequest,
     pub status: Status,
-    /// For how many seconds after its deadline it was open, up to that moment (0 if none). `None` if declined: no record says when.
+    /// For how many seconds after its deadline the request was open, up to the list's moment (0 if none). `None` if declined: no record says when.
     pub lateness: Option<u64>,
 }
 

@@ -1,5 +1,5 @@
 //! Lists as CSV (RFC 4180, but records end with LF) and JSON (RFC 8259). No byte needs quoting or escaping: names are of letters, digits and `.-_`. A
-//! cursor names a list, and the key of the row after which it continues. `put_..` appends to `out`; in `.._rest`, the first item is written already.
+//! cursor names a list, and the key after which it continues. `put_..` appends to `out` (`put_plain`: unquoted); `.._rest`, items after the first.
 
 ghost use Rattle.std.specs.Prelude.{◌≡◌, ◌∷◌, ◌++◌, [], IfOk, flat_map, map};
 ghost use Rattle.reg_core_lists.specs.Cursors.{key_cell};

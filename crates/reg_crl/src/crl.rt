@@ -116,7 +116,7 @@ fn revoked(alloc: Global, entries: &[Entry]) -> Result<Vec<u8>, Memory>
     Ok(out)
 }
 
-/// Appends one entry; its `at` is the revocationDate. All entries use the same `buffer` for their contents, which saves allocations.
+/// Appends one entry (at most 59 bytes); `at` is its revocationDate. All entries use the same `buffer` for their contents, which saves allocations.
 #[tactic(auto, unfolding(crate::specs::Crl::revoked_certificate))]
 fn put_revoked_certificate(
     out: &mut Vec<u8>,

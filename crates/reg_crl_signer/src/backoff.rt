@@ -69,6 +69,7 @@ impl<D: Device, C: Clock> BackoffDevice<D, C> {
         }
     }
 
+    /// [`Device::exchange`] (which says why `room` has at most 4,097 bytes), unless a back-off is active at `began`.
     fn exchange_at(
         &mut self,
         began: Duration,

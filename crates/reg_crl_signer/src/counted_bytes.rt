@@ -20,7 +20,7 @@ pub(crate) fn without_length(counted: &[u8]) -> Option<&[u8]>
     }
 }
 
-/// The message, of at most 2^24 - 1 bytes, after its length.
+/// The message after its length. At most 2^24 - 1 bytes are sent so: `LONGEST_MESSAGE` of `signer_connection.rt` says why.
 pub(crate) fn with_length(alloc: Global, message: &[u8]) -> Result<Vec<u8>, AllocError>
     requires { length message.now ≤ 16777215 }
     ensures { IfOk result (λ bytes. bytes.items ≡ counted_bytes message.now) }

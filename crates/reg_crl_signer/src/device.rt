@@ -1,3 +1,5 @@
+//! The trait of a device, which has a signer's private key. Back-off (`BackoffDevice`): for ten seconds after a timeout, the device is not asked.
+
 ghost use Rattle.reg_crl_signer.specs.Devices.{Exchanges};
 
 /// A [`Device`] gave no answer: it can't be reached, the connection failed or timed out, the answer is too long, or a back-off is active.

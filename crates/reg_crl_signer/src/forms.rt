@@ -55,6 +55,7 @@ pub fn has_form(identifier: &[u8], key: &[u8], signature: &[u8]) -> bool
 }
 
 /// Whether `key` has the form of a point (SEC 1 2.3.3): octet 4 and two coordinates of `octets` octets, or octet 2 or 3 and one coordinate.
+/// With fewer than 100 `octets`, the sums below can't overflow.
 fn is_point(key: &[u8], octets: usize) -> bool
     requires { octets < 100 }
     ensures { IsTrue result ↔ IsPoint octets key.now }

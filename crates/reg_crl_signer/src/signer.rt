@@ -63,6 +63,7 @@ impl<D: Device + Drop> DeviceSigner<D> {
     }
 
     /// Asks the device to sign, and cuts the buffer `answer` to the device's answer, if one came. `true` if that answer has the form of a signature.
+    /// The buffer has one byte more than `LONGEST_ANSWER`, because `Device::exchange` fails unless the answer is shorter than its buffer.
     fn ask_device(&mut self, message: &[u8], answer: &mut Vec<u8>) -> bool
         requires { vec_len answer.old ≤ 4097 }
         ensures signed { OnTrue result
@@ -90,7 +91,6 @@ impl<D: Device + Drop> DeviceSigner<D> {
         ensures signing { SigningByDevice D.Device self.old self.new message.now result }
         ensures asks { AsksAtItsPath D.Device self.old self.new message.now result }
     {
-        // One byte more, because `Device::exchange` fails unless the answer is shorter than its buffer.
         let mut answer = vec![in alloc; 0; LONGEST_ANSWER + 1]?;
         if self.ask_device(message, &mut answer) {
             return Ok(answer);

@@ -21,7 +21,7 @@ pub struct KeyIdentifier {
     pub octets: Label,
 }
 
-/// The stored key identifier with which the bytes begin, and the bytes after it; `None` if they do not begin with one.
+/// The stored key identifier with which the bytes begin, and the bytes after it; `None` if they do not begin with one. `joined` has no second text.
 #[tactic(auto, unfolding(crate::specs::Authority::identifier_at))]
 fn first_identifier(bytes: &[u8]) -> Option<(KeyIdentifier, &[u8])>
     ensures exact { AgreesWith (λ x. (x.0, x.1.now)) result (authority.identifier_at bytes.now) }

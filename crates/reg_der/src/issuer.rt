@@ -152,6 +152,7 @@ impl Issuer {
     }
 }
 
+/// The first DER value (the Name), and the bytes after it (the key identifiers). If there is no value, both are empty, and [`is_name`] is false.
 #[tactic(auto, unfolding(crate::specs::Authority::name_in, crate::specs::Authority::after_name))]
 fn split_stored_name(stored_name: &[u8]) -> (&[u8], &[u8])
     ensures name { result.0.now ≡ name_in stored_name.now }

@@ -78,6 +78,7 @@ fn read_contents(bytes: &[u8]) -> Option<(&[u8], &[u8])>
     Some(rest.split_at(length))
 }
 
+/// As [`take`], without `raw`.
 #[tactic(auto, unfolding(crate::specs::ValueReading::value_at))]
 fn first_element(bytes: &[u8]) -> Option<(u8, &[u8], &[u8])>
     ensures exact { AgreesWith (λ x. (record { tag = x.0; contents = x.1.now }, x.2.now)) result

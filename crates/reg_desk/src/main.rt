@@ -46,6 +46,7 @@ fn words_of(rt: &HostRuntime) -> Result<Vec<String>, Usage> {
     }
 }
 
+/// Prints the text, and returns the exit status. `F1 memory` and `F5 write` are the lines of these faults (`Fault::line` of reg_core).
 fn print_usage(rt: &HostRuntime, usage: &Usage) -> u8 {
     let printed = match usage {
         Usage::Help(text) | Usage::Version(text) => print!(rt; "{text}"),

@@ -121,14 +121,20 @@ fn arg<'a>(alloc: Global, part: &Part) -> Result<Arg<'a>, AllocError>
     ensures local { IfOk result (λ arg. arg.global ≡ false) }
 {
     match *part {
-        Part::RequiredArgument(id, name, help) => Ok(word(alloc, id, name, help).required(true)),
-        Part::OptionalArgument(id, name, help) => Ok(word(alloc, id, name, help)),
+        Part::RequiredArgument(id, name, help) => Ok(one_value(alloc, id, name, help).required(
+            true,
+        )),
+        Part::OptionalArgument(id, name, help) => Ok(one_value(alloc, id, name, help)),
         Part::Rest(id, name, help) => {
-            Ok(word(alloc, id, name, help).required(true).num_args(1..))
+            Ok(
+                one_value(alloc, id, name, help)
+                    .required(true)
+                    .num_args(1..),
+            )
         }
-        Part::RequiredOption(id, name, help) => Ok(needed(alloc, id, name, help)),
-        Part::Renamed(id, older, name, help) => needed(alloc, id, name, help).alias(older),
-        Part::OptionalOption(id, name, help) => Ok(word(alloc, id, name, help).long(id)),
+        Part::RequiredOption(id, name, help) => Ok(required_option(alloc, id, name, help)),
+        Part::Renamed(id, older, name, help) => required_option(alloc, id, name, help).alias(older),
+        Part::OptionalOption(id, name, help) => Ok(one_value(alloc, id, name, help).long(id)),
         Part::Several(id, names, help) => Ok(
             Arg::new(alloc, id).long(id).value_names(names).help(help),
         ),
@@ -141,16 +147,16 @@ fn arg<'a>(alloc: Global, part: &Part) -> Result<Arg<'a>, AllocError>
     }
 }
 
-fn needed<'a>(alloc: Global, id: &'a str, name: &'a str, help: &'a str) -> Arg<'a>
+fn required_option<'a>(alloc: Global, id: &'a str, name: &'a str, help: &'a str) -> Arg<'a>
     ensures rule { rule_of result ≡ needs id.entry.now }
     ensures local { result.global ≡ false }
     ensures alone { result.aliases.items ≡ [] }
 {
-    word(alloc, id, name, help).long(id).required(true)
+    one_value(alloc, id, name, help).long(id).required(true)
 }
 
 /// A positional argument that may be left out and takes one value; the caller's `long` makes it an option.
-fn word<'a>(alloc: Global, id: &'a str, name: &'a str, help: &'a str) -> Arg<'a>
+fn one_value<'a>(alloc: Global, id: &'a str, name: &'a str, help: &'a str) -> Arg<'a>
     ensures rule { rule_of result ≡ may id.entry.now }
     ensures local { result.global ≡ false }
     ensures alone { result.aliases.items ≡ [] }

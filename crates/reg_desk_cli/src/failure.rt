@@ -19,7 +19,7 @@ pub enum Failure {
     OldVersion,
     /// The Name, the key or the key identifier is invalid.
     BadIssuer,
-    /// An option of `init` is out of its range (`--days`, `--crl-life`, `--ocsp-life` or `--cap`), or the steps given to `schedule` are invalid.
+    /// An `init` option is out of range (`--days`, `--crl-life`, `--ocsp-life`; `--cap`, a table's most rows), or steps of `schedule` are invalid.
     BadPolicy,
     /// The clock is more than 30 days past the moment of the last accepted command, and the operator has not accepted it (`--accept-clock`).
     BadClock,
@@ -49,21 +49,21 @@ impl Failure {
     {
         match *self {
             Failure::Fault(fault) => fault.line(),
-            Failure::NotEmpty => words(b"not-empty"),
-            Failure::NotARegister => words(b"not-a-register"),
-            Failure::NewVersion => words(b"new-version"),
-            Failure::OldVersion => words(b"old-version"),
-            Failure::BadIssuer => words(b"bad-issuer"),
-            Failure::BadPolicy => words(b"bad-policy"),
-            Failure::BadClock => words(b"bad-clock"),
-            Failure::BadSigner => words(b"bad-signer"),
-            Failure::BadResponder => words(b"bad-responder"),
-            Failure::Refused => words(b"refused"),
-            Failure::NoLineEnd => words(b"no-line-end"),
-            Failure::RefusedNoLineEnd => words(b"refused\nno-line-end"),
-            Failure::Broken => words(b"broken"),
-            Failure::NotACrl => words(b"not-a-crl"),
-            Failure::LacksPublished => words(b"behind-crl"),
+            Failure::NotEmpty => label(b"not-empty"),
+            Failure::NotARegister => label(b"not-a-register"),
+            Failure::NewVersion => label(b"new-version"),
+            Failure::OldVersion => label(b"old-version"),
+            Failure::BadIssuer => label(b"bad-issuer"),
+            Failure::BadPolicy => label(b"bad-policy"),
+            Failure::BadClock => label(b"bad-clock"),
+            Failure::BadSigner => label(b"bad-signer"),
+            Failure::BadResponder => label(b"bad-responder"),
+            Failure::Refused => label(b"refused"),
+            Failure::NoLineEnd => label(b"no-line-end"),
+            Failure::RefusedNoLineEnd => label(b"refused\nno-line-end"),
+            Failure::Broken => label(b"broken"),
+            Failure::NotACrl => label(b"not-a-crl"),
+            Failure::LacksPublished => label(b"behind-crl"),
         }
     }
 }
@@ -121,7 +121,7 @@ pub fn status_of(ending: &Result<(), Failure>) -> u8
 }
 
 /// A text of 1 to 64 bytes as a label. It uses `joined` with an empty second text, because [`Label::of`] gives an `Option`.
-fn words(text: &[u8]) -> Label
+fn label(text: &[u8]) -> Label
     requires not_empty { 1 ≤ length text.now }
     requires short { length text.now ≤ 64 }
     ensures { result ≡ text.now }

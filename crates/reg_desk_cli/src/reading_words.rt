@@ -1,4 +1,4 @@
-//! Reads the words of a command line. `desk` is clap's description of it, `matches` what clap found in the words, `given` in those after the command.
+//! Reads the words of a command line. `desk`: clap's description of it. `matches`: what clap found. `given`: what it found after the command's name.
 
 ghost use Rattle.std.specs.Prelude.{◌≡◌, IfErr, IfOk, map};
 ghost use Rattle.clap.specs.Words.{app_of, found_of, rows_of, subcommand_rows_of, kind_of};

@@ -28,9 +28,10 @@ const MAX_CACHE_PAGES: usize = 131_072;
 
 const OWNER_ONLY: u32 = 0o600;
 
-/// Opens the database at a path for writing, or creates it. The crate `sqlite` then checks each page, index and constraint. `start` only tells
-/// contracts what the file and its log (`-wal`) hold. Errors: `Memory`; `Store`, with its cause if that is known, if the file can't be opened, if it
-/// is no database, or if the path is `:memory:` or begins with `file:`.
+/// Opens the database at a path for writing, or creates it. The crate `sqlite` then checks each page, index and constraint. `start` tells contracts
+/// what the file and its log (`-wal`) hold, and (`Start::mixes`) whether a torn write leaves each byte old or new: if so, most commits sync once.
+/// Errors: `Memory`; `Store`, with its cause if that is known, if the file can't be opened, if it is no database, or if the path is `:memory:` or
+/// begins with `file:`.
 pub fn open_file<S: Start>(
     rt: &HostRuntime,
     path: &str,

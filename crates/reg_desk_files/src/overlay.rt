@@ -108,8 +108,8 @@ impl<F: ReadAt> Disk for Overlay<F> {
 
     ghost fair_if_clean = { λ _ _ clean. clean };
 
-    // Whether a crash can leave old and new bytes of one write mixed. Here it can't, because no write reaches a file. By `may_leave`, a crash leaves
-    // all bytes as they are, even those in memory; no process can read these after a crash.
+    // Whether a crash is sure to leave each byte of a torn write old or new: then most commits sync once. `false` promises less, and a second sync
+    // costs nothing here. By `may_leave`, a crash leaves all bytes as they are, even those in memory; no process can read these after a crash.
     fn mixes(&self) -> bool {
         false
     }

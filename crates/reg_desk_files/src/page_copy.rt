@@ -1,4 +1,4 @@
-//! Copies a database's file and its log to one new file, which has each page as opening would find it, even if only the log has that page.
+//! Copies a database's file and its log (`-wal`) to one new file, which has each page as opening would find it, even if only the log has that page.
 
 ghost use Rattle.std.specs.Prelude.{◌≡◌, ◌*◌, min, IfErr, IfOk, IsTrue, OnOk};
 ghost use Rattle.std.specs.Io.KnownBytes.{Appends};
@@ -58,7 +58,7 @@ fn copy_sources<F: ReadAt + Drop>(
     ensures { IfErr result IsReadFailureOfFiles }
 {
     // The default page cache (2,000 pages) is enough, since a copy reads each page once.
-    // The seed is for the log's salts, the key for digests that check later reads of a page.
+    // The seed is for the log's salts, the key for digests that check later reads of a page. `overlaid` lets no write reach the files.
     let options = Options::new(sources.options.seed);
     let files = overlaid(rt.alloc(), sources.log, sources.db, sources.key);
     copy_files(rt, files, options, to)

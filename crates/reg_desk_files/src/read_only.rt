@@ -41,7 +41,7 @@ impl From<FileFault> for ReadFailure {
     }
 }
 
-/// A database's file, which is only read, a copy of its log (`-wal`; empty if there is none), and the options to open the database.
+/// A copy of a database's log (`-wal`; empty if there is none); the database's file, which is only read; and the options to open the database.
 #[derive(Drop)]
 pub struct SourceFiles<F: ReadAt> {
     pub log: Vec<u8>,

@@ -41,7 +41,7 @@ enum PieceEnd {
 }
 
 /// The most rows whose lines are sent before a reply is read, so that the desk can run them in one transaction. Neither side blocks the other: the
-/// lines are one write of at most 28 KB, and a socket's buffer (208 KB) holds 278 replies of at most 84 bytes, as the kernel counts 768 for each.
+/// lines are one write of at most 28 KB, and a socket's buffer (208 KB) holds 278 replies: the kernel counts 768 bytes for a reply of at most 84.
 const MOST_IN_FLIGHT: usize = 256;
 
 /// Sends each line of standard input (`reader`) to the control socket at a path, once the reply to the line before has come, and writes its reply.
@@ -156,8 +156,8 @@ pub fn exchange_lines<R: BufRead, W: Write, C: BufRead, S: Write>(
         is_accepted = both(is_accepted, piece_is_accepted);
         match piece.end {
             PieceEnd::Full => {}
-            PieceEnd::Cut => return Err(cut_off(is_accepted)),
-            PieceEnd::End => return ended(is_accepted),
+            PieceEnd::Cut => return Err(failure_at_cut(is_accepted)),
+            PieceEnd::End => return result_at_end(is_accepted),
         }
     }
     // Not reached: no input has this many lines.
@@ -170,8 +170,8 @@ pub(crate) fn both(first: bool, second: bool) -> bool
     first && second
 }
 
-/// The result once all lines were sent. `is_accepted`, here and in [`cut_off`]: no reply was a refusal or a fault.
-pub(crate) fn ended(is_accepted: bool) -> Result<(), Failure>
+/// The result once all lines were sent (in [`failure_at_cut`]: all but a last one without LF). `is_accepted`: no reply was a refusal or a fault.
+pub(crate) fn result_at_end(is_accepted: bool) -> Result<(), Failure>
     ensures { MatchResult result (λ done. IsTrue is_accepted)
         (λ why. (why ≡ Failure.Refused) × IsFalse is_accepted) }
 {
@@ -182,7 +182,7 @@ pub(crate) fn ended(is_accepted: bool) -> Result<(), Failure>
     }
 }
 
-pub(crate) fn cut_off(is_accepted: bool) -> Failure
+pub(crate) fn failure_at_cut(is_accepted: bool) -> Failure
     ensures { ((result ≡ Failure.NoLineEnd) × IsTrue is_accepted)
         ⊎ ((result ≡ Failure.RefusedNoLineEnd) × IsFalse is_accepted) }
 {

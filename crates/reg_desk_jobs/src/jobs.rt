@@ -83,8 +83,8 @@ fn make_at<M: Machine, W: Write>(
         path.now issuer policy
         result }
 {
-    let register = create_register(machine, path, issuer, policy)?;
-    machine.close(path, register);
+    let office = create_register(machine, path, issuer, policy)?;
+    machine.close(path, office);
     print_text(writer, b"created\n")
 }
 
@@ -101,7 +101,7 @@ pub fn script<M: Machine, R: Source, W: Sink>(
     ensures { ScriptAt M.Machine M.Office.Office R.remaining W.contents R.failed W.failed
         machine.old machine.new reader.old reader.new writer.old writer.new path.now signer.now result }
 {
-    // The signer of CRLs also signs the answers to `ocsp` lines. They embed no certificate.
+    // `open_signed` also takes no signer (`None`). The signer of CRLs also signs the answers to `ocsp` lines, which embed no certificate.
     let responder = ResponderChoice::Issuer { certificate: None };
     let mut office = open_signed(machine, path, signer, &responder)?;
     let is_unsigned = signer.is_none();
@@ -112,8 +112,8 @@ pub fn script<M: Machine, R: Source, W: Sink>(
 
 /// Imports the rows in `reader` into a register, all at one moment: the given one, or that of the clock at the start. The clock's moment is refused
 /// (`BadClock`) if it is more than 30 days past the last accepted command's, unless the operator accepts that. A strict import ends at the first
-/// refusal or fault (`Refused`), and runs no last row without its line end (`NoLineEnd`). If a refusal (E08, E09 or E12) ends it, `reason` gets
-/// the details for `--why`. Other errors: `Read` if the clock can't be read; opening errors; those of [`import`].
+/// refusal or fault (`Refused`), and runs no last row without its line end (`NoLineEnd`). If the refusal E08, E09 or E12 (docs/RULES.md) ends it,
+/// `reason` gets the details for `--why`. Other errors: `Read` if the clock can't be read; opening errors; those of [`import`].
 pub fn import_rows<M: Machine, R: Source, W: Sink>(
     alloc: Global,
     machine: &mut M,
@@ -205,6 +205,7 @@ fn import_strict_rows<M: Machine, R: Source, W: Sink>(
     imported
 }
 
+/// The job's result from that of its run, which may have ended at a refusal (`Ended`). [`ended`] is for a run that only a fault ends early.
 pub(crate) fn run_ended(ran: Result<Ended, Fault>) -> Result<(), Failure>
     ensures { result ≡ exit_of_run ran }
 {
@@ -228,9 +229,9 @@ pub fn crl<M: Machine, W: Write>(
         path.now number
         result }
 {
-    let mut register = open_unsigned(machine, path)?;
-    let outcome = register.crl_bytes(alloc, number);
-    machine.close(path, register);
+    let mut office = open_unsigned(machine, path)?;
+    let outcome = office.crl_bytes(alloc, number);
+    machine.close(path, office);
     print_result(writer, outcome)
 }
 
@@ -260,9 +261,9 @@ pub fn schedule<M: Machine, W: Write>(
         steps.now result }
 {
     let schedule = schedule_of(steps)?;
-    let mut register = open_unsigned(machine, path)?;
-    let set = register.set_schedule(alloc, schedule);
-    machine.close(path, register);
+    let mut office = open_unsigned(machine, path)?;
+    let set = office.set_schedule(alloc, schedule);
+    machine.close(path, office);
     print_set_result(writer, b"schedule set\n", set)
 }
 
@@ -280,9 +281,9 @@ pub fn key_identifier<M: Machine, W: Write>(
         key_id.now result }
 {
     let octets = key_identifier_of(alloc, key_id)?;
-    let mut register = open_unsigned(machine, path)?;
-    let set = register.set_key_identifier(alloc, octets);
-    machine.close(path, register);
+    let mut office = open_unsigned(machine, path)?;
+    let set = office.set_key_identifier(alloc, octets);
+    machine.close(path, office);
     print_set_result(writer, b"key-id set\n", set)
 }
 

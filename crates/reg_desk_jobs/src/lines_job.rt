@@ -101,7 +101,7 @@ fn refuses_clock<M: Machine>(machine: &M, office: &mut M::Office, options: Scrip
     is_ahead_of::<M>(office, now)
 }
 
-/// Whether `now` is over 30 days past the moment of the last accepted command. `false` if there is none, or reading it fails: the job reports that.
+/// Whether `now` is over 30 days past the last accepted command's moment. `false` without such a command, or if reading fails: the job reports that.
 pub(crate) fn is_ahead_of<M: Machine>(office: &mut M::Office, now: Moment) -> bool
     ensures { LooksIn M.Office.Office (λ records. IsTrue result → IsTrue (ahead now records.last None))
         office.old office.new }

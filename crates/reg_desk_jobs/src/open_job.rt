@@ -8,8 +8,8 @@ use reg_desk_service::{Machine, open_signed};
 use reg_io::{Sink, Source};
 
 /// Serves a register until a signal ends the program, or the clock or the sockets fail. No number of HTTP connections ends the job (`u64::MAX`). The
-/// job opens the register, binds the port, and then creates the control socket. If it has a published CRL, `reader` gives it, and a register that
-/// lacks its number or one of its revocations is not served. Errors: those of [`serve`](crate::serve); `Read` if the control socket can't be created.
+/// job opens the register, binds the port, and then creates the control socket. With `--published`, `reader` gives a CRL, and a register that lacks
+/// that CRL's number or a revocation in it is not served. Errors: those of [`serve`](crate::serve); `Read` if the control socket can't be created.
 pub fn serve_open<M: Machine, R: Source, W: Sink>(
     rt: &HostRuntime,
     machine: &mut M,
@@ -22,6 +22,7 @@ pub fn serve_open<M: Machine, R: Source, W: Sink>(
         writer.old writer.new job.now result }
 {
     let path = job.file.as_str();
+    // With `--unsigned`, the job has no signer: placeholder digests take the place of signatures.
     let office = open_signed(machine, path, &job.signer, &job.responder)?;
     let (office, ending) = serve_checked(
         rt,

@@ -68,7 +68,7 @@ fn missing_lines<O: Office>(alloc: Global, office: &mut O, bytes: &[u8]) -> Resu
     Ok(lines)
 }
 
-/// Adds a line if the published CRL's number is above that of the register's latest CRL, or above 0 if it has none.
+/// Adds a line if the published CRL's number is above that of the register's latest CRL (0 if the register has no CRL).
 fn put_missing_crl(lines: &mut Vec<u8>, latest: Option<CrlRow>, number: u64) -> Result<(), Fault>
     ensures { OnOk result (lines.new.items ≡ lines.old.items ++ missing_crl latest number) }
 {

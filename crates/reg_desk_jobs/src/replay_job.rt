@@ -137,7 +137,7 @@ fn replay_line<W: Write, C: BufRead, S: Write>(
                 )
             }
         },
-        // An exchange has four quotation marks; one to three are a part of one. A line without any records something else, such as a lost connection.
+        // An exchange has four quotation marks, a part of one has one to three. A line with none reports something else, such as a lost connection.
         None if has_quote(text) => stop(writer, line),
         None => Ok(()),
     }
@@ -234,7 +234,7 @@ fn number_now(numbers: &[Renumbered], logged: u64) -> u64
     number
 }
 
-/// Whether the first two words of a reply are as logged. For a decision, only the first counts (it may be late now). A request needs `request ..`.
+/// Whether a reply's first two words are as logged; for a decision the first alone (it may be `revoked late` now); for a request it is `request`.
 fn agrees(logged_exchange: &ExchangeText<'_>, logged_command: &LoggedCommand, reply: &[u8]) -> bool
     ensures { result ≡ agrees (exchange_of logged_exchange.now) logged_command.now reply.now }
 {

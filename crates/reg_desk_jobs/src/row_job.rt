@@ -5,7 +5,7 @@ ghost use Rattle.std.specs.Prelude.{◌≡◌, ◌<◌, ◌==◌, ◌↔◌, IfE
 ghost use Rattle.reg_desk_jobs.specs.Conversations.{IsConversationFault};
 ghost use Rattle.reg_desk_jobs.specs.RowTasks.{AnswersRow, IsRowDone, LineReplied, OrdersRow, RegistersRow, RevokesRow, SendsRows, SendsRowsAt, SendsRowsOver, has_first_word, header_of, is_skipped, link_of, split_at_comma, registration_row_in, revocation_row_in, row_order, row_registration, row_request, row_revocation, row_status};
 
-use crate::at_job::{NextLine, both, cut_off, ended, next_line, request_reply};
+use crate::at_job::{NextLine, both, failure_at_cut, next_line, request_reply, result_at_end};
 use crate::log_entries::{first_word, second_word};
 use crate::output_lines::print_text;
 use reg_core::{Fault, Label, Moment, Serial};
@@ -32,7 +32,7 @@ struct RegistrationInput {
 
 /// Does a task with the certificate of each row in `reader`, in their order, by lines at the control socket at a path. For each row, writes the reply
 /// to the last line sent for it. A row is `SERIAL,GROUND` to revoke, and `SERIAL,NOTBEFORE,NOTAFTER` to register. Empty lines and lines equal to the
-/// header are skipped. Errors: those of [`at`](crate::at), but the refusal E19 (already revoked) doesn't count as one.
+/// header are skipped. Errors: those of [`at`](crate::at), but the refusal E19 (already revoked) is no error here.
 pub fn each_row<M: Machine, R: Read, W: Write>(
     alloc: Global,
     machine: &M,
@@ -92,8 +92,8 @@ fn send_each<R: BufRead, W: Write, C: BufRead, S: Write>(
                 Ok(line_is_done) => is_done = both(is_done, line_is_done),
                 Err(why) => return Err(why),
             },
-            NextLine::Cut => return Err(cut_off(is_done)),
-            NextLine::End => return ended(is_done),
+            NextLine::Cut => return Err(failure_at_cut(is_done)),
+            NextLine::End => return result_at_end(is_done),
         }
     }
     // Not reached: no input has this many lines.
@@ -147,8 +147,8 @@ fn answer_row<C: BufRead, S: Write>(
     }
 }
 
-/// Asks for the `status` of a row's serial number (`None`: the row can't be read). If the reply is `unknown`, no certificate has it: only then enters
-/// an order, and registers the certificate under it. So a row that is already registered adds no order. Returns the last reply.
+/// Asks for the `status` of the serial number of `row` (`None`: the row can't be read). If the reply is `unknown`, no certificate has it: only then
+/// enters an order, and registers the certificate under it (`order_row`). So a row that is registered already adds no order. Returns the last reply.
 fn register_row<C: BufRead, S: Write>(
     alloc: Global,
     terms: OrderTerms,
@@ -284,6 +284,7 @@ fn first_comma(text: &[u8]) -> Option<usize>
     text.iter().position(|byte| *byte == b',')
 }
 
+/// The line `request SERIAL GROUND`. `put_word` and `put_number` put a space before what they append.
 fn request_line(alloc: Global, row: &RevocationInput) -> Result<Vec<u8>, AllocError>
     ensures { IfOk result (λ line. line.items ≡ row_request row.now) }
 {

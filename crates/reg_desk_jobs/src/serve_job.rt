@@ -32,8 +32,8 @@ const LOOPBACK: [u8; 4] = [127, 0, 0, 1];
 
 const LOOPBACK_V6: [u8; 16] = [0, 0, 0, 0, 0, 0, 0, 0, 0, 0, 0, 0, 0, 0, 0, 1];
 
-/// Answers `job.requests` HTTP connections, with one request each. Opens the register before it binds the port. If the job has a published CRL,
-/// `reader` gives it, and the register must have reached its number and have its revocations ([`check_published`]). Errors: those of
+/// Answers `job.requests` HTTP connections, with one request each. Opens the register before it binds the port. With `--published`, `reader` gives a
+/// CRL: the register must have reached the CRL's number, and have its revocations ([`check_published`]). Errors: those of
 /// [`Machine::read_responder`], [`check_published`], [`Machine::check_database`] and [`Machine::open_in`]; `Read` if the port can't be bound, or
 /// serving ends early; `Memory`; `Write`.
 pub fn serve<M: Machine, R: Source, W: Sink>(
@@ -151,7 +151,7 @@ fn serve_desk<'a, 'w, M: Machine, W: Write>(
     let signing = signing_of(&CrlSignerChoice::of(signer, responder));
     let tally = Cell::new(Tally::new(signing, responder_not_after(machine, responder)));
     let connection_totals = Cell::new(ConnectionTotals::nothing());
-    // The limits on requests for revocation over HTTP.
+    // The limits on requests for revocation over HTTP. `is_open`, below: whether the job is `open`.
     let admission = Admission::new();
     let mut desk: Desk<'_, '_, M> = Desk {
         office,

@@ -10,11 +10,11 @@ use Rattle.reg_core.specs.declared.rows.CrlRow.{CrlRow}
 use Rattle.reg_office_api.specs.declared.register_summary.TableSizes.{TableSizes}
 use Rattle.reg_desk_metrics.specs.Samples.{moment_or_zero, sample, sample_of_seconds}
 use Rattle.reg_desk_metrics.specs.Tallies.{greatest}
-use Rattle.reg_desk_metrics.specs.declared.series_names.TheConstants.{ACCEPTED, ACCEPTED_LINES, ANSWER, ANSWER_CODE, ANSWERED, BEHIND, BROKEN, BUILD, CAP, CERTIFICATE_ROWS, CLOCK, COUNTED, OPEN_CONTROL, CRL_AGE, CRL_DUE, CRL_FAILING, CRL_LAST, CRL_LAST_FAILED, CRL_NUMBER, CRL_ROWS, CRL_SIGNED, CRL_FAILED, EVICTED, EXPIRED, FAULTS, GOOD, LABEL_END, LAST_COMMAND, LATE, NEXT_UPDATE, NO_MEMORY, OCSP_ERRORS_BY_SIGNER, OCSP_BY_STORE, OCSP_FAILING, OCSP_LAST, OCSP_LAST_FAILED, OCSP_SIGNED, OCSP_FAILED, OPEN, ORDER_ROWS, OVERDUE, OPEN_HTTP, READABLE, REFUSED_LINES, REQUEST_ROWS, RESPONDER_ENDS, REVOKED, ROUTE_COUNT, ROUTE_SECONDS, ROUTE_SUM, SECONDS, SECONDS_COUNT, SECONDS_SUM, SECONDS_TO, STORE_FAILING, SUBSCRIBER_ROWS, THIS_UPDATE}
+use Rattle.reg_desk_metrics.specs.declared.series_names.TheConstants.{ACCEPTED, ACCEPTED_LINES, ANSWER, ANSWER_CODE, ANSWERED, BEHIND, BROKEN, BUILD, CAP, CERTIFICATE_ROWS, CLOCK, COUNTED, OPEN_CONTROL, CRL_AGE, CRL_DUE, CRL_FAILING, CRL_LAST, CRL_LAST_FAILED, CRL_NUMBER, CRL_ROWS, CRL_SIGNED, CRL_FAILED, EVICTED, EXPIRED, FAULTS, GOOD, LABEL_END, LAST_COMMAND, LATE, NEXT_UPDATE, NO_MEMORY, OCSP_ERRORS_BY_SIGNER, OCSP_ERRORS_BY_STORE, OCSP_FAILING, OCSP_LAST, OCSP_LAST_FAILED, OCSP_SIGNED, OCSP_FAILED, OPEN, ORDER_ROWS, OVERDUE, OPEN_HTTP, READABLE, REFUSED_LINES, REQUEST_ROWS, RESPONDER_ENDS, REVOKED, ROUTE_COUNT, ROUTE_SECONDS, ROUTE_SUM, SECONDS, SECONDS_COUNT, SECONDS_SUM, SECONDS_TO, STORE_FAILING, SUBSCRIBER_ROWS, THIS_UPDATE}
 use Rattle.reg_desk_metrics.specs.declared.numbers.ConnectionTotals.{ConnectionTotals}
 use Rattle.reg_desk_metrics.specs.declared.numbers.Numbers.{Numbers}
 use Rattle.reg_desk_metrics.specs.declared.numbers.Requests.{Requests}
-use Rattle.reg_desk_metrics.specs.declared.signature_outcomes.Signing.{Signing}
+use Rattle.reg_desk_metrics.specs.declared.signature_outcomes.SignatureCounts.{SignatureCounts}
 use Rattle.reg_desk_metrics.specs.declared.tally.Tally.{Tally}
 
 -- how many seconds the clock is behind the last command; 0 if the register doesn't refuse for that reason
@@ -129,13 +129,13 @@ lines_text tally =
     ++ sample FAULTS.now tally.faults
 
 -- signatures: how many were received, and how many failed
-unfoldable pub signed_text : Signing → Signing → List ℕ
+unfoldable pub signed_text : SignatureCounts → SignatureCounts → List ℕ
 signed_text crls ocsp =
     sample CRL_SIGNED.now crls.received ++ sample OCSP_SIGNED.now ocsp.received
     ++ sample CRL_FAILED.now crls.failed ++ sample OCSP_FAILED.now ocsp.failed
 
 -- when a signature was last received, and when one last failed
-unfoldable pub last_text : Signing → Signing → List ℕ
+unfoldable pub last_text : SignatureCounts → SignatureCounts → List ℕ
 last_text crls ocsp =
     sample CRL_LAST.now (moment_or_zero crls.last) ++ sample OCSP_LAST.now (moment_or_zero ocsp.last)
     ++ sample CRL_LAST_FAILED.now (moment_or_zero crls.last_failed)
@@ -217,7 +217,7 @@ routes_text tally = ROUTE_SECONDS.now ++ routes_prefix tally 12
 -- the OCSP responses that were internalError, by cause
 unfoldable pub failures_text : Tally → List ℕ
 failures_text tally =
-    sample OCSP_ERRORS_BY_SIGNER.now tally.ocsp_signer_failures ++ sample OCSP_BY_STORE.now tally.ocsp_store_failures
+    sample OCSP_ERRORS_BY_SIGNER.now tally.ocsp_signer_failures ++ sample OCSP_ERRORS_BY_STORE.now tally.ocsp_store_failures
 
 -- notAfter of the responder's certificate, if it is known
 abbrev pub responder_text : Option ℕ → List ℕ

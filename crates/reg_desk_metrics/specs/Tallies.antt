@@ -16,7 +16,7 @@ use Rattle.reg_desk_metrics.specs.declared.numbers.CrlSigning.{CrlSigning}
 use Rattle.reg_desk_metrics.specs.declared.numbers.CrlSigning.TheVariants.{Key, Digest, NoSigner}
 use Rattle.reg_desk_metrics.specs.declared.numbers.ReadCrl.{ReadCrl}
 use Rattle.reg_desk_metrics.specs.declared.numbers.Requests.{Requests}
-use Rattle.reg_desk_metrics.specs.declared.signature_outcomes.Signing.{Signing}
+use Rattle.reg_desk_metrics.specs.declared.signature_outcomes.SignatureCounts.{SignatureCounts}
 use Rattle.reg_desk_metrics.specs.declared.tally.Tally.{Tally}
 
 -- the greatest number of 64 bits
@@ -84,12 +84,12 @@ bucket_of micros =
     else 11
 
 -- no signature was requested yet
-abbrev pub nothing_requested : Signing
+abbrev pub nothing_requested : SignatureCounts
 nothing_requested = record { received = 0; failed = 0; last = None; last_failed = None; failing_since = None }
 
 -- Signatures of one kind after an outcome at a moment. None was requested: nothing changes. One was received: they no longer fail. One failed: they
 -- fail since this moment, unless they failed already.
-abbrev pub signing_after : SignatureOutcome → ℕ → Signing → Signing
+abbrev pub signing_after : SignatureOutcome → ℕ → SignatureCounts → SignatureCounts
 signing_after signature.NotRequested now before = before
 signing_after signature.Made now before =
     record before { received = one_more before.received; last = Some now; failing_since = None }

@@ -13,7 +13,7 @@ use std::alloc::{AllocError, Global};
 /// What fails in an open register. A field is the moment since when its part fails, or the moment in its comment; `None` if the part doesn't fail.
 #[derive(Clone, Copy, PartialEq, Eq)]
 pub struct Health {
-    /// If the clock is behind the last command: that command's moment. If it is over 30 days ahead (`is_ahead`), or not before `CLOCK_END`: now.
+    /// If the clock is behind the last command: that command's moment. If it `is_ahead` (over 30 days) or not before `CLOCK_END` (9999-12-22): now.
     pub(crate) clock: Option<Moment>,
     /// The next CRL is due at once (`Numbers::due` is `None`): there is none yet, or the latest has a placeholder digest and a key now signs CRLs.
     pub(crate) is_crl_due_at_once: bool,

@@ -10,13 +10,13 @@ use crate::series_names::{
     ACCEPTED, ACCEPTED_LINES, ANSWER, ANSWER_CODE, ANSWERED, BEHIND, BROKEN, BUILD, CAP,
     CERTIFICATE_ROWS, CLOCK, COUNTED, CRL_AGE, CRL_DUE, CRL_FAILED, CRL_FAILING, CRL_LAST,
     CRL_LAST_FAILED, CRL_NUMBER, CRL_ROWS, CRL_SIGNED, EVICTED, EXPIRED, FAULTS, GOOD, LABEL_END,
-    LAST_COMMAND, LATE, NEXT_UPDATE, NO_MEMORY, OCSP_BY_STORE, OCSP_ERRORS_BY_SIGNER, OCSP_FAILED,
-    OCSP_FAILING, OCSP_LAST, OCSP_LAST_FAILED, OCSP_SIGNED, OPEN, OPEN_CONTROL, OPEN_HTTP,
-    ORDER_ROWS, OVERDUE, READABLE, REFUSED_LINES, REQUEST_ROWS, RESPONDER_ENDS, REVOKED,
+    LAST_COMMAND, LATE, NEXT_UPDATE, NO_MEMORY, OCSP_ERRORS_BY_SIGNER, OCSP_ERRORS_BY_STORE,
+    OCSP_FAILED, OCSP_FAILING, OCSP_LAST, OCSP_LAST_FAILED, OCSP_SIGNED, OPEN, OPEN_CONTROL,
+    OPEN_HTTP, ORDER_ROWS, OVERDUE, READABLE, REFUSED_LINES, REQUEST_ROWS, RESPONDER_ENDS, REVOKED,
     ROUTE_COUNT, ROUTE_SECONDS, ROUTE_SUM, SECONDS, SECONDS_COUNT, SECONDS_SUM, SECONDS_TO,
     STORE_FAILING, SUBSCRIBER_ROWS, THIS_UPDATE,
 };
-use crate::signature_outcomes::Signing;
+use crate::signature_outcomes::SignatureCounts;
 use crate::tally::{ANSWERS, BUCKETS, CODES, ROUTES, Tally};
 use reg_core::{Counts, CrlRow, Fault, Moment, Refusal};
 use reg_office_api::TableSizes;
@@ -158,7 +158,7 @@ fn put_requests(text: &mut Vec<u8>, requests: Option<Requests>) -> Result<(), Al
     ensures { OnOk result (text.new.items ≡ text.old.items ++ requests_text requests) }
 {
     let Some(counted) = requests else {
-        // They were not counted yet.
+        // The requests were not counted yet.
         return Ok(());
     };
     put_sample(text, OPEN, counted.waiting)?;
@@ -243,7 +243,11 @@ fn put_lines(text: &mut Vec<u8>, tally: &Tally) -> Result<(), AllocError>
 }
 
 #[tactic(auto, unfolding(crate::specs::Metrics::signed_text))]
-fn put_signed(text: &mut Vec<u8>, crls: Signing, ocsp: Signing) -> Result<(), AllocError>
+fn put_signed(
+    text: &mut Vec<u8>,
+    crls: SignatureCounts,
+    ocsp: SignatureCounts,
+) -> Result<(), AllocError>
     ensures { OnOk result (text.new.items ≡ text.old.items ++ signed_text crls ocsp) }
 {
     put_sample(text, CRL_SIGNED, crls.received)?;
@@ -253,7 +257,11 @@ fn put_signed(text: &mut Vec<u8>, crls: Signing, ocsp: Signing) -> Result<(), Al
 }
 
 #[tactic(auto, unfolding(crate::specs::Metrics::last_text))]
-fn put_last(text: &mut Vec<u8>, crls: Signing, ocsp: Signing) -> Result<(), AllocError>
+fn put_last(
+    text: &mut Vec<u8>,
+    crls: SignatureCounts,
+    ocsp: SignatureCounts,
+) -> Result<(), AllocError>
     ensures { OnOk result (text.new.items ≡ text.old.items ++ last_text crls ocsp) }
 {
     put_moment(text, CRL_LAST, crls.last)?;
@@ -377,7 +385,7 @@ fn put_failures(text: &mut Vec<u8>, tally: &Tally) -> Result<(), AllocError>
     ensures { OnOk result (text.new.items ≡ text.old.items ++ failures_text tally.now) }
 {
     put_sample(text, OCSP_ERRORS_BY_SIGNER, tally.ocsp_signer_failures)?;
-    put_sample(text, OCSP_BY_STORE, tally.ocsp_store_failures)
+    put_sample(text, OCSP_ERRORS_BY_STORE, tally.ocsp_store_failures)
 }
 
 fn put_responder(text: &mut Vec<u8>, ends: Option<Moment>) -> Result<(), AllocError>

@@ -6,7 +6,7 @@ ghost use Rattle.reg_desk_metrics.specs.Samples.{digit_at as digit_spec, moment_
 use reg_core::{Decimal, Moment};
 use std::alloc::AllocError;
 
-/// Appends a sample: `series`, the value and an LF. `series` is the name of a series, or the last part of one (as `LABEL_END`); it ends with a space.
+/// Appends a sample: `series`, the value and an LF. `series` is the name of a series, or its end after a label's value (`"} `); it ends with a space.
 pub(crate) fn put_sample(text: &mut Vec<u8>, series: &str, value: u64) -> Result<(), AllocError>
     ensures { OnOk result (text.new.items ≡ text.old.items ++ sample series.now value) }
 {

@@ -146,4 +146,4 @@ pub(crate) const RESPONDER_ENDS: &str =
 pub(crate) const OCSP_ERRORS_BY_SIGNER: &str =
     "# HELP desk_ocsp_internal_errors_total OCSP responses over HTTP that were internalError, by what failed.\n# TYPE desk_ocsp_internal_errors_total counter\ndesk_ocsp_internal_errors_total{cause=\"signer\"} ";
 
-pub(crate) const OCSP_BY_STORE: &str = "desk_ocsp_internal_errors_total{cause=\"store\"} ";
+pub(crate) const OCSP_ERRORS_BY_STORE: &str = "desk_ocsp_internal_errors_total{cause=\"store\"} ";

@@ -8,7 +8,7 @@ use reg_office_api::{SignatureOutcome, StoreEffect};
 
 /// Signatures of one kind (CRLs or OCSP responses): how many were received or failed, and when last. A placeholder digest counts as `received`.
 #[derive(Clone, Copy, PartialEq, Eq)]
-pub(crate) struct Signing {
+pub(crate) struct SignatureCounts {
     pub(crate) received: u64,
     pub(crate) failed: u64,
     pub(crate) last: Option<Moment>,
@@ -17,11 +17,11 @@ pub(crate) struct Signing {
     pub(crate) failing_since: Option<Moment>,
 }
 
-impl Signing {
-    pub(crate) fn nothing() -> Signing
+impl SignatureCounts {
+    pub(crate) fn nothing() -> SignatureCounts
         ensures { result ≡ nothing_requested }
     {
-        Signing {
+        SignatureCounts {
             received: 0,
             failed: 0,
             last: None,
@@ -30,18 +30,19 @@ impl Signing {
         }
     }
 
-    pub(crate) fn after(self, signature_outcome: SignatureOutcome, now: Moment) -> Signing
+    /// The counts after a signature with this outcome at `now`.
+    pub(crate) fn after(self, signature_outcome: SignatureOutcome, now: Moment) -> SignatureCounts
         ensures { result ≡ signing_after signature_outcome now self }
     {
         match signature_outcome {
             SignatureOutcome::NotRequested => self,
-            SignatureOutcome::Made => Signing {
+            SignatureOutcome::Made => SignatureCounts {
                 received: self.received.saturating_add(1),
                 last: Some(now),
                 failing_since: None,
                 ..self
             },
-            SignatureOutcome::Failed => Signing {
+            SignatureOutcome::Failed => SignatureCounts {
                 failed: self.failed.saturating_add(1),
                 last_failed: Some(now),
                 failing_since: self.failing_since.or(Some(now)),

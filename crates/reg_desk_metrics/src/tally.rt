@@ -4,7 +4,7 @@ ghost use Rattle.std.specs.Prelude.{◌≡◌, ◌<◌};
 ghost use Rattle.reg_desk_metrics.specs.Tallies.{IsNewTally, bumped, bucket_of as bucket_spec, route_number as number_of_route, code_number as number_of_code, with_time as timed, with_exchange, with_line, outcomes_counted, with_reply_to_line, with_counted, wants_requests as wants_counted, has_crl_key as has_key, read_of, with_read, with_amount, is_ocsp_route, has_response, with_route, with_failure, counted_crl_outcome};
 
 use crate::numbers::{CrlSigning, ReadCrl, Requests};
-use crate::signature_outcomes::{Signing, store_after};
+use crate::signature_outcomes::{SignatureCounts, store_after};
 use reg_core::Moment;
 use reg_http::{Exchange, Route};
 use reg_office_api::{LineEffects, LineReply, SignatureOutcome, StoreEffect};
@@ -37,8 +37,8 @@ pub struct Tally {
     pub(crate) ocsp_signer_failures: u64,
     pub(crate) ocsp_store_failures: u64,
     /// The signatures of CRLs, and those of OCSP responses.
-    pub(crate) crls: Signing,
-    pub(crate) ocsp: Signing,
+    pub(crate) crls: SignatureCounts,
+    pub(crate) ocsp: SignatureCounts,
     pub(crate) store_failing_since: Option<Moment>,
     /// How many requests for revocation were open and overdue when they were counted last; `None` if they were not counted yet.
     pub(crate) requests: Option<Requests>,
@@ -174,8 +174,8 @@ impl Tally {
             route_micros: [0; ROUTES],
             ocsp_signer_failures: 0,
             ocsp_store_failures: 0,
-            crls: Signing::nothing(),
-            ocsp: Signing::nothing(),
+            crls: SignatureCounts::nothing(),
+            ocsp: SignatureCounts::nothing(),
             store_failing_since: None,
             requests: None,
             crl_signing,

@@ -3,7 +3,7 @@
 use crate::dispatch::perform_without_contract;
 use crate::host::{SystemHost, open_log};
 use crate::input::{Input, input_path};
-use crate::progress::{CountedOutput, register_path_of, report_opening};
+use crate::progress::{CountedOutput, register_path_of, show_large_opening};
 use reg_core::{Fault, create_cause_of, io_cause_of};
 use reg_desk_cli::{Failure, Invocation, status_of};
 use reg_desk_jobs::report_exit;
@@ -14,14 +14,15 @@ use std::os::unix::fs::MetadataExt;
 use std::{fs, io};
 
 /// Does the job of an invocation, and returns its exit status. The job reads standard input, or the file that an option or argument names in its
-/// place. If that file or the log file can't be opened, `run_desk` does no job, reports the fault on standard error, and returns 1.
+/// place. If that file or the log file can't be opened, `run_desk` does no job, reports the fault on standard error, and returns 1. Else it has
+/// `perform_without_contract` do the job: [`perform`](crate::perform), but without its contract, which the prover would write out at length here.
 pub fn run_desk(rt: &HostRuntime, invocation: &Invocation<'_>) -> u8 {
     let log_file = log_path(invocation);
     if let Err(error) = check_log(rt, invocation) {
         let cause = FailureCause::at(Some(Location::LogFile), create_cause_of(error.kind()));
         return report_fault(rt, invocation, Fault::Write, cause);
     }
-    report_opening(rt, &invocation.job);
+    show_large_opening(rt, &invocation.job);
     let (location, path) = input_path(&invocation.job).unzip();
     let mut input = match Input::of(rt, path) {
         Ok(input) => input,

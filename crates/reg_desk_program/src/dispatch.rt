@@ -104,6 +104,7 @@ fn run<M: Machine, R: Source, W: Sink>(
             control_path,
             rows: None,
         } => at(alloc, &*machine, control_path.as_str(), reader, writer),
+        // `desk at --import`. With `--orders` too, or with `--revoke`, the job is `EachRow`.
         Job::At {
             control_path,
             rows: Some(_),

@@ -57,7 +57,7 @@ pub struct SystemHost<'a> {
     /// Each library call that uses the system takes it.
     pub(crate) rt: HostRuntime,
     pub(crate) last_cause: &'a Cell<Option<FailureCause>>,
-    /// Where exchanges are logged: on standard error, in the file at this path, in both, or nowhere.
+    /// Where exchanges are logged: on standard error (`--log`), in the file at this path (`--log-file`), in both, or nowhere.
     pub(crate) logs_to_stderr: bool,
     pub(crate) log_file: Option<&'a str>,
     pub(crate) shows_progress: bool,
@@ -218,7 +218,7 @@ impl<'a> Machine for SystemHost<'a> {
     }
 
     fn connect(&mut self, path: &str) -> Result<FileConnection, Failure> {
-        // `Unknown`: no contract knows what the file holds; a torn write leaves each byte old or new, so most commits sync once.
+        // `Unknown`: contracts don't know what the file holds, but suppose that a torn write leaves each byte old or new: most commits sync once.
         match open_file(&self.rt, path, Unknown) {
             Ok(connection) => Ok(connection),
             Err(why) => Err(Failure::Fault(self.fault_of(Some(Location::File), why))),

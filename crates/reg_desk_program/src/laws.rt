@@ -33,10 +33,10 @@ pub fn without_a_key_only_digests_are_made<D: Device>()
 /// stop in any later call, or after it. Then the disk refuses each call, and no client gets a reply: a reply is written only after its call. A
 /// register that is opened again from what the disk kept has the records from before the interrupted call, or those after it (`leaves`). The
 /// interrupted call is the last one (`call`), or an earlier one in which a failure of the disk closed the connection, so that no later call changed
-/// the records (`calls`). No reply accepted its commands. So no accepted command is lost. Of the others, at most those of this call (such as a batch)
-/// were carried out. If a job closes the files without an error at its end, a register that is opened from them has the records from before the
-/// closing, even if the machine stops then (`closes`). This holds if the connection obeys its schema: `IsLive`, the clause `live` of
-/// `Connection::schema`.
+/// the records (`calls`). No reply accepted the commands of that call, so no accepted command is lost. Of the commands without an accepting reply, at
+/// most those of that call (such as a batch) were carried out. If a job closes the files without an error at its end, a register that is opened from
+/// them has the records from before the closing, even if the machine stops then (`closes`). This holds if the connection obeys its schema: `IsLive`,
+/// the clause `live` of `Connection::schema`.
 pub fn a_stop_leaves_what_was_reported<D: Disk, S: Signer>()
     ensures { LeavesWhatWasReported D.Disk S.signs }
 {}

@@ -83,8 +83,8 @@ pub(crate) fn close<D: Disk + Drop>(connection: Connection<FileStore<D>>) {
     drop(connection.close());
 }
 
-/// Presets the next signature of the delegate if `kind` is `Answer` (an OCSP response) and a delegate responds, else of the signer of CRLs. `None`
-/// removes the preset. [`Machine::set_preset`](reg_desk_service::Machine::set_preset), which calls this, requires that a signer gave the signature.
+/// Stores a signer's answer that came already, for the next `sign`: of the delegate if `kind` is `Answer` (an OCSP response) and a delegate responds,
+/// else of the signer of CRLs. `None` removes it. [`Machine::set_preset`](reg_desk_service::Machine::set_preset) requires that the signer gave it.
 #[tactic(auto, using(crate::proofs::PresetSignatures::given_anyhow))]
 pub(crate) fn preset_next(
     signer: &mut FileSigner,

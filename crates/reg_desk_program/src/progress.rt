@@ -88,7 +88,7 @@ impl<'a> Write for CountedOutput<'a> {
     }
 }
 
-pub(crate) fn report_opening(rt: &HostRuntime, job: &Job<'_>) {
+pub(crate) fn show_large_opening(rt: &HostRuntime, job: &Job<'_>) {
     let Some(path) = register_path_of(job) else {
         return;
     };

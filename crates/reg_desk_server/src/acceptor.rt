@@ -23,7 +23,7 @@ pub(crate) struct Acceptor {
     next: Option<(TcpStream, SocketAddr)>,
     /// Whether another connection may be waiting at the listener.
     may_have_more: bool,
-    /// Whether one is expected: since the last accept the listener became ready, or registering it failed. Only then may an error evict a connection.
+    /// Whether a connection is expected: since the last accept the listener became ready, or its registration failed. Else no error evicts another.
     expects_more: bool,
     /// Whether no file descriptor was left for a waiting connection, and no HTTP connection was open that could be closed to free one.
     pub(crate) lacks_descriptors: bool,
@@ -58,8 +58,8 @@ impl Acceptor {
     }
 
     /// Accepts connections until `limit` were accepted in all; at most [`MOST_ACCEPTS`] in one call. `now`: milliseconds of the handler's clock.
-    /// Evicts an open connection if no slot is free, or if accept(2) fails while a new one is expected (but not if a signal came, the client is gone
-    /// or no client waits). If none is open: after a lack of descriptors, the next call tries again; after any other such error, [`EventLoopFault`].
+    /// Evicts an open connection if no slot is free. Does so also if accept(2) fails while a connection is expected, unless a signal came, the client
+    /// is gone or no client waits. If no connection is open then: [`EventLoopFault`]; but after a lack of descriptors, the next call tries again.
     pub(crate) fn accept_all<H: Handler>(
         &mut self,
         limit: u64,

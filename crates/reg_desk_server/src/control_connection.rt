@@ -17,7 +17,7 @@ use std::alloc::Global;
 use std::io::{ErrorKind, Read};
 
 /// A connection that keeps at least this many bytes without an LF is closed. No valid line is so long: with its LF it has at most 8,193 bytes.
-const LONGEST_LINE: usize = 8_194;
+const OVERLONG_LINE: usize = 8_194;
 
 const MOST_READS: usize = 4;
 
@@ -44,7 +44,7 @@ pub struct ControlConnection<S: ClientStream> {
     pub(crate) last_reason: Vec<u8>,
 }
 
-/// The index after the first line, with its LF; `None` if no line is whole.
+/// The index after the first line, with its LF; `None` if no line is whole. Searches all bytes, from the index 0 on.
 #[tactic(auto, using(crate::proofs::Holdings::found_or_none))]
 pub fn line_end(bytes: &[u8]) -> Option<usize>
     ensures { MatchOption result (HasNoLine bytes.now) (λ end. FirstLineEnds bytes.now end) }
@@ -134,7 +134,7 @@ impl<S: ClientStream> ControlConnection<S> {
         match line_end(self.arrived.as_slice()) {
             Some(_) => Some(NextStep::Due),
             None if self.has_ended => Some(NextStep::Close),
-            None if self.arrived.len() >= LONGEST_LINE => Some(NextStep::Close),
+            None if self.arrived.len() >= OVERLONG_LINE => Some(NextStep::Close),
             None => None,
         }
     }
@@ -270,6 +270,7 @@ impl<S: ClientStream> ControlConnection<S> {
     }
 }
 
+/// Reads once into `read_buffer`, which all connections share, and appends what came to `buffer`.
 fn gather<R: Read>(reader: &mut R, buffer: &mut Vec<u8>, read_buffer: &mut [u8]) -> Received
     ensures receives { Receives (R.remaining reader.old) (R.remaining reader.new)
         buffer.old.items buffer.new.items result }

@@ -32,7 +32,7 @@ pub(crate) struct ControlConnections<H: Handler> {
     pub(crate) lacks_descriptors: bool,
     /// Whether a connection may have a whole line without a reply.
     has_lines: bool,
-    /// The slot that is answered first (modulo the number of slots): the one after that whose line last waited for a signature. So all get a turn.
+    /// The slot that is answered first (modulo the number of slots): it follows the slot whose line last waited for a signature. All get a turn.
     first_slot: usize,
 }
 

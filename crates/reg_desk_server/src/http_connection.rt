@@ -225,6 +225,7 @@ impl<S: ClientStream, H: Handler> HttpConnection<S, H> {
         }
     }
 
+    /// Sends more of the answer. `None` if all of it is sent, and the connection is not closed yet: then `send_on` calls `finish`.
     fn send(&mut self) -> Option<NextStep>
         ensures sends { Sends S.Write.contents self.old self.new }
         ensures all { IfNone result (HasUnsentText self.new.stage []) }

@@ -13,7 +13,7 @@ pub(crate) const TIMEOUT_MILLIS: u64 = 10_000;
 /// After a request to the signer would have blocked, no signature is requested for this many milliseconds.
 pub(crate) const PAUSE_MILLIS: u64 = 10;
 
-/// How many polls after a request don't block. Together they take 0.1 to 0.2 ms, in which most signatures come. A wake-up takes as long as signing.
+/// How many polls after a request don't block. In their 0.1 to 0.2 ms most signatures come. A wake-up, which blocking adds, takes as long as signing.
 const POLLS: u32 = 100;
 
 /// An HTTP connection that waits for a signature: its slot, and its number, which no other connection has.
@@ -39,7 +39,7 @@ struct SignatureSlot {
     has_arrived: bool,
 }
 
-/// The signatures that were requested, each at a place (`index`), the queue of those to be requested, and how many of the `POLLS` are left (`polls`).
+/// The queue of the signatures to be requested; the requested ones, each at a place (`index`); and how many of the `POLLS` are left (`polls`).
 #[derive(Drop)]
 pub(crate) struct SignatureRequests {
     queue: VecDeque<PendingSignature>,

@@ -19,7 +19,7 @@ use Rattle.reg_desk_service.specs.declared.words.RowKey.TheVariants.{Request, Ce
 
 -- whether a row is the one to be shown
 abbrev pub has_key : RowKey → Row → Bool
-has_key (Request id) (kind.AnyRequest history) = history.request.request.id == id
+has_key (Request id) (kind.AnyRequest with_state) = with_state.request.request.id == id
 has_key (Certificate serial) (kind.Certificate line) = line.certificate.serial == serial
 has_key (Subscriber name) (kind.Subscriber row) = bytes_eq row.name name
 has_key shown other = false

@@ -20,7 +20,7 @@ use Rattle.reg_desk_service.specs.declared.words.SerialDecision.{SerialDecision}
 
 -- the request of a row, if it has one
 abbrev pub request_of_row : Option Row → Option RequestRow
-request_of_row (Some (kind.AnyRequest history)) = Some history.request.request
+request_of_row (Some (kind.AnyRequest with_state)) = Some with_state.request.request
 request_of_row other = None
 
 -- the request with the number is for another serial number

@@ -1,4 +1,4 @@
-//! The limits that `desk open` sets to requests for revocation over HTTP. The limit on a clock too far ahead holds at the control socket, too.
+//! Limits of `desk open` on requests for revocation over HTTP. The limit on a clock too far past the `last` command holds at the control socket, too.
 
 ghost use Rattle.std.specs.Prelude.{◌≡◌, IfOk, None, replicate};
 ghost use Rattle.reg_office_api.specs.Calls.{LeadsIn, LooksIn};
@@ -16,7 +16,7 @@ use reg_ocsp::Draft;
 use reg_office_api::{Office, RequestLoad};
 use std::alloc::Global;
 
-/// With this many open requests for one serial number, the desk refuses another over HTTP: else these could fill the requests table.
+/// With this many open requests for one serial number, the desk refuses another over HTTP: such requests could otherwise fill their table.
 const MOST_OPEN: u64 = 3;
 
 /// The most requests for revocation over HTTP within a minute: for each, the desk may read the whole requests table (`Office::request_load`).
@@ -74,7 +74,7 @@ impl Admission {
     }
 }
 
-/// Answers a request at `/requests`: 429 or 503 if a limit refuses it. One with an unknown ground (reason) isn't limited: the register refuses it.
+/// Answers a request at `/requests`: 429 or 503 if a limit refuses it. No limit holds if `serial_of` gives `None`: the request can't be entered.
 pub(crate) fn begin_admitted<M: Machine>(
     alloc: Global,
     office: &mut M::Office,
@@ -102,7 +102,7 @@ pub(crate) fn begin_admitted<M: Machine>(
     }
 }
 
-/// Counts a request to revoke this serial number, unless the rate limit refuses it. Its answer, if a limit refuses it or after a fault; else `None`.
+/// Counts a request to revoke this serial number, unless the rate limit refuses it. Returns the answer if a limit refuses it or a call fails.
 fn refusal_of<M: Machine>(
     alloc: Global,
     office: &mut M::Office,
@@ -115,7 +115,7 @@ fn refusal_of<M: Machine>(
     ensures counted { admission.new ≡ after_request now admission.old }
 {
     if admission.recent.is_rate_reached(now) {
-        return refused(alloc, status::TOO_MANY_REQUESTS);
+        return refusal_with_status(alloc, status::TOO_MANY_REQUESTS);
     }
     admission.recent.count(now);
     match office.request_load(now, serial, MOST_OPEN) {
@@ -123,14 +123,14 @@ fn refusal_of<M: Machine>(
             request_load,
             is_ahead(now, request_load.last, admission.accepted),
         ) {
-            Some(status) => refused(alloc, status),
+            Some(status) => refusal_with_status(alloc, status),
             None => Ok(None),
         },
         Err(fault) => Ok(Some(report_fault(alloc, fault)?)),
     }
 }
 
-fn refused(alloc: Global, status: u16) -> Result<Option<HttpAnswer>, Memory>
+fn refusal_with_status(alloc: Global, status: u16) -> Result<Option<HttpAnswer>, Memory>
     ensures { IfOk result (IsRefusedBy status) }
 {
     Ok(Some(refuse(alloc, status)?))

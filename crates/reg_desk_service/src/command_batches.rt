@@ -23,7 +23,7 @@ use reg_lines::{LONGEST_REPLY, LineKind, ParsedLine, RefusedCommand, ReplyText, 
 use reg_office_api::Office;
 use std::alloc::Global;
 
-/// The most commands in one transaction. They share one sync of the disk, but other clients wait until the transaction ends.
+/// The most commands in one transaction. The commands share one sync of the disk, but other clients wait until the transaction ends.
 const MOST_COMMANDS: usize = 256;
 
 /// The command lines at the beginning of some lines; the command of each, with the moment at which it is to run; how many bytes they have, with LFs.
@@ -34,6 +34,7 @@ struct CommandLines<'a> {
     length: usize,
 }
 
+/// A command line, its length (both with the LF), and its command.
 #[derive(Clone, Copy)]
 struct CommandLine<'a> {
     line: &'a [u8],
@@ -43,7 +44,7 @@ struct CommandLine<'a> {
 
 /// Runs at `now` the command lines at the beginning of these lines in one transaction; counts (`tally`) and logs each. `None`: no command has run,
 /// as there are fewer than two such lines, the clock is too far ahead, the store failed, or there was no memory. The first line then runs alone.
-/// `accepted`: the moment in the last `accept-clock`. `began`: the monotonic clock (microseconds) before the answer. `why` reports `last_reason`.
+/// `accepted`: the moment of the last line `accept-clock`. `began`: the monotonic clock's µs before the answer. A line `why` reports `last_reason`.
 pub(crate) fn answer_batch<M: Machine>(
     alloc: Global,
     office: &mut M::Office,
@@ -172,7 +173,7 @@ fn may_run<M: Machine>(office: &mut M::Office, accepted: Option<Moment>, now: Mo
     }
 }
 
-/// The replies to commands with these outcomes, in the empty buffer `room`, which has capacity for them: nothing is allocated.
+/// The replies to commands with these outcomes, in the empty buffer `room`. It has 84 bytes (`LONGEST_REPLY`) for each, so nothing is allocated.
 fn joined_replies(outcomes: &[Outcome], room: Vec<u8>) -> Vec<u8>
     requires { room.items ≡ [] }
     ensures { 84 * length outcomes.now ≤ vec_capacity room → result.items ≡ replies_to outcomes.now }
@@ -184,6 +185,7 @@ fn joined_replies(outcomes: &[Outcome], room: Vec<u8>) -> Vec<u8>
     text
 }
 
+/// Reports each line. Each outcome has its command and its line at the same index, so both calls of `get` give `Some`.
 fn report_lines<M: Machine>(
     alloc: Global,
     office: &mut M::Office,
@@ -225,7 +227,7 @@ fn refused_command(command: &Command, outcome: &Outcome) -> Option<RefusedComman
     }
 }
 
-/// Counts and logs a line that has run in a batch; keeps why its command was refused. `named`: the request for revocation that it decided or entered.
+/// Counts and logs a line that ran in a batch; keeps why its command was refused. `named`: the request that it decided (`looked_up`) or entered.
 fn report_line<M: Machine>(
     alloc: Global,
     office: &mut M::Office,
@@ -247,11 +249,11 @@ fn report_line<M: Machine>(
     if refused.is_some() {
         keep_refusal_reason::<M>(alloc, office, refused, reply.as_bytes(), last_reason);
     }
-    let named = decided_request::<M>(alloc, office, machine, now, line);
+    let looked_up = decided_request::<M>(alloc, office, machine, now, line);
     let micros = machine.micros().saturating_sub(began);
     // A batch signs nothing, so no signature failed (`false`, here and in the log).
     tally.count_line(now, line_outcome.effects(false), micros);
-    let named = logged_request(&line_outcome, named);
+    let named = logged_request(&line_outcome, looked_up);
     log_line(
         alloc,
         machine,

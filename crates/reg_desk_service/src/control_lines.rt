@@ -131,7 +131,7 @@ fn first_length(lines: &[u8]) -> usize
 
 /// Answers a line at `now`, counts it (`tally`), and logs it if there is a log. `file`: the register's path. `accepted`: the moment in the last line
 /// `accept-clock`; another such line replaces it. `began`: the monotonic clock (microseconds) before the answer. `last_reason`: what a later line
-/// `why` reports; `keep_due_reason` sets it only after `next-crl`. `named`: the request for revocation that the line decided or entered, for the log.
+/// `why` reports; `keep_due_reason` sets it only after `next-crl`. The log names the request that the line decided (`looked_up`) or entered.
 pub(crate) fn answer_counted<M: Machine>(
     alloc: Global,
     office: &mut M::Office,
@@ -154,7 +154,7 @@ pub(crate) fn answer_counted<M: Machine>(
         now result.items tally.old tally.new }
 {
     let failures = office.failure_counts();
-    let named = decided_request::<M>(alloc, office, machine, now, line);
+    let looked_up = decided_request::<M>(alloc, office, machine, now, line);
     let reply = answer_control_line::<M>(
         alloc,
         office,
@@ -169,7 +169,7 @@ pub(crate) fn answer_counted<M: Machine>(
     let signature_failed = has_failed::<M>(office, failures);
     let micros = machine.micros().saturating_sub(began);
     tally.count_line(now, reply.line_outcome.effects(signature_failed), micros);
-    let named = logged_request(&reply.line_outcome, named);
+    let named = logged_request(&reply.line_outcome, looked_up);
     log_line(
         alloc,
         machine,
@@ -183,7 +183,7 @@ pub(crate) fn answer_counted<M: Machine>(
     reply.text
 }
 
-/// Answers a line of any kind. `Line`: one that scripts also have, or that can't be read; `None` if it is too long. `Err`: no memory for reading.
+/// Answers a line of any kind. `Show`: `show`. `Line`: one that scripts also have, or that can't be read; `None` if too long. `Err`: no memory.
 fn answer_control_line<M: Machine>(
     alloc: Global,
     office: &mut M::Office,
@@ -233,7 +233,7 @@ fn accept_clock(alloc: Global, clock: AcceptedClock, accepted: &mut Option<Momen
     ControlReply::line(alloc, b"clock accepted", LineOutcome::Done)
 }
 
-/// The refusal if the clock is too far ahead, or the fault if the last command's moment can't be read; else `None`. `b""`: the reason has no indent.
+/// The refusal if the clock is too far ahead, or the fault if the last command's moment can't be read; else `None`. `b""`: the reason has no prefix.
 fn refusal_by_clock<M: Machine>(
     alloc: Global,
     office: &mut M::Office,
@@ -264,6 +264,7 @@ fn clock_refused(alloc: Global) -> ControlReply
     ControlReply::line(alloc, b"bad-clock", LineOutcome::Failed(Failure::BadClock))
 }
 
+/// Decides a request (`revoke N SERIAL`), unless the clock is too far ahead.
 fn decide_by_clock<M: Machine>(
     alloc: Global,
     office: &mut M::Office,

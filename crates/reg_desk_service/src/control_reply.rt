@@ -80,7 +80,7 @@ impl LineOutcome {
         }
     }
 
-    /// Whether an `ocsp` line's response is signed. Without one, or with only a responseStatus (`true`), a signature failed or was not needed.
+    /// Whether an `ocsp` line's response is signed. Without a response, or with only a responseStatus (`true`), a signature failed or was not needed.
     fn ocsp(&self, signature_failed: bool) -> SignatureOutcome
         ensures { result ≡ ocsp_outcome signature_failed self.now }
     {

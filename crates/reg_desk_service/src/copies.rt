@@ -8,7 +8,7 @@ ghost use Rattle.reg_office_api.specs.LookUps.{IsOfStore};
 
 use crate::control_reply::{ControlReply, LineOutcome};
 use crate::machine::Machine;
-use crate::reasons::{keep_reason_text, prefix_and_end};
+use crate::reasons::{keep_reason_text, prefixed_line};
 use reg_core::{Cause, Decimal, Fault};
 use std::alloc::{AllocError, Global};
 
@@ -26,7 +26,7 @@ pub(crate) fn is_copy_line(line: &[u8]) -> bool
 }
 
 /// Copies the open register, whose path is `file`, to `path` (`None`: it is not UTF-8), and replies. Other clients wait meanwhile. If no copy is
-/// created, `last_reason` becomes the cause, or the reply if the cause is not known. A later line `why` reports it.
+/// created, `last_reason` (for a later `why`) becomes the cause, or the reply if the cause is not known. Clause `reply_text`: only the reply's form.
 pub(crate) fn answer_copy<M: Machine>(
     alloc: Global,
     machine: &M,
@@ -101,5 +101,5 @@ fn copy_failed_reply(alloc: Global, why: CopyFault, last_reason: &mut Vec<u8>) -
 /// The cause as the line `why` reports it: with an LF, and without the two spaces with which `Cause::line` begins (`b""`: nothing replaces them).
 fn cause_text(alloc: Global, cause: Option<Cause>) -> Option<Vec<u8>> {
     let line = cause?.line();
-    prefix_and_end(alloc, b"", line.as_bytes().strip_prefix(b"  ")?).ok()
+    prefixed_line(alloc, b"", line.as_bytes().strip_prefix(b"  ")?).ok()
 }

@@ -14,7 +14,7 @@ pub enum CrlSignerChoice<'a> {
 }
 
 impl<'a> CrlSignerChoice<'a> {
-    /// The given `signer`. Without one: `Digest`; but `NoSigner` with a delegated responder, as a CRL with a digest could else follow signed ones.
+    /// The given `signer`. Without one: `Digest`; but `NoSigner` with a delegated responder: else a CRL with a digest could follow signed ones.
     pub fn of(
         signer: &Option<SignerAddress<'a>>,
         responder: &ResponderChoice<'_>,

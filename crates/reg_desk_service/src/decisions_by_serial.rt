@@ -23,7 +23,7 @@ use reg_lines::{
 use reg_office_api::Office;
 use std::alloc::Global;
 
-/// Decides the line's request. If it is for another serial number: `NoRequest`, and `why` reports that number. The office refuses if none exists.
+/// Decides the line's request. If it is for another serial number: `NoRequest`, and `why` reports that number. If there is none, the office refuses.
 pub(crate) fn answer_serial_decision<M: Machine>(
     alloc: Global,
     office: &mut M::Office,
@@ -68,7 +68,7 @@ fn answer_run<M: Machine>(
     answer_command::<M>(alloc, office, answered, room, last_reason)
 }
 
-/// Refuses a line whose request is for another serial number, and keeps that number for the line `why`. `b""`: this reason has no indent.
+/// Refuses a line whose request is for another serial number, and keeps that number for the line `why`. `b""`: the reason has no prefix.
 fn answer_other(alloc: Global, request: RequestRow, last_reason: &mut Vec<u8>) -> ControlReply
     ensures reply_text { ReportsFault (Fault.Refused Refusal.NoRequest) result.text.items }
     ensures line_outcome { ReportsLineOutcome result.line_outcome result.text.items }
@@ -97,12 +97,12 @@ fn find_request<O: Office>(
     Ok(request_of_row(found))
 }
 
-/// The request in a row of the list of all requests (`AnyRequest`).
+/// The request in a row of the list of all requests: `AnyRequest` has a `ListedRequest` (with a `RequestRow`) and its state.
 fn request_of_row(found: Option<Row>) -> Option<RequestRow>
     ensures { result ≡ request_of_row found }
 {
     match found {
-        Some(Row::AnyRequest(history)) => Some(history.request.request),
+        Some(Row::AnyRequest(with_state)) => Some(with_state.request.request),
         _ => None,
     }
 }
@@ -154,14 +154,14 @@ pub(crate) fn logged_request(
     ensures { NamesRequest line_outcome.now looked_up result }
 {
     match line_outcome {
-        LineOutcome::Completed(LineKind::Command(command), Ok(reply)) => named_of(
+        LineOutcome::Completed(LineKind::Command(command), Ok(reply)) => request_of_command(
             command, reply, looked_up,
         ),
         _ => None,
     }
 }
 
-fn named_of(
+fn request_of_command(
     command: &Command,
     reply: &Reply,
     looked_up: Option<LoggedRevocationRequest>,

@@ -23,19 +23,20 @@ use reg_office_api::{OcspResponse, Office};
 use std::alloc::Global;
 use std::time::Duration;
 
-/// The kind of signature that a line needs: of a CRL, or of an OCSP response.
+/// The kind of signature that a line needs: of a CRL, or (`Answer`) of an OCSP response.
 #[derive(Clone, Copy, PartialEq, Eq)]
 pub enum SignatureKind {
     Crl,
     Answer,
 }
 
-/// The desk's record of a line while a signature for it is awaited. `began`: when the desk began the line, in microseconds of the monotonic clock.
+/// The desk's record of a line while a signature for it is awaited.
 #[derive(Clone, Copy)]
 pub struct LineTicket {
     pub(crate) kind: SignatureKind,
     /// The moment for which the message was made; 1970 without a message, in a back-off (for ten seconds after a timeout, the signer isn't asked).
     pub(crate) moment: Moment,
+    /// When the desk began the line, in microseconds of the monotonic clock.
     pub(crate) began: u64,
     pub(crate) is_backed_off: bool,
 }
@@ -47,7 +48,7 @@ pub(crate) struct LineSignature {
     pub(crate) preset_signature: PresetSignature,
 }
 
-/// How many milliseconds after `began` a signer without an answer has timed out. The event loop waits ten seconds, but from a moment before `began`.
+/// How many milliseconds after `began` a signer without an answer has timed out. The event loop's ten seconds begin earlier than `began`: hence less.
 const TIMEOUT: u64 = 9_500;
 
 fn signature_kind_by(command_line: &ParsedLine<'_>) -> Option<SignatureKind> {
@@ -88,10 +89,10 @@ fn deferred_ocsp<O: Office>(
         return None;
     };
     let begun = office.begin_ocsp(alloc, ticket.moment, &request);
-    deferred_for(alloc, begun, ticket)
+    deferred_draft(alloc, begun, ticket)
 }
 
-fn deferred_for(
+fn deferred_draft(
     alloc: Global,
     begun: Result<ReadyOrUnsigned<OcspResponse, Draft>, Memory>,
     ticket: LineTicket,
@@ -263,7 +264,7 @@ impl<'a, 'w, M: Machine> Desk<'a, 'w, M> {
         }
     }
 
-    /// The OCSP signer's back-off after a line: unchanged if it wasn't asked; begun if it timed out; else none. `has_arrived`: it answered or closed.
+    /// The back-off after a line: unchanged if the OCSP signer wasn't asked; begun if it timed out; else none. `has_arrived`: it answered or closed.
     pub(crate) fn backoff_after(&self, ticket: LineTicket, has_arrived: bool) -> Backoff {
         let ocsp_socket = socket_of(self.signer, self.responder, SignatureKind::Answer);
         let asked_socket = socket_of(self.signer, self.responder, ticket.kind);

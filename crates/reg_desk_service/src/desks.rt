@@ -243,9 +243,9 @@ impl<'a, 'w, M: Machine> Handler for Desk<'a, 'w, M> {
         ensures fails { OnErr result M.failed }
     {
         let Deferred { message, ticket } = deferred;
+        // Three calls take the ticket, so it is copied. No `request`: the signer wasn't asked, or was late. `Ok(None)`: the line needs a new message.
         let ticket_for_signature = ticket;
         let ticket_for_backoff = ticket;
-        // Three calls take the ticket, so it is copied. No `request`: the signer wasn't asked, or was late. `Ok(None)`: the line needs a new message.
         let has_arrived = request.is_some();
         let signature = line_signature_of::<M>(
             self.alloc,

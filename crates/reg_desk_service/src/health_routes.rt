@@ -163,7 +163,7 @@ fn due_at<M: Machine>(
         Ok(due) => due,
         Err(fault) => return Err(fault),
     };
-    match latest_read::<M>(alloc, office, latest, tally) {
+    match cached_or_read_latest::<M>(alloc, office, latest, tally) {
         Ok(Some(read)) => {
             tally.keep_crl(read);
             Ok(due_after_read(read, due))
@@ -180,7 +180,7 @@ fn due_after_read(read: ReadCrl, due: Option<Moment>) -> Option<Moment>
 }
 
 /// The latest CRL's number, and whether it has a placeholder digest (from the tally, if read before). `None` without a CRL, or if no key signs CRLs.
-fn latest_read<M: Machine>(
+fn cached_or_read_latest<M: Machine>(
     alloc: Global,
     office: &mut M::Office,
     latest: Option<CrlRow>,
@@ -203,7 +203,7 @@ fn latest_read<M: Machine>(
     }
 }
 
-/// Reads the latest CRL (`None` in the call), which has this number. It exists, so `NoCrl`, the only refusal of the call, can't come.
+/// Reads the latest CRL from the register (`None` in the call: the latest), which has this number. It exists, so the call isn't refused (`NoCrl`).
 fn read_latest<M: Machine>(
     alloc: Global,
     office: &mut M::Office,
@@ -272,7 +272,7 @@ fn why_at_once<M: Machine>(
         office.old office.new }
 {
     let summary = office.summary()?;
-    match latest_read::<M>(alloc, office, summary.latest, tally)? {
+    match cached_or_read_latest::<M>(alloc, office, summary.latest, tally)? {
         Some(read) if read.is_unsigned => Ok(Some(Reason::Unsigned(read.number))),
         _ => Ok(None),
     }
@@ -332,7 +332,7 @@ fn overdue_count_of(overdue: Option<Overdue>) -> u64
     }
 }
 
-/// Counts the open requests for revocation, and the overdue ones, unless the last counts are less than a minute old. These stay if counting fails.
+/// Counts the open and the overdue requests for revocation, unless the last counts are under a minute old. If counting fails, the last counts stay.
 fn recount<M: Machine>(alloc: Global, office: &mut M::Office, now: Moment, tally: &mut Tally)
     ensures moves { LooksIn M.Office.Office (λ records. Recounts records now tally.old tally.new)
         office.old office.new }
@@ -364,6 +364,7 @@ fn requests_at<M: Machine>(
     })
 }
 
+/// `plain`: an answer without a signature or an effect on the store, here with a JSON body.
 fn health_answer(alloc: Global, health: &Health) -> Result<HttpAnswer, Memory>
     ensures { IfOk result (λ answered. answer_effects answered ≡ plain (health_response health.now)) }
 {

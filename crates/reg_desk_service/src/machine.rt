@@ -229,10 +229,9 @@ pub trait Machine {
         ensures by_clock { IfOk result (λ seconds. (now : ℕ) → now ≤ seconds → clock_reached now) }
         ensures fails { OnErr result failed };
 
-    /// The microseconds of the monotonic clock; 0 if it can't be read.
+    /// The microseconds of the monotonic clock; 0 if it can't be read. `millis`: its milliseconds, or why it can't be read.
     fn micros(&self) -> u64;
 
-    /// The milliseconds of the monotonic clock.
     fn millis(&self) -> io::Result<u64>
         ensures { OnErr result failed };
 

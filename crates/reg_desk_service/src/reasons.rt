@@ -1,4 +1,4 @@
-//! The reasons in the replies to `why` at the control socket, and those that `--why` prints if a strict script or import ends at a refusal.
+//! The reasons in the replies to `why` at the control socket, and those of refused registrations that `--strict --why` (`script`, `import`) prints.
 
 ghost use Rattle.std.specs.Prelude.{◌≡◌, ◌++◌, ◌∷◌, [], IfOk, IfSome};
 ghost use Rattle.reg_office_api.specs.Calls.{KeepsIn};
@@ -22,11 +22,11 @@ pub enum Reason {
     /// There is no order with this number; or (`Filled`) that order already has a certificate.
     NoOrder(u64),
     Filled(u64),
-    /// The latest notAfter that the order and the schedule of longest validities allow with the line's notBefore (RFC 5280 4.1.2.5).
+    /// The latest notAfter that the order and the register's schedule (`desk schedule`) allow with the line's notBefore (RFC 5280 4.1.2.5).
     Latest(Moment),
     /// The request with this number is for this serial number, and not for the one in the line.
     OtherSerial(u64, Serial),
-    /// The clock is more than 30 days past this moment of the last command, and more than 30 days past the one in the last `accept-clock`, if any.
+    /// The clock is over 30 days past this moment of the last command and, after a line `accept-clock MOMENT`, also over 30 days past MOMENT.
     ClockAhead(Moment),
     /// The line can't be read, because of this field.
     Wrong(WrongField),
@@ -163,10 +163,10 @@ pub fn reason_line(alloc: Global, prefix: &[u8], reason: Option<Reason>) -> Opti
     ensures { IfSome result (λ text. IsReasonLine prefix.now reason text.items) }
 {
     let words = reason_words(alloc, reason?).ok()?;
-    prefix_and_end(alloc, prefix, &words).ok()
+    prefixed_line(alloc, prefix, &words).ok()
 }
 
-pub(crate) fn prefix_and_end(
+pub(crate) fn prefixed_line(
     alloc: Global,
     prefix: &[u8],
     words: &[u8],
@@ -191,7 +191,7 @@ fn reason_words(alloc: Global, reason: Reason) -> Result<Vec<u8>, AllocError>
             b" already has a certificate",
         ),
         Reason::Latest(at) => latest_text_of(alloc, at),
-        Reason::OtherSerial(request, serial) => other_text_of(alloc, request, serial),
+        Reason::OtherSerial(request, serial) => other_serial_text(alloc, request, serial),
         Reason::ClockAhead(last) => ahead_text_of(alloc, last),
         Reason::Wrong(wrong) => wrong_field_text(alloc, wrong),
         Reason::Unsigned(number) => numbered_text(
@@ -224,7 +224,7 @@ fn ahead_text_of(alloc: Global, last: Moment) -> Result<Vec<u8>, AllocError>
     Ok(text)
 }
 
-fn other_text_of(alloc: Global, request: u64, serial: Serial) -> Result<Vec<u8>, AllocError>
+fn other_serial_text(alloc: Global, request: u64, serial: Serial) -> Result<Vec<u8>, AllocError>
     ensures { IfOk result (λ text. text.items ≡ other_text request serial) }
 {
     let mut text = Vec::from_slice(alloc, b"request ")?;

@@ -48,7 +48,7 @@ pub fn open_signed<M: Machine>(
     )
 }
 
-/// Checks that there is a database at the path before it connects to it, since `connect` would create one.
+/// Checks that there is a database at the path before connecting to it, since `connect` would create one.
 fn open_by<M: Machine>(
     machine: &mut M,
     path: &str,
@@ -81,7 +81,7 @@ pub fn create_register<M: Machine>(
     ensures err { IfErr result (λ why. NotCreated M.Machine machine.old path.now why machine.new) }
     ensures faults { IfErr result IsCreateFailure }
 {
-    // The job has tried to create the file (`Machine::claim`). If it is missing, the path is a dangling link, its WAL exists, or none can be created.
+    // The job has tried to create the file (`Machine::claim`). If there is none: the path is a dangling link, a WAL exists or no file can be created.
     if !machine.is_there(path) {
         return Err(Failure::Fault(Fault::Store));
     }

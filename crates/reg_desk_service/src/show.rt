@@ -32,7 +32,7 @@ pub(crate) fn answer_help(alloc: Global) -> ControlReply
     ControlReply::line(alloc, HELP_LINE, LineOutcome::Done)
 }
 
-/// Shows the row that `shown` names, as it is at `now`, in the form of `list --json`. Keeps a refusal or a fault for `why`.
+/// Shows the row that `shown` names, at `now`, as `desk list --json` does. Without memory, the reply is empty. Keeps a refusal or a fault for `why`.
 pub(crate) fn answer_show<M: Machine>(
     alloc: Global,
     office: &mut M::Office,
@@ -92,7 +92,7 @@ fn row_line(alloc: Global, row: Row) -> Result<Vec<u8>, AllocError>
     Ok(text)
 }
 
-/// The row that `shown` names, at `now`; `None` if there is none. A page begins after its cursor, so `from` is the key before. Errors: `page`'s.
+/// The row that `shown` names, at `now`; `None` if there is none. A page begins after its cursor `from`, the key before. Errors: `Office::page`'s.
 pub(crate) fn find<O: Office>(
     alloc: Global,
     office: &mut O,
@@ -173,12 +173,12 @@ fn row_among(rows: &[Row], shown: &RowKey) -> Option<Row>
     None
 }
 
-/// Whether this is the row that `shown` names. `AnyRequest` is a row of the list of all requests.
+/// Whether this is the row that `shown` names. `AnyRequest` (the list of all requests) has a `ListedRequest` (with a `RequestRow`) and its state.
 fn has_key(row: &Row, shown: &RowKey) -> bool
     ensures { result ≡ has_key shown.now row.now }
 {
     match (shown, row) {
-        (RowKey::Request(id), Row::AnyRequest(history)) => history.request.request.id == *id,
+        (RowKey::Request(id), Row::AnyRequest(with_state)) => with_state.request.request.id == *id,
         (RowKey::Certificate(serial), Row::Certificate(line)) => line.certificate.serial == *serial,
         (RowKey::Subscriber(name), Row::Subscriber(subscriber)) => subscriber.name == *name,
         _ => false,

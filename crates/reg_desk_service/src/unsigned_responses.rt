@@ -27,7 +27,7 @@ const MOST_KEPT: usize = 256;
 #[derive(Drop)]
 pub struct Unsigned {
     pub(crate) draft: Draft,
-    /// When the desk began to answer; `began`: the same in microseconds of the monotonic clock. `route`, for the tally: that of the request.
+    /// When the desk began to answer; `began` is the same in microseconds of the monotonic clock.
     pub(crate) moment: Moment,
     pub(crate) route: Route,
     pub(crate) began: u64,
@@ -102,6 +102,7 @@ pub(crate) fn finish_http<M: Machine>(
     exchange.text
 }
 
+/// The answer of the signer of OCSP responses (`SignatureKind::Answer`) for `draft`, if it has the form of a signature. It has at most 4,096 bytes.
 fn signature_of<M: Machine>(
     alloc: Global,
     signer: &Option<SignerAddress<'_>>,
@@ -129,7 +130,7 @@ fn signature_of<M: Machine>(
 }
 
 /// The bytes that the signer of CRLs (`Crl`) or of OCSP responses (`Answer`) sent for `message`. `None` without this signer, without a `request` to
-/// it for `message`, or if [`Machine::receive_answer`] gives none.
+/// it for `message`, or if [`Machine::receive_answer`] gives none. The last `match` only names branches for the proof.
 pub(crate) fn received_answer<M: Machine>(
     alloc: Global,
     signer: &Option<SignerAddress<'_>>,

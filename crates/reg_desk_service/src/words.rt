@@ -1,4 +1,4 @@
-//! Reads a line at the control socket: the words that only the control socket has, and any other line.
+//! Reads a line at the control socket: one that only the control socket has (in code: a word), or any other line.
 
 ghost use Rattle.std.specs.Prelude.{◌≡◌, IfOk};
 ghost use Rattle.reg_desk_cli.specs.WordValues.{steps_of};

@@ -39,10 +39,10 @@ impl HttpAnswer {
     pub fn plain(answer: Answer) -> HttpAnswer
         ensures { answer_effects result ≡ plainly (shown answer) }
     {
-        HttpAnswer::unsigned(answer, StoreEffect::Unwritten)
+        HttpAnswer::without_signature(answer, StoreEffect::Unwritten)
     }
 
-    fn unsigned(answer: Answer, store: StoreEffect) -> HttpAnswer
+    fn without_signature(answer: Answer, store: StoreEffect) -> HttpAnswer
         ensures { answer_effects result ≡ unsigned_effects (shown answer) store }
     {
         HttpAnswer {
@@ -54,14 +54,14 @@ impl HttpAnswer {
     }
 }
 
-/// The answer with a refusal or a fault: its line (such as `E22 syntax`) in a JSON body, written into the reserved `buffer`.
+/// The answer with a refusal or a fault: its line (such as `E22 syntax`) in a JSON body, written into `buffer` (256 reserved bytes).
 pub(crate) fn answer_of_fault(buffer: Vec<u8>, fault: Fault) -> HttpAnswer
     requires empty { buffer.items ≡ [] }
     requires buffer { 256 ≤ vec_capacity buffer }
     ensures { answer_effects result ≡ fault_effects fault }
 {
     let store = StoreEffect::of_fault(&fault);
-    HttpAnswer::unsigned(fault_answer(buffer, fault), store)
+    HttpAnswer::without_signature(fault_answer(buffer, fault), store)
 }
 
 /// The answer with the reply to a query for a status or the counts, or to a request for revocation. `_`: no office gives another reply to these.
@@ -81,7 +81,7 @@ fn reply_answer(mut buffer: Vec<u8>, reply: Reply) -> HttpAnswer
         }
         Reply::Request { id, due } => {
             put_due(&mut buffer, id, due);
-            HttpAnswer::unsigned(json(status::OK, buffer), StoreEffect::Written)
+            HttpAnswer::without_signature(json(status::OK, buffer), StoreEffect::Written)
         }
         _ => answer_of_fault(buffer, Fault::Store),
     }
@@ -143,7 +143,8 @@ pub(crate) fn crl_answer(buffer: Vec<u8>, crl: Result<Vec<u8>, Fault>) -> HttpAn
     }
 }
 
-fn ocsp_answered(response: OcspResponse) -> HttpAnswer
+/// The answer with an OCSP response that waits for no signature: it has a placeholder digest, or only a status.
+fn ready_ocsp_answer(response: OcspResponse) -> HttpAnswer
     ensures { answer_effects result ≡ ocsp_effects (Ok (response.kind, response.bytes.items)) }
 {
     let OcspResponse { bytes, kind } = response;
@@ -165,12 +166,13 @@ pub(crate) fn begun_answer(
     ensures { BeginsOcsp given result }
 {
     match given {
-        Ok(ReadyOrUnsigned::Ready(response)) => ReadyOrUnsigned::Ready(ocsp_answered(response)),
+        Ok(ReadyOrUnsigned::Ready(response)) => ReadyOrUnsigned::Ready(ready_ocsp_answer(response)),
         Ok(ReadyOrUnsigned::Unsigned(draft)) => ReadyOrUnsigned::Unsigned(draft),
         Err(_) => ReadyOrUnsigned::Ready(answer_of_fault(buffer, Fault::Memory)),
     }
 }
 
+/// The answer with the bytes of an OCSP response; if out of memory for these, an answer with the line `F1 memory`.
 pub(crate) fn ocsp_answer(buffer: Vec<u8>, response: Result<Vec<u8>, Memory>) -> Answer
     requires empty { buffer.items ≡ [] }
     requires buffer { 256 ≤ vec_capacity buffer }

@@ -23,7 +23,7 @@ pub(crate) fn json_buffer(alloc: Global) -> Result<Vec<u8>, Memory>
     Vec::with_capacity(alloc, 256).map_err(|_| Memory)
 }
 
-/// `{"error":"LINE"}`: LINE is the line of a refusal or a fault (such as `E22 syntax`), a status code, or `diverged`.
+/// `{"error":"LINE"}`: LINE is the line of a refusal or a fault (such as `E22 syntax`), a status code, or `diverged`: at most 64 bytes.
 #[tactic(auto, unfolding(crate::specs::Bodies::error_text))]
 fn put_error(buffer: &mut Vec<u8>, line: &[u8])
     requires empty { buffer.old.items ≡ [] }

@@ -28,7 +28,7 @@ pub(crate) enum ChangesRequest {
     After(Positions),
 }
 
-/// Answers a request for the changes of the register, whose records stay the same. [`Memory`] if out of memory.
+/// Answers a request for the changes of the register. No record changes (`plain`: no signature, no effect). [`Memory`] if out of memory.
 pub fn answer_changes<O: Office>(
     alloc: Global,
     method: &Method,

@@ -25,7 +25,7 @@ pub(crate) enum ListRequest {
     Page(PageQuery),
 }
 
-/// Answers a request for a page of a list at the moment `now`. No record changes. [`Memory`] if out of memory.
+/// Answers a request for a page of a list at the moment `now`. No record changes (`plain`: no signature, no effect). [`Memory`] if out of memory.
 pub fn answer_list<O: Office>(
     alloc: Global,
     method: &Method,

@@ -61,11 +61,14 @@ fn decoded(alloc: Global, text: &[u8]) -> Result<Meaning, Memory>
     ensures { IfOk result (λ part.
         (body : List ℕ) → request_of_meaning body part ≡ or_malformed (decoded_in text.now)) }
 {
-    let mut plain = Vec::new(alloc);
-    if percent_decode(text).append_to(&mut plain).is_err() {
+    let mut percent_decoded = Vec::new(alloc);
+    if percent_decode(text)
+        .append_to(&mut percent_decoded)
+        .is_err()
+    {
         return Err(Memory);
     }
-    match STANDARD.decode(alloc, plain.as_slice()) {
+    match STANDARD.decode(alloc, percent_decoded.as_slice()) {
         Ok(request) => Ok(Meaning::OcspByGet(request)),
         Err(DecodeAllocError::DecodeError(_)) => Ok(Meaning::Other(Call::Malformed)),
         Err(DecodeAllocError::OutOfMemory) => Err(Memory),

@@ -1,4 +1,4 @@
-//! Finds, with a router, the route by which `begin` answers a request, and the path's variable part. The desk dispatches and counts by another one,
+//! Finds, with a router, the route by which `begin` answers a request, and the path's variable part. To dispatch and count, the desk uses the route
 //! [`Route::of`]. There, `/health` (which only `desk open` has) is `Health`, and `/crl/` (no number) is `CrlNumber`; here, both are `Other`.
 
 ghost use Rattle.std.specs.Prelude.{◌≡◌, ◌≤◌, ◌<◌, [], All, length, codes, IfOk, IsTrue, OnOk, unwrap_or};

@@ -27,8 +27,8 @@ fn malformed(mut buffer: Vec<u8>) -> Answer
     der(OCSP_RESPONSE, buffer)
 }
 
-/// Makes the call, if any, and answers. Each body but a CRL goes into the reserved `buffer`, so no memory is needed after the call. `number` is that
-/// of a CRL (`None`: the latest one), `word` the ground (reason) of a request for revocation.
+/// Makes the call, if any, and answers. Each body but a CRL goes into `buffer` (256 bytes), so no memory is needed after the call. `number` is that
+/// of a CRL (`None`: the latest one), `word` the ground (reason) of a request for revocation. A `plain` answer has no signature and no effect.
 pub(crate) fn respond<O: Office>(
     alloc: Global,
     buffer: Vec<u8>,

@@ -14,6 +14,7 @@ use reg_io::{FillEnd, ReadFault, fill_exact, fill_to_delimiter};
 use std::alloc::Global;
 use std::io::Read;
 
+/// The most bytes of a head: more than the 8,000 that RFC 9112 3 recommends for the request line.
 pub(crate) const LONGEST_HEAD: usize = 8_192;
 
 pub(crate) const HEAD_END: &[u8] = b"\r\n\r\n";
@@ -89,7 +90,7 @@ fn read_rest<R: Read>(
 {
     match read_head(&buffered[..end]) {
         Ok(head) => match read_body(alloc, reader, &buffered[end..], head.size) {
-            Ok(body) => owned(alloc, &buffered[..end], head, body),
+            Ok(body) => owned_request(alloc, &buffered[..end], head, body),
             Err(fault) => Err(fault),
         },
         Err(refused) => Ok(Request::Refused(refused)),
@@ -131,7 +132,12 @@ fn fill_body<R: Read>(reader: &mut R, body: &mut [u8], buffered: &[u8]) -> Resul
     fill_exact(reader, body, copied)
 }
 
-fn owned(alloc: Global, head: &[u8], spans: HeadSpans, body: Vec<u8>) -> Result<Request, Fault>
+fn owned_request(
+    alloc: Global,
+    head: &[u8],
+    spans: HeadSpans,
+    body: Vec<u8>,
+) -> Result<Request, Fault>
     requires { ∥ HoldsHead head.now spans ∥₁ }
     ensures ok { IfOk result (λ request.
         request_meaning request

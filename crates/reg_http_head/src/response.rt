@@ -14,7 +14,7 @@ use reg_io::{WriteFault, write_whole};
 use std::alloc::AllocError;
 use std::io::Write;
 
-/// The bytes of capacity that [`put_answer`] and [`write_answer`] need for the head of a response.
+/// The bytes of capacity that [`put_answer`] and [`write_answer`] need for the head of a response. A head has at most 352 bytes.
 pub const RESPONSE_HEAD_ROOM: usize = 512;
 
 /// Appends bytes without an allocation: the caller has reserved the capacity.

@@ -17,7 +17,7 @@ pub(crate) enum ScanState {
     Valid(HeadState),
 }
 
-/// A head at the start of the bytes. The head ends at the index `end`; its body ends at `needed`, the length of the whole request.
+/// A head at the start of the bytes. It ends at the index `end`; its body of `spans.size` bytes ends at `needed`, the length of the whole request.
 #[derive(Clone, Copy)]
 pub(crate) struct HeadState {
     pub(crate) spans: HeadSpans,

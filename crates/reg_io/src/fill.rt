@@ -11,7 +11,7 @@ use std::io::Read;
 pub struct ReadFault;
 
 /// Why a read up to a delimiter stopped: the buffer has a delimiter (`end` is the index after the first one), it is full without one, or the reader
-/// ended before either. `buffered` is the number of bytes in the buffer then.
+/// ended before either. `buffered` is the number of bytes in the buffer after the read.
 #[derive(Clone, Copy, PartialEq, Eq)]
 pub enum FillEnd {
     Delimiter { end: usize, buffered: usize },
@@ -20,6 +20,7 @@ pub enum FillEnd {
 }
 
 /// Reads into `buf` after its first `buffered` bytes, until the buffered bytes contain the delimiter or fill the buffer, or the reader is at its end.
+/// Each [`Read`] is a [`Source`]. Only with `Source` can the contract state that an error comes from a failed read (`R.failed`).
 pub fn fill_to_delimiter<R: Source>(
     reader: &mut R,
     buf: &mut [u8],

@@ -46,6 +46,7 @@ pub trait Sink: Write {
 }
 
 impl<W: Write> Sink for W {
+    // Always true, as for `Source`.
     ghost failed = { Unit {0} };
 
     fn write_once(&mut self, bytes: &[u8]) -> Result<usize, WriteFault> {

@@ -116,7 +116,7 @@ impl Answered {
         }
     }
 
-    /// Writes the reply, and returns whether the run goes on.
+    /// Writes the reply, and returns whether the run goes on. Precondition: `self.is_accepted()` agrees with [`crate::is_accepted`] of the reply.
     pub(crate) fn write_reply<W: Sink>(
         &self,
         writer: &mut W,

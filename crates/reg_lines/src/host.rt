@@ -8,6 +8,7 @@ pub trait Host {
     ghost use Rattle.std.specs.Prelude.{◌≡◌, ℕ, Bool, IfErr, IfOk, OnErr};
     ghost use Rattle.reg_core.specs.declared.refusal.Fault.TheVariants.{Read};
 
+    // In turn: the host has a clock; the clock has reached this moment; the clock could not be read.
     ghost clocked: { Self → Bool };
 
     ghost clock_reached: { ℕ → Type 0 };

@@ -166,11 +166,12 @@ fn answer_line<W: Sink, O: Office, H: Host>(
     };
     host.observe(&answered);
     match answered.write_reply(writer, is_strict) {
-        Ok(passed) => Ok(passed),
+        Ok(continuation) => Ok(continuation),
         Err(_) => Err(Fault::Write),
     }
 }
 
+/// Runs a line at the moment of the host's clock; without a clock, at the moment with which the line begins.
 fn run_by<O: Office, H: Host>(
     alloc: Global,
     office: &mut O,

@@ -2,7 +2,7 @@
 #[derive(Drop)]
 pub struct Asked<'a> {
     pub ids: Vec<CertId<'a>>,
-    /// The contents of the first nonce's extnValue in requestExtensions, to repeat; `None` unless 1 to 131 bytes (128 octets in DER, RFC 9654 2.1).
+    /// The contents of the first nonce's extnValue in requestExtensions, to repeat. `None` unless 1 to 131 bytes (RFC 9654 2.1: 128 octets, in DER).
     pub nonce: Option<&'a [u8]>,
 }
 

@@ -111,7 +111,7 @@ pub fn subject_public_key(certificate: &[u8]) -> Option<SubjectPublicKey<'_>>
     read_certificate(certificate)
 }
 
-// Each reads a DER value with a given tag. `expect`: it must be there; `optional`; `whole`: nothing may follow, and the result is its contents.
+// `expect` (the value must be there), `optional` and `whole` (nothing may follow; gives the contents) read the first DER value, by its tag.
 #[tactic(auto, unfolding(crate::specs::Certificate::certificate_at))]
 fn read_certificate(bytes: &[u8]) -> Option<SubjectPublicKey<'_>>
     ensures { AgreesWith key_model result (certificate_at bytes.now) }

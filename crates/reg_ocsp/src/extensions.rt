@@ -32,6 +32,7 @@ pub(crate) fn nonce_under(tag: u8, bytes: &[u8]) -> Option<Option<&[u8]>>
     written_nonce(last(tag, bytes)?)
 }
 
+/// As [`nonce_under`], from the contents of the explicit tag. `extensions` is `None` if the field is left out.
 fn written_nonce(extensions: Option<&[u8]>) -> Option<Option<&[u8]>>
     ensures { AgreesWith (λ x. option_copied x) result (spec.written_nonce (option_copied extensions.entry)) }
 {

@@ -195,6 +195,7 @@ fn algorithm(bytes: &[u8]) -> Option<(&[u8], &[u8])>
     Some((outer.raw, rest))
 }
 
+/// Whether the bytes (parameters of hashAlgorithm) are one DER value or none.
 fn is_at_most_one(bytes: &[u8]) -> bool
     ensures { result ≡ read_all bytes.now (value_at bytes.now) }
 {

@@ -133,7 +133,7 @@ fn page_in<C: Alter>(
     }
 }
 
-/// The declined requests that the page omits, because the copy has them: `declines`; or none, if another up to `declines.last` was declined later.
+/// Which declines the page omits: `declines`, which the copy has; none if `count` differs, as a request up to `declines.last` was declined since.
 fn declines_in<C: Alter>(
     tables: &mut Tables<C>,
     declines: &Declines,
@@ -215,7 +215,7 @@ fn der_of<C: Alter>(tables: &mut Tables<C>, number: u64) -> Result<Vec<u8>, Data
     }
 }
 
-/// The digest of positions with these counts: of issuer, counts, last rows and the last CRL's end. `changes_after` compares the copy's to it.
+/// The digest of positions with these counts. It covers the issuer, the counts, the last rows of each table, and the end of the last CRL.
 pub(crate) fn digest_at<C: Alter>(
     tables: &mut Tables<C>,
     alloc: Global,

@@ -25,7 +25,7 @@ pub(crate) enum FeedRow {
 }
 
 impl FeedRow {
-    /// The command that enters the row. A page names a request's ground, and the command has the name.
+    /// The command that enters the row. A request's row has its ground as a value; the command has the ground's name (`ground_word`).
     pub(crate) fn command(&self) -> Command
         ensures no_crl { result ≢ IssueCrl }
     {
@@ -162,7 +162,7 @@ fn enters_decline(change: &Change<'_>, id: u64) -> bool
     }
 }
 
-/// The change also has the notAfter of the certificate, which no row of a page has with the revocation.
+/// The change also has the certificate's notAfter. A revocation's row in the feed lacks it, so it is not compared.
 fn enters_revocation(change: &Change<'_>, row: &RevocationRow) -> bool
     ensures { IsTrue result → (not_after : ℕ) × (change.now ≡ Change.Revocation row.now not_after) }
 {

@@ -1,5 +1,5 @@
 //! Enters pages of the changes feed of another register, of which this one is a copy: all of them in one transaction, or nothing. The commands that
-//! entered the rows are replayed (`replay.rt`), so each row is by the register's own rules. The settings are those of the last page.
+//! entered the rows are replayed (`replay.rt`), so the register checks each row by its own rules. The settings come from the last page's head.
 
 ghost use Rattle.std.specs.Prelude.{◌≡◌, ◌≤◌, ◌<◌, ◌+◌, ℕ, [], None, false, true, length, IfErr, IfOk, IfSome, IsTrue, OnOk};
 ghost use Rattle.sha2.specs.Sha256.{sha256};
@@ -30,11 +30,11 @@ use reg_store::{DatabaseFault, Table, Tables};
 use sqlite::Alter;
 use std::alloc::{AllocError, Global};
 
-/// The most days that a schedule allows.
+/// The most days that a schedule allows. The [`widest`] schedule allows them for every notBefore.
 const MOST_DAYS: u64 = 398;
 
 impl<C: Alter, S: Signer> Office<C, S> {
-    /// Whether pages, `earlier` and then `page`, may have more than the records. One page without a row, with the head of the records, has not.
+    /// Whether the pages (`earlier`, then `page`) may change the records. A single page without rows, CRL, new head or new positions does not.
     pub(crate) fn have_news(
         &mut self,
         from: &Positions,
@@ -99,7 +99,7 @@ impl<C: Alter, S: Signer> Office<C, S> {
         ensures stepped { StepsWithin C.Store self.old.store self.new.store }
         ensures untouched { SignsNothing self.old self.new }
     {
-        // The last accepted moment of a page that rows follow is that of these rows, too.
+        // A head has the last accepted moment of all rows of the feed. So it fits the records only after the last page.
         if !page.ends {
             return Err(broken(FeedPart::Positions, 0, FeedRule::NoEnd));
         }
@@ -111,7 +111,7 @@ impl<C: Alter, S: Signer> Office<C, S> {
         self.check_positions(alloc, from, &rows, pages, page)
     }
 
-    /// Takes the issuer of a head, and a schedule that allows the most days.
+    /// Takes the issuer of a head, and the [`widest`] schedule: rows may have been entered under an earlier schedule than the head's.
     fn take_issuer(&mut self, alloc: Global, head: &FeedHead) -> Result<(), Stopped>
         ensures made { IfOk result (λ _. LeadsWithin C.Store S.signs (S.identity self.old.signer)
             self.old.store self.new.store (TakesIssuer head.now)) }
@@ -128,7 +128,7 @@ impl<C: Alter, S: Signer> Office<C, S> {
         Ok(())
     }
 
-    /// Where the replay begins: at the last accepted moment.
+    /// Where the replay begins: at the last accepted moment, with the requests that `from` counts (`had`).
     fn reached_from(&mut self, from: &Positions) -> Result<Reached, Stopped>
         ensures made { IfOk result (λ reached. (reached.done ≡ none_replayed)
             × LeadsWithin C.Store S.signs (S.identity self.old.signer) self.old.store self.new.store
@@ -137,7 +137,7 @@ impl<C: Alter, S: Signer> Office<C, S> {
         ensures untouched { SignsNothing self.old self.new }
     {
         let at = self.store.last()?;
-        // A failure of the database has ended the transaction.
+        // If no transaction is under way now, a failure of the database has ended it.
         if self.store.is_idle() {
             return Err(Stopped::Database(DatabaseFault::Store));
         }
@@ -168,7 +168,7 @@ impl<C: Alter, S: Signer> Office<C, S> {
         Ok(())
     }
 
-    /// Compares the positions of the last page with the records.
+    /// Compares the counts and the digest in the last page's positions with the records.
     fn check_positions(
         &mut self,
         alloc: Global,
@@ -189,7 +189,7 @@ impl<C: Alter, S: Signer> Office<C, S> {
             _ => return Err(others),
         }
         let digest = digest_now(&mut self.store, alloc, &page.positions.counts)?;
-        // A failure of the database has ended the transaction.
+        // If no transaction is under way now, a failure of the database has ended it.
         if self.store.is_idle() {
             return Err(Stopped::Database(DatabaseFault::Store));
         }
@@ -201,7 +201,7 @@ impl<C: Alter, S: Signer> Office<C, S> {
     }
 }
 
-/// The refusal of a moment after the last accepted one, `last`, as by [`reg_core::clock`].
+/// The refusal of the moment `now`, if any. `last` is the last accepted moment. As by [`reg_core::clock`].
 fn clock_refusal(now: Moment, last: Moment) -> Option<Refusal>
     ensures { result ≡ None → (last ≤ now) × (now < clock_end) }
 {
@@ -283,6 +283,7 @@ fn issuer_of_head<C: Alter>(
     issuer_after(alloc, &own, &policy, crls, head)
 }
 
+/// As [`issuer_of_head`]. The records have the issuer `own`, the policy `policy`, and `crls` CRLs.
 fn issuer_after(
     alloc: Global,
     own: &Issuer,
@@ -315,7 +316,7 @@ fn has_same_terms(own: &Policy, given: &Policy) -> bool
         && own.cap() == given.cap()
 }
 
-/// Whether the issuer has the same Name and key, and the first `crls` CRLs have the same key identifiers.
+/// Whether the issuers have the same Name, key, and key identifiers of the first `crls` CRLs. A stored name is the Name with all key identifiers.
 fn continues(own: &Issuer, given: &Issuer, crls: u64) -> bool
     ensures { IsTrue result → (name_of given.now ≡ name_of own.now) × (given.now.key ≡ own.now.key)
         × ((number : ℕ) → 1 ≤ number → number ≤ crls
@@ -420,7 +421,7 @@ fn counts_in<C: Alter>(tables: &mut Tables<C>) -> Result<RowCounts, DatabaseFaul
     })
 }
 
-/// How many revocations there are, at most `most`. The number of the last row is not looked up, but found by halving: is there a row after so many?
+/// How many revocations there are, at most `most`. A binary search asks: is there a row after the first `middle`? A `u64` takes at most 64 steps.
 fn revocations_in<C: Alter>(tables: &mut Tables<C>, most: u64) -> Result<u64, DatabaseFault>
     ensures { Learns C.Store tables.old tables.new result (λ records count.
         length records.revocations ≤ most → count ≡ length records.revocations) }
@@ -440,7 +441,7 @@ fn revocations_in<C: Alter>(tables: &mut Tables<C>, most: u64) -> Result<u64, Da
     Err(DatabaseFault::Store)
 }
 
-/// The half that has the count: up to `middle` if there is no row after so many, else above it.
+/// The half that has the count: up to `middle` if there is no row after the first `middle` (`none`), else above it.
 fn halved(low: u64, high: u64, middle: u64, none: bool) -> (u64, u64)
     requires { middle < high }
     ensures none { none ≡ true → result ≡ (low, middle) }
@@ -458,7 +459,7 @@ fn all_declines_in<C: Alter>(tables: &mut Tables<C>) -> Result<Declines, Databas
         declines ≡ declines_of_records records) }
 {
     let mut declines = no_declines();
-    // A table has at most 1,000,000 rows.
+    // 1,001 rounds are enough: each but the last reads `MOST_ROWS` (1,000) ids, and a table has at most 1,000,000 rows.
     for _ in 0..=MOST_ROWS {
         let ids = tables.declined_after(declines.last, MOST_ROWS)?;
         let Some(reached) = with_declines(declines, &ids) else {
@@ -483,7 +484,7 @@ fn with_declines(declines: Declines, ids: &[u64]) -> Option<Declines>
 
 // ---- news
 
-/// Whether a page, which comes alone, has a row, a CRL, or another head than the records.
+/// Whether a single page has a row, a CRL, other positions than `from`, or another head than the records.
 fn is_news<C: Alter>(
     tables: &mut Tables<C>,
     from: &Positions,

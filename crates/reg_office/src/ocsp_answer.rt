@@ -55,7 +55,7 @@ pub(crate) fn begin_ocsp<C: Alter, S: Signer>(
     }
 }
 
-/// Signs a draft at once with the signer of OCSP responses, and returns the response's bytes: internalError if the signer fails.
+/// Signs a draft at once with the signer of OCSP responses, and returns the response's bytes: internalError if the signer fails (`None`).
 pub(crate) fn sign_draft<S: Signer>(
     alloc: Global,
     signer: &mut S,

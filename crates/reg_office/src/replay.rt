@@ -98,7 +98,7 @@ impl<C: Alter, S: Signer> Office<C, S> {
         }
     }
 
-    /// Replays a row at a moment. A request that is declined already stays.
+    /// Replays a row at a moment. The decline of a request that is declined already changes nothing.
     fn replay_row(&mut self, at: Moment, row: &FeedRow) -> Result<(), Stopped>
         ensures made { IfOk result (λ _. LeadsWithin C.Store S.signs (S.identity self.old.signer)
             self.old.store self.new.store (EntersFeedRow at row.now)) }
@@ -161,7 +161,7 @@ impl<C: Alter, S: Signer> Office<C, S> {
         ensures untouched { SignsNothing self.old self.new }
     {
         let found = self.store.request(id)?;
-        // A failure of the database has ended the transaction.
+        // If no transaction is under way now, a failure of the database has ended it.
         if self.store.is_idle() {
             return Err(Stopped::Database(DatabaseFault::Store));
         }

@@ -1,8 +1,8 @@
 //! The order in which a follower replays the commands that entered the rows of pages of the changes feed. A page has its rows table by table; a
-//! register accepted the commands one after another. Only requests, revocations and CRLs have moments.
+//! register accepted the commands one after another. Only the rows of requests, revocations and CRLs have their command's moment.
 //!
-//! First come subscribers, orders and certificates, and the declines of requests that the follower had: a register that accepted these commands later
-//! accepts them at the follower's last accepted moment, too. Then the others follow by their moments. At the same moment requests come first, and a
+//! First come subscribers, orders and certificates, and the declines of requests that the follower had. If a register accepted these commands later,
+//! the follower accepts them at its last accepted moment, too. Then the others follow by their moments. At the same moment requests come first, and a
 //! revocation comes before the first CRL that lists it. A request is declined right after it is entered.
 //!
 //! No contract says that this order is right: if the register refuses a command in it, the follower enters nothing.
@@ -24,7 +24,7 @@ pub(crate) struct Replayed {
     pub(crate) requests: usize,
     pub(crate) declined: usize,
     pub(crate) revocations: usize,
-    /// How many pages the CRLs were replayed of.
+    /// How many pages are done: their CRL, if any, was replayed.
     pub(crate) pages: usize,
 }
 
@@ -78,6 +78,7 @@ fn next_without_moment(rows: &FeedRows, done: &Replayed, had: u64) -> Option<Nex
     if done.certificates < rows.certificates.len() {
         return Some(NextRow::Certificate);
     }
+    // The follower has the requests 1 to `entered`. Once it has all, a decline with a greater id comes too, and the register refuses it.
     let entered = had.saturating_add(done.requests as u64);
     match rows.declined.get(done.declined) {
         Some(id) if *id <= entered || done.requests >= rows.requests.len() => Some(
@@ -130,7 +131,7 @@ fn next_after_crls(
     }
 }
 
-/// A request up to this moment, or else `next`, which is of that moment.
+/// `Request`, if the next request was received by this moment; else `next`, a revocation or CRL of this moment.
 fn request_or(request: Option<RequestRow>, moment: Moment, next: NextRow) -> NextRow {
     match request {
         Some(row) if row.received <= moment => NextRow::Request,
@@ -138,7 +139,7 @@ fn request_or(request: Option<RequestRow>, moment: Moment, next: NextRow) -> Nex
     }
 }
 
-/// The next row of a table, and what was replayed after it. `None` if the table has no more rows, and for `Page`.
+/// The next row of a table, and the counts `done` once it is replayed. `None` if the table has no more rows, and for `Page`.
 pub(crate) fn row_at(rows: &FeedRows, done: &Replayed, next: NextRow) -> Option<(FeedRow, Replayed)>
     ensures { IfSome result (λ it. IsNextFeedRow (feed_rows_of rows.now) done.now it.0 it.1) }
 {
@@ -244,7 +245,7 @@ pub(crate) fn are_all_replayed(rows: &FeedRows, pages: &[ReceivedPage], done: &R
         && done.pages == pages.len()
 }
 
-/// At least how many steps the replay takes: one for each row, and one for each page.
+/// How many steps a whole replay takes: one for each row, and one for each page.
 pub(crate) fn steps_of(rows: &FeedRows, pages: &[ReceivedPage]) -> usize {
     pages
         .len()

@@ -1,4 +1,4 @@
-//! Why pages of another register's changes feed are not entered, inside the transaction.
+//! Why a transaction that enters pages of another register's changes feed is rolled back.
 
 use reg_core::{Fault, Memory};
 use reg_office_api::{BrokenFeed, FeedPart, FeedRule, FollowFault};
@@ -39,7 +39,7 @@ pub(crate) fn broken(part: FeedPart, row: u64, why: FeedRule) -> Stopped {
     Stopped::Broken(BrokenFeed { part, row, why })
 }
 
-/// What stops a follower if the register's own decision on a row is this fault.
+/// Why the follower stops, if the register answers a row's command with this fault.
 pub(crate) fn undecided(part: FeedPart, row: u64, fault: Fault) -> Stopped {
     match fault {
         Fault::Refused(refusal) => broken(part, row, FeedRule::Refused(refusal)),

@@ -14,7 +14,7 @@ pub enum SignatureOutcome {
     Failed,
 }
 
-/// The effect of an exchange or a line on the store: an accepted command or a schedule was written, the store failed, or neither.
+/// The effect of an exchange or a line on the store: nothing was written, an accepted command or a schedule was written, or the store failed.
 #[derive(Clone, Copy, PartialEq, Eq)]
 pub enum StoreEffect {
     Unwritten,
@@ -34,7 +34,7 @@ impl StoreEffect {
     }
 }
 
-/// The kind of the reply to a line. `Accepted`: the line succeeded (also a query). `Refused`: by a code such as `E01`, or a failure without a code.
+/// The kind of the reply to a line. `Accepted`: the line succeeded (also a query). `Refused`: a code such as `E01`, or a failure without a code.
 #[derive(Clone, Copy, PartialEq, Eq)]
 pub enum LineReply {
     Accepted,

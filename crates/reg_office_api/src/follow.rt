@@ -31,15 +31,15 @@ pub enum FeedRule {
     OtherRow,
     /// The Name, the key, or a key identifier of an issued CRL is another one.
     OtherIssuer,
-    /// A life or the cap is another one.
+    /// The cap, or how long CRLs or OCSP answers are valid, is another one.
     OtherPolicy,
-    /// The octets of a CRL are not those that the records give for its number with its signature and the algorithm of this register's signer.
+    /// The octets of a CRL are not those that this register makes from its records, its signer's algorithm, and the CRL's number and signature.
     OtherCrl,
     /// A CRL's signature does not have the form of one, or its placeholder digest is another one.
     NoSignature,
     /// The positions are not those of the records after the pages.
     OtherPositions,
-    /// There are rows after the last page.
+    /// The last page does not end the feed: more rows come after it. Or there is no page.
     NoEnd,
 }
 
@@ -61,7 +61,7 @@ pub enum FollowFault {
 }
 
 impl BrokenFeed {
-    /// Appends its line, without LF: the part, the row if there is one, and the rule. `AllocError` if out of memory.
+    /// Appends the line of this fault, without LF: the part, the row if there is one, and the rule. `AllocError` if out of memory.
     #[tactic(auto, unfolding(crate::specs::BrokenFeeds::broken_line))]
     pub fn put(&self, text: &mut Vec<u8>) -> Result<(), AllocError>
         ensures { OnOk result (text.new.items ≡ text.old.items ++ broken_line self.now) }

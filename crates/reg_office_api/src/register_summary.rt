@@ -23,8 +23,8 @@ pub struct TableSizes {
     pub crls: u64,
 }
 
-/// `requests`: how many requests the requests table has, open or not. `waiting`: how many of them are open and for one serial number, counted up to
-/// the limit `most` of `Office::request_load`. `last` and `cap` are as in [`RegisterSummary`].
+/// `last` and `cap` are as in [`RegisterSummary`]. `requests`: how many requests the requests table has, open or not. `waiting`: how many of them are
+/// open and for one serial number, counted up to the limit `most` of `Office::request_load`.
 #[derive(Clone, Copy, PartialEq, Eq)]
 pub struct RequestLoad {
     pub last: Moment,

@@ -121,7 +121,7 @@ impl<S: Alter> Store<S> {
         self.apply(now, &Change::Revocation(row, not_after))
     }
 
-    /// Adds a CRL. If a revocation has no last CRL yet and its certificate's notAfter is before thisUpdate, records this CRL as its last one.
+    /// Adds a CRL. If no CRL is yet the last to list a revocation, and its certificate's notAfter is before thisUpdate, records this CRL as the last.
     pub fn add_crl(&mut self, now: Moment, row: CrlRow, der: &[u8]) -> Result<(), DatabaseFault>
         ensures { MakesChange S.Store self.old self.new now (Crl row der.entry) result }
     {

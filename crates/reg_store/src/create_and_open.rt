@@ -10,7 +10,8 @@ use reg_store_tables::{StoreFault, Tables};
 use sqlite::{Alter, Connection};
 use std::alloc::Global;
 
-/// Why no store was created or opened, and the caller's connection, which is in no transaction. Unless the disk failed, the tables are as they were.
+/// Why no store was created or opened, and the caller's connection, which is in no transaction. The tables are as they were. But if the disk failed
+/// in a commit, the database is as before, or wholly created or migrated, once it is opened again.
 #[derive(Drop)]
 pub struct Unopened<S: Alter> {
     pub fault: StoreFault,

@@ -43,6 +43,7 @@ impl<S: Alter> DerefMut for Store<S> {
 
     ghost deref_mut_gives = { λ store tables. tables ≡ store };
 
+    /// Clause `writes_back`: when the borrow ends, the store is what the caller made of the tables.
     fn deref_mut(&mut self) -> &mut Tables<S>
         ensures* writes_back { sem 𝓛
             (Lends (the_row S.row S.Store) (tables_row S.row S.Store) self.entry result (λ tables. tables)) }

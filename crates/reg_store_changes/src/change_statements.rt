@@ -95,7 +95,7 @@ fn revoke<S: Alter>(
     }
 }
 
-/// Adds a CRL. It becomes the last CRL of each revocation that has none yet, if the certificate's notAfter is before thisUpdate (RFC 5280 3.3).
+/// Adds a CRL: the last to list each revocation that has no last CRL yet and whose certificate's notAfter is before thisUpdate (RFC 5280 3.3).
 fn issue<S: Alter>(conn: &mut Connection<S>, row: CrlRow, der: &[u8]) -> Result<(), DatabaseFault>
     ensures made { MakesWithin S.Store conn.old conn.new result
         (TurnsWhere (λ records. row.number ≡ length records.crls + 1)
@@ -124,9 +124,9 @@ fn write_rows<S: Alter>(conn: &mut Connection<S>, change: &Change<'_>) -> Result
     }
 }
 
-/// Makes a change inside the transaction that is under way. Its moment, `now`, becomes the last accepted one. First, good certificates whose notAfter
-/// is before `now` get the letter `X`. Errors: `Memory`; `Store` if the database fails or refuses a row, a number is above 2^63 - 1, a count is
-/// missing or too small, the certificate to revoke is not good, or no transaction is under way. After an error, the caller must roll back.
+/// Makes a change inside the transaction that is under way. Its moment, `now`, becomes the last accepted one (`Touch` adds no row). First, good
+/// certificates whose notAfter is before `now` get the letter `X`. Errors: `Memory`; `Store` if the database fails or refuses a row, a number is over
+/// 2^63 - 1, a count is missing or too small, the certificate to revoke isn't good, or no transaction is under way. After an error, roll back.
 pub fn enter<S: Alter>(
     conn: &mut Connection<S>,
     now: Moment,

@@ -21,7 +21,8 @@ fn set_name<S: Alter>(tx: &mut Transaction<'_, S>, issuer: &Issuer) -> Result<()
 }
 
 /// Replaces the issuer's Name and key identifiers, and nothing else, in a transaction of its own. The call does not check that the key is as before.
-/// Errors: `Memory`; `Store` if the database fails or a transaction is under way. An error changes nothing, unless the disk failed in the commit.
+/// Errors: `Memory`; `Store` if the database fails or a transaction is under way. An error changes nothing. But if the disk failed in the commit, the
+/// register has the old issuer or the new one once it is opened again.
 pub fn set_issuer<S: Alter>(conn: &mut Connection<S>, issuer: &Issuer) -> Result<(), DatabaseFault>
     ensures { SetsIssuer S.Store conn.old conn.new issuer.now result }
 {

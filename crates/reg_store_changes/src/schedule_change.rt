@@ -31,7 +31,8 @@ fn write_schedule<S: Alter>(
 }
 
 /// Sets the schedule in a transaction of its own. Nothing else changes, not even the column `days` of `office` (the longest validity at creation).
-/// Errors: `Memory`; `Store` if the database fails or a transaction is under way. An error changes nothing, unless the disk failed in the commit.
+/// Errors: `Memory`; `Store` if the database fails or a transaction is under way. An error changes nothing. But if the disk failed in the commit, the
+/// register has the old schedule or the new one once it is opened again.
 pub fn set_schedule<S: Alter>(
     conn: &mut Connection<S>,
     schedule: &Schedule,

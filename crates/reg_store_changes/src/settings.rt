@@ -1,5 +1,5 @@
-//! Sets the schedule of longest validities, or the issuer, inside the transaction that is under way; the last accepted moment stays. Errors: those of
-//! the statements (`statements.rt`); after an error, the transaction must be rolled back.
+//! Sets the schedule of longest validities, or the issuer, inside the transaction that is under way. The moment of the last accepted command stays.
+//! Errors: those of the statements (`statements.rt`); after an error, the transaction must be rolled back.
 
 ghost use Rattle.std.specs.Prelude.{◌≡◌, OnOk, true};
 ghost use Rattle.reg_store_changes.specs.ChangeSteps.{ClearsSteps, ReplacesIssuer, WritesSchedule};
@@ -16,7 +16,7 @@ use reg_store_tables::write_statements::{sql_moment, sql_number};
 use sqlite::types::ValueRef;
 use sqlite::{Alter, Connection};
 
-/// Replaces the issuer's stored Name and the key identifiers after it. The issuer must have the same key as before; the call doesn't check it.
+/// Replaces the column `name`: the issuer's Name, then any key identifiers. The issuer must have the same key as before; the call doesn't check it.
 pub fn enter_issuer<S: Alter>(
     conn: &mut Connection<S>,
     issuer: &Issuer,
@@ -29,7 +29,6 @@ pub fn enter_issuer<S: Alter>(
     Ok(())
 }
 
-/// Replaces the schedule.
 pub fn enter_schedule<S: Alter>(
     conn: &mut Connection<S>,
     schedule: &Schedule,

@@ -1,5 +1,5 @@
-//! The statements of the changes, inside a transaction: `put_..` adds a row; `set_last` sets the last accepted moment. Errors: `Memory`; `Store` if
-//! the database fails or refuses a row, no transaction is under way, or a number is above 2^63 - 1.
+//! The statements of changes, in a transaction: `put_..` adds a row (`put_letter`: with the letter `G`); `set_last` sets the last accepted moment.
+//! `ground`: why to revoke. Errors: `Memory`; `Store` if the database fails or refuses a row, no transaction is open, or a number is above 2^63 - 1.
 
 ghost use Rattle.std.specs.Prelude.{◌≡◌, ◌+◌, OnOk, length, true};
 ghost use Rattle.reg_core.specs.Changes.{touched, with_subscriber, with_order, with_certificate, with_request, with_declined, with_revocation, with_crl};
@@ -43,7 +43,7 @@ pub fn mark_revoked<S: Alter>(
     write(conn, sql::MARK_REVOKED, &[ValueRef::Blob(&bytes)])
 }
 
-/// Records the CRL `number` as the last CRL of each revocation that has none yet, if the certificate's notAfter is before `this_update`.
+/// Records the CRL `number` as the last one to list each revocation without a last one, if the certificate's notAfter is before `this_update`.
 pub(crate) fn set_last_listed<S: Alter>(
     conn: &mut Connection<S>,
     number: u64,

@@ -10,7 +10,7 @@ use reg_store_tables::DatabaseFault;
 use sqlite::{Alter, Connection};
 
 /// Makes a change at the moment `now`, in a transaction of its own. Errors: those of [`enter`]; `Store` also if a transaction is under way already.
-/// An error changes nothing, unless the disk failed in the commit.
+/// An error changes nothing. But if the disk failed in the commit, the register has the whole change or none of it once it is opened again.
 pub fn apply<S: Alter>(
     conn: &mut Connection<S>,
     now: Moment,

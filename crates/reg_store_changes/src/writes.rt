@@ -42,7 +42,8 @@ pub fn begin<S: Alter>(conn: &mut Connection<S>) -> Result<(), DatabaseFault>
 }
 
 /// Ends the transaction. `made` is the result of its changes. `Ok`: commits it. `Err`: rolls it back and returns this error. A failed commit is
-/// rolled back, unless the disk failed. Errors of the commit: `Memory`; `Store` if the database fails, or an earlier failure ended the transaction.
+/// rolled back; but if the disk failed, the register has the whole transaction or none of it once it is opened again. Errors of the commit: `Memory`;
+/// `Store` if the database fails, or an earlier failure ended the transaction.
 pub fn end<S: Alter>(
     conn: &mut Connection<S>,
     made: Result<(), DatabaseFault>,

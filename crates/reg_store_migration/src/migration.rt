@@ -29,7 +29,8 @@ fn migrate_tables<S: Alter>(
 
 /// Migrates a register of an older version to version 3, in one transaction: the records stay, and the derived tables are rebuilt from them.
 /// `days` is the register's longest validity, `last` its last accepted moment; the caller checks both. Errors: `Memory`; `Store` if the database
-/// fails or already has a table or index to be added, or a row is missing or invalid. An error changes nothing, unless the disk failed in the commit.
+/// fails or already has a table or index to be added, or a row is missing or invalid. An error changes nothing. But if the disk failed in the commit,
+/// the database is as before or wholly migrated once it is opened again.
 pub fn migrate<S: Alter>(
     conn: &mut Connection<S>,
     version: OlderVersion,

@@ -1,4 +1,4 @@
-//! Reads the records from which the derived tables are rebuilt, inside the migration's transaction.
+//! Reads the records from which the derived tables are rebuilt, inside the migration's transaction. `ask` runs a SELECT there.
 
 ghost use Rattle.std.specs.Prelude.{◌≡◌, [], ◌∷◌, map, IsSomeAnd, IfOk};
 ghost use Rattle.sqlite_value.specs.Order.{Row as Values};

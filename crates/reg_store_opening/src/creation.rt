@@ -50,7 +50,8 @@ fn create_in_transaction<S: Alter>(
 }
 
 /// Creates a register with this issuer and policy, without records. Its last accepted moment is 1970-01-01T00:00:00Z. Errors: `NotEmpty` if the
-/// database has a table, an index or a view; `Memory`; `Store` if the database fails. An error changes nothing, unless the disk failed in the commit.
+/// database has a table, an index or a view; `Memory`; `Store` if the database fails. An error changes nothing. But if the disk failed in the commit,
+/// the database is empty or has the whole register once it is opened again.
 pub fn create<S: Alter>(
     conn: &mut Connection<S>,
     issuer: &Issuer,

@@ -33,7 +33,7 @@ fn version_in(rows: &[Row]) -> Option<u64>
     number_at(only(rows)?, 0)
 }
 
-/// The version in `rows` if it is 1 or 2; `None` for 3, the program's. `NewVersion` above 3; `NotARegister` for 0, or if not one row with a number.
+/// The version in `rows`, if 1 or 2; `None` for 3, the program's. `NewVersion` above 3; `NotARegister` for 0, or if `rows` isn't one row of a number.
 pub(crate) fn version_in_rows(rows: &[Row]) -> Result<Option<OlderVersion>, StoreFault>
     ensures ok { IfOk result (λ found. AreVersionRows (version_of found) rows.now) }
     ensures newer { result ≡ Err StoreFault.NewVersion → (n : ℕ) × (3 < n) × AreVersionRows n rows.now }

@@ -152,7 +152,8 @@ fn check_schema(of_schema: Option<Version>, found: Option<OlderOffice>) -> Resul
 
 /// Checks that the schema, the row of `office` and the schedule are a register's. Version 3, the program's, stays as it is. Version 1 or 2 is
 /// migrated in one transaction: the records stay, and the derived tables are rebuilt from them. Errors: those of [`examine`] and [`migrate`], and
-/// `NotARegister` if the schema (tables, indexes, views) is not that version's. An error changes nothing, unless the disk failed in the commit.
+/// `NotARegister` if the schema (tables, indexes, views) is not that version's. An error changes nothing. But if the disk failed in the commit, the
+/// database is as before or wholly migrated once it is opened again.
 pub fn open<S: Alter>(alloc: Global, conn: &mut Connection<S>) -> Result<(), StoreFault>
     requires { conn.old.in_transaction ≡ false }
     ensures opens { OnOk result (Opens S.Store conn.old conn.new) }

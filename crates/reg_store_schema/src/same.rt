@@ -111,6 +111,7 @@ fn have_same_columns(left: &Table, right: &Table) -> bool
         && left.is_counted == right.is_counted
 }
 
+/// Whether two tables have the same PRIMARY KEY, the same keys with an automatic index (`uniques`), and the same sort orders of these (`orders`).
 fn have_same_keys(left: &Table, right: &Table) -> bool
     ensures { IsTrue result ↔ ((left.now.primary ≡ right.now.primary)
         × (left.now.uniques ≡ right.now.uniques) × (left.now.orders ≡ right.now.orders)) }
@@ -151,8 +152,8 @@ impl Same for Index {
     }
 }
 
-// A `View` is a view. Or it belongs to a table, named `foreign`, that the crate `sqlite` can't use: a trigger or an unreadable index (`binds`),
-// another index, or the table itself (`is_bound`: readable, but one of its objects `binds`). A register has no views and no such tables.
+// A `View` is a view; or it stands for a part of a table that the crate `sqlite` keeps but can't use. `foreign`: the name of that table. `binds`: a
+// trigger or an unreadable index, because of which the table can't be used. `is_bound`: such a table, if readable. A register has none of these.
 impl Same for View {
     fn is_same(&self, other: &View) -> bool {
         self.name.is_same(&other.name)

@@ -27,7 +27,7 @@ pub(crate) fn read<S: Alter>(
     Ok(conn.query_all(sql, params)?)
 }
 
-/// The record in the only row that a query returns; `None` if it returns no row. `Store` for more rows.
+/// The record in the only row that a query returns; `None` if it returns no row ([`look_up_one`]: `Store`). `Store` for more rows.
 pub(crate) fn look_up<S: Alter, T: RowKind>(
     conn: &mut Connection<S>,
     sql: &str,

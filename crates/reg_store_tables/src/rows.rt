@@ -1,4 +1,5 @@
-//! Reads result rows as values. Columns are counted from 0, in the order of the statement. `first`, `last`: a revocation's first and last CRL.
+//! Reads result rows as values. Columns are counted from 0, in the order of the statement. `first`, `last`: the numbers of the first and last CRL
+//! that list a revocation. `ground`: why a request asks for it.
 
 ghost use Rattle.std.specs.Prelude.{◌≡◌, ◌≤◌, List, Option, map, length, IfOk, IfErr, OnErr};
 ghost use Rattle.std.specs.List.{AllByRecursion};
@@ -257,6 +258,7 @@ impl RowKind for Step {
     }
 }
 
+/// A row of one number.
 pub(crate) struct Number;
 
 impl RowKind for Number {

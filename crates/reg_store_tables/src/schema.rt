@@ -2,7 +2,7 @@
 //! 1970-01-01T00:00:00Z. A serial number is 20 bytes, big-endian, so that SQL sorts it by its value.
 
 /// One row: the version, the issuer (`name`, `pubkey`: docs/RULES.md, "The tables of a file"), limits of the policy, and the last accepted moment.
-/// Lives are in seconds, up to nextUpdate. `cap`: the most rows of a table. `days`: the longest validity at creation (now only audits read it).
+/// Lives: seconds to nextUpdate. `cap`: the most rows of a table. `days`: the longest validity at creation (in version 3, only audits read it).
 pub const OFFICE: &str =
     "CREATE TABLE office (one INTEGER PRIMARY KEY CHECK (one = 1), version INTEGER NOT NULL, name BLOB NOT NULL, pubkey BLOB NOT NULL, days INTEGER NOT NULL, crl_life INTEGER NOT NULL, ocsp_life INTEGER NOT NULL, cap INTEGER NOT NULL, last_at INTEGER NOT NULL) STRICT";
 

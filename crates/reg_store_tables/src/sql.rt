@@ -1,6 +1,6 @@
 //! The SQL of the statements, over the tables of `schema.rt`. `last_at` is the last accepted moment, `G` in `standing` the state letter of a good
 //! certificate. `STEPS`, `UNDECLINED`, `EARLIEST_ABOVE` and `ENTRIES` scan a table; `UNDECLINED_OF`, `DECLINED_AFTER` and `DECLINED_UP_TO` scan
-//! `request` or a part of it. The other SELECTs use a key, an index or a table of one row (`office`, `kept`).
+//! `request` or a part of it. The other SELECTs use a key, an index or a table of one row (`office`, `kept`). `LAST_..`: the number of the last row.
 
 pub(crate) const LAST: &str = "SELECT last_at FROM office";
 

@@ -81,7 +81,8 @@ pub fn write<S: Alter>(
     Ok(tx.execute(sql, params)?)
 }
 
-/// Commits the transaction. Errors: `Memory`; `Store` if the database fails. After an error the transaction is rolled back, unless the disk failed.
+/// Commits the transaction. Errors: `Memory`; `Store` if the database fails. After an error the transaction is rolled back. But if the disk failed in
+/// the commit, the tables have all of it or none of it once the database is opened again.
 pub fn commit<S: Alter>(tx: Transaction<'_, S>) -> Result<(), DatabaseFault>
     ensures { Ends S.Store tx.entry.conn.now tx.exit.0.now result }
 {

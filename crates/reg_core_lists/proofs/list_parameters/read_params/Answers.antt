@@ -21,8 +21,8 @@ loop-preserved c =
     record {
       read = c.loop.invariant.read
           ∙ next_piece c.loop.counter c.loop.rest.now c.loop.params c.index_of-end.result c.loop-test.true c.index_of-end.ensures.index c.in_ok-params.params query c.if-end-rest.false
-          ∙ ap (λ (text : List ℕ). params_from (7 - (c.loop.counter + 1)) text c.in_ok-params.params) (sym c.behind-rest.ensures);
-      within = omega (arith, c.loop.invariant.within, length-drop (c.index_of-end.result + 1) c.loop.rest.now, ap (length {A = ℕ}) c.behind-rest.ensures);
+          ∙ ap (λ (text : List ℕ). params_from (7 - (c.loop.counter + 1)) text c.in_ok-params.params) (sym c.text_after-rest.ensures);
+      within = omega (arith, c.loop.invariant.within, length-drop (c.index_of-end.result + 1) c.loop.rest.now, ap (length {A = ℕ}) c.text_after-rest.ensures);
     }
 
 pub returns : goal.returns

@@ -16,11 +16,11 @@ returns-in-Cut g c =
     let sent = rw c.deref.ensures.value at c.in_ok-print_text.ensures in
     let so = goes_on _ _ _ _ _ _ _ _ _ _ _ _ _ c.in_ok-piece.piece _ _ _ c.loop.invariant c.in_ok-piece.ensures.ok sent c.in_ok-piece_is_accepted.ensures.ok
     c.both-is_accepted.ensures in
-    cuts _ _ _ _ (g.R.Read.remaining c.next_piece.new.input) _ _ _ _ _ (rw c.in-Cut.is at so) c.cut_off.ensures
+    cuts _ _ _ _ (g.R.Read.remaining c.next_piece.new.input) _ _ _ _ _ (rw c.in-Cut.is at so) c.failure_at_cut.ensures
 
 pub returns-in-End : goal.returns-in-End
 returns-in-End g c =
     let sent = rw c.deref.ensures.value at c.in_ok-print_text.ensures in
     let so = goes_on _ _ _ _ _ _ _ _ _ _ _ _ _ c.in_ok-piece.piece _ _ _ c.loop.invariant c.in_ok-piece.ensures.ok sent c.in_ok-piece_is_accepted.ensures.ok
     c.both-is_accepted.ensures in
-    ends _ _ _ _ (g.R.Read.remaining c.next_piece.new.input) _ _ _ _ _ (rw c.in-End.is at so) c.ended.ensures
+    ends _ _ _ _ (g.R.Read.remaining c.next_piece.new.input) _ _ _ _ _ (rw c.in-End.is at so) c.result_at_end.ensures

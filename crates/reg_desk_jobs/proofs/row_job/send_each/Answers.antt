@@ -11,7 +11,7 @@ loop-preserved g c =
     rows_go_on _ _ _ _ _ _ _ _ _ _ _ _ _ _ c.loop.invariant next.0 next.1 exchanged c.both-is_done.ensures
 
 pub returns-in-Cut : goal.returns-in-Cut
-returns-in-Cut g c = rows_cut _ _ _ _ _ _ _ _ c.loop.invariant _ (rw c.in-Cut.is at c.in_ok-line.ensures.ok) c.cut_off.ensures
+returns-in-Cut g c = rows_cut _ _ _ _ _ _ _ _ c.loop.invariant _ (rw c.in-Cut.is at c.in_ok-line.ensures.ok) c.failure_at_cut.ensures
 
 pub returns-in-End : goal.returns-in-End
-returns-in-End g c = rows_end _ _ _ _ _ _ _ _ c.loop.invariant _ (rw c.in-End.is at c.in_ok-line.ensures.ok) c.ended.ensures
+returns-in-End g c = rows_end _ _ _ _ _ _ _ _ c.loop.invariant _ (rw c.in-End.is at c.in_ok-line.ensures.ok) c.result_at_end.ensures

@@ -12,7 +12,7 @@ returns-clause-moves g c =
     AnswersLineAt c.args.accepted.now g.M.Office.Office.signs c.args.now signers before c.args.line.now c.answer_control_line-reply.result.text.items after in
     still_then g.M.Office.Office.is_clean g.M.Office.Office.stands step _ _ _
     (follows g.M.Office.Office.is_clean g.M.Office.Office.stands _ (λ signers before after. after ≡ before) (λ signers before after looked. looked.1) _ _
-    c.decided_request-named.ensures)
+    c.decided_request-looked_up.ensures)
     (then_still g.M.Office.Office.is_clean g.M.Office.Office.stands step _ _ _ c.answer_control_line-reply.ensures.moves c.keep_due_reason.ensures)
 
 pub returns-clause-counted : goal.returns-clause-counted

@@ -12,7 +12,7 @@ returns-in-Ok-read_body-clause-ok g c =
     let most = c.in-Ok.ensures.small in
     let asks = asks_from c.args.buffered.now took _ c.args.end c.in-Ok.head.size h _ _ c.requires.head stands.reads stands.method_is stands.target_is stands.size_is long body_is in
     let P : RequestMeaning → Type 0 = λ part. Framed (c.args.buffered.now ++ took) part in
-    IfOk-weaker c.owned.result _ _ (λ request is. (took, consumed, omega (arith, few, most), subst P (sym is) asks)) c.owned.ensures.ok
+    IfOk-weaker c.owned_request.result _ _ (λ request is. (took, consumed, omega (arith, few, most), subst P (sym is) asks)) c.owned_request.ensures.ok
 
 pub returns-in-Err-read_body-clause-err : goal.returns-in-Err-read_body-clause-err
 returns-in-Err-read_body-clause-err g c =

@@ -6,7 +6,7 @@ use Rattle.reg_core.specs.Records.{subscriber_named}
 use Rattle.reg_core.specs.Sound.{KeysDiffer}
 use Rattle.reg_core.specs.declared.rows.SubscriberRow.{SubscriberRow}
 use denote.Ref.{Bor}
-use Rattle.reg_audit_rows.proofs.index.rows_differ.Given as goal
+use Rattle.reg_audit_rows.proofs.index.names_differ.Given as goal
 
 abbrev pub invariant-loop-row_index : goal.invariant-loop-row_index
 invariant-loop-row_index l = record {

@@ -1,7 +1,7 @@
 use Rattle.std.proofs.Common.{◌≡◌, true, false, is_some, sym, ap, ◌∙◌, rules}
 use Rattle.reg_core.specs.Records.{subscriber_named}
 use Rattle.reg_audit_rows.proofs.RowPrefixes.{name_differs, name_repeats, name_entered}
-use Rattle.reg_audit_rows.proofs.index.rows_differ.Goals as goal
+use Rattle.reg_audit_rows.proofs.index.names_differ.Goals as goal
 
 pub returns-then-not-branch-clause-broken : goal.returns-then-not-branch-clause-broken
 returns-then-not-branch-clause-broken c is differ =
