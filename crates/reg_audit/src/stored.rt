@@ -138,7 +138,8 @@ fn check_stored<S: Alter>(
     ensures bytes { HoldsOfRecordsWith S.Store conn.old issuer.now crl_life listed.now
         (λ records. HasCleanDisk (state S.Store conn.new) → OnOk result (IsStored records crl.now)) }
     ensures others { HoldsOfRecordsWith S.Store conn.old issuer.now crl_life listed.now
-        (λ records. CanList listed.now → crl.now.this_update < clock_end → HasCleanDisk (state S.Store conn.new)
+        (λ records. CanList listed.now → crl.now.this_update < clock_end
+        → HasCleanDisk (state S.Store conn.new)
         → NoBrokenRowIf (IsStored records crl.now) result) }
     ensures rows { IfErr result (λ fault. ¬ BreaksRule fault) }
     ensures looked { Looked S.Store conn.old conn.new }

@@ -116,7 +116,8 @@ impl<S: Drop> SignerConnection<S> {
 
     /// The received bytes as a whole answer. `None` if they are no whole answer, or if it has more than 4,096 bytes.
     fn answer(&self) -> Option<&[u8]>
-        ensures is { IfSome result (λ answer. FramesAnswer self.now.framing self.now.received.items answer.now) }
+        ensures is { IfSome result (λ answer.
+            FramesAnswer self.now.framing self.now.received.items answer.now) }
         ensures short { IfSome result (λ answer. length answer.now ≤ 4096) }
     {
         let answer = match self.framing {

@@ -30,7 +30,8 @@ pub struct FileOffice {
 impl reg_office_api::Office for FileOffice {
     ghost is_clean = { λ it. ⟦<OfficeInFile as reg_office_api::Office>⟧.is_clean it.office };
 
-    ghost stands = { λ signers it records. ⟦<OfficeInFile as reg_office_api::Office>⟧.stands signers it.office records };
+    ghost stands = { λ signers it records.
+        ⟦<OfficeInFile as reg_office_api::Office>⟧.stands signers it.office records };
 
     ghost signs = { ⟦<OfficeInFile as reg_office_api::Office>⟧.signs };
 

@@ -148,9 +148,11 @@ impl<'a> Machine for SystemHost<'a> {
 
     ghost fresh = { λ database. (database.in_transaction ≡ false) × IsConnection database };
 
-    ghost certified = { λ responder loaded. (crls : Identity) → IsAnswering responder (signers_of ⟦<FileSigner as Signer>⟧.identity crls loaded) };
+    ghost certified = { λ responder loaded. (crls : Identity)
+        → IsAnswering responder (signers_of ⟦<FileSigner as Signer>⟧.identity crls loaded) };
 
-    ghost opened = { λ database crls responder office. OpensFor ⟦<FileSigner as Signer>⟧ database crls responder office.office };
+    ghost opened = { λ database crls responder office.
+        OpensFor ⟦<FileSigner as Signer>⟧ database crls responder office.office };
 
     ghost made = { λ database office. IsMadeFrom database office.office.store };
 
@@ -158,7 +160,8 @@ impl<'a> Machine for SystemHost<'a> {
 
     ghost read = { λ host path sources. Unspecified path };
 
-    ghost audited = { λ sources. IsAuditOf ⟦<Overlay<ReadFile> as Disk>⟧ (image sources.log.items (⟦<ReadFile as ReadAt>⟧.bytes sources.db)) };
+    ghost audited = { λ sources.
+        IsAuditOf ⟦<Overlay<ReadFile> as Disk>⟧ (image sources.log.items (⟦<ReadFile as ReadAt>⟧.bytes sources.db)) };
 
     ghost copied = { λ host path to bytes after. Unspecified path };
 
@@ -196,7 +199,8 @@ impl<'a> Machine for SystemHost<'a> {
 
     ghost warned = { λ line. Unspecified line };
 
-    ghost answer_in_form_signs = { λ identity path message answer given form. inr (inr (path, ∣ tt ∣₁), form) };
+    ghost answer_in_form_signs = { λ identity path message answer given form.
+        inr (inr (path, ∣ tt ∣₁), form) };
 
     fn claim(&mut self, path: &str) -> Result<bool, Memory> {
         self.is_claimed(claim_file(&self.rt, path))

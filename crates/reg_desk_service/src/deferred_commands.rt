@@ -296,7 +296,8 @@ impl<'a, 'w, M: Machine> Desk<'a, 'w, M> {
         ensures open { self.new.is_open ≡ self.old.is_open }
         ensures admission { IsAdmissionAfter line.now self.old.admission self.new.admission }
         ensures moves { LeadsIn M.Office.Office
-            (λ identity before after. AnswersLinesByClock self.old.admission.accepted M.Office.signs M.clock_reached
+            (λ identity before after. AnswersLinesByClock self.old.admission.accepted
+            M.Office.signs M.clock_reached
             identity before line.now result.items after)
             self.old.office self.new.office }
     {

@@ -236,7 +236,8 @@ impl<'a, 'w, M: Machine> Handler for Desk<'a, 'w, M> {
             × KeepsIn M.Office.Office self.old.office self.new.office)
             (λ text. IsTrue self.old.is_open × IsTrue self.new.is_open
             × IsAdmissionAfter line.now self.old.admission self.new.admission × LeadsIn M.Office.Office
-            (λ identity before after. AnswersLinesByClock self.old.admission.accepted M.Office.signs M.clock_reached
+            (λ identity before after. AnswersLinesByClock self.old.admission.accepted
+            M.Office.signs M.clock_reached
             identity before line.now text.items after)
             self.old.office self.new.office)) }
         ensures err { OnErr result ((self.new ≡ self.old) × (last_reason.new ≡ last_reason.old)) }

@@ -37,7 +37,8 @@ pub fn answer_changes<O: Office>(
 ) -> Result<HttpAnswer, Memory>
     ensures { LooksIn O.Office
         (λ records. IfOk result
-        (λ answered. RespondsChanges records (changes_request method.now target.now) (answer_effects answered)))
+        (λ answered. RespondsChanges records (changes_request method.now target.now)
+        (answer_effects answered)))
         office.old office.new }
 {
     match read_changes(method, target) {

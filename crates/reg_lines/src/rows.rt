@@ -138,8 +138,8 @@ fn take_row<W: Sink, O: Office>(
     row: &ByteRecord,
     is_first: bool,
 ) -> Result<Continuation, WriteFault>
-    ensures took { TookRow (LineCalls O.Office) is_strict now office.old office.new is_first (fields_of row.now)
-        (W.contents writer.old) (W.contents writer.new) result }
+    ensures took { TookRow (LineCalls O.Office) is_strict now office.old office.new is_first
+        (fields_of row.now) (W.contents writer.old) (W.contents writer.new) result }
     ensures fails { OnErr result W.failed }
 {
     if is_first && is_header(row) {

@@ -537,7 +537,8 @@ fn has_no_crl(page: &ReceivedPage) -> bool
 }
 
 fn is_same_issuer(issuer: &Issuer, head: &FeedHead) -> bool
-    ensures { IsTrue result → (issuer.now.name ≡ head.now.stored_name.items) × (issuer.now.key ≡ head.now.key.items) }
+    ensures { IsTrue result → (issuer.now.name ≡ head.now.stored_name.items)
+        × (issuer.now.key ≡ head.now.key.items) }
 {
     issuer.stored_name() == head.stored_name.as_slice() && issuer.key() == head.key.as_slice()
 }

@@ -41,7 +41,8 @@ pub(crate) fn begin_ocsp<C: Alter, S: Signer>(
     ensures refuses { IfOk result (RefusesRequest request.now) }
     ensures same { SameSigners S.Signer signer.old responder.old signer.new responder.new }
     ensures counts { IfOk result (λ begun.
-        IsSignerFailure begun ↔ ResponderHasFailed S.Signer signer.old responder.old signer.new responder.new) }
+        IsSignerFailure begun
+        ↔ ResponderHasFailed S.Signer signer.old responder.old signer.new responder.new) }
     ensures never_falls { failures_of S.failure_count (S.failure_count signer.old) responder.old
         ≤ failures_of S.failure_count (S.failure_count signer.new) responder.new }
 {

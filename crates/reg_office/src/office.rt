@@ -101,7 +101,8 @@ impl<C: Alter, S: Signer> reg_office_api::Office for Office<C, S> {
 
     ghost is_clean = { λ office. HasCleanDisk (state C.Store office.store) };
 
-    ghost stands = { λ signers office records. StandsFor C.Store S.signs (seen S.Signer office) signers records };
+    ghost stands = { λ signers office records.
+        StandsFor C.Store S.signs (seen S.Signer office) signers records };
 
     ghost signs = { S.signs };
 
@@ -146,7 +147,8 @@ impl<C: Alter, S: Signer> reg_office_api::Office for Office<C, S> {
         alloc: Global,
         commands: &[(Moment, Command)],
     ) -> Result<Vec<Outcome>, Fault>
-        ensures runs { OfficeLeads C.Store S.Signer (BatchStep S.signs commands.now result) self.old self.new }
+        ensures runs { OfficeLeads C.Store S.Signer (BatchStep S.signs commands.now result)
+            self.old self.new }
         ensures stops { OfficeStops C.Store S.Signer (batch_call commands.now) result
             (BatchStep S.signs commands.now result) self.old self.new }
     {

@@ -43,7 +43,8 @@ fn status_for_id<C: Alter>(
     id: &CertId<'_>,
 ) -> Result<Status, ResponseFault>
     ensures looks { LooksUp C.Store tables.old tables.new (λ records.
-        issuer.now ≡ records.issuer → IfOk result (λ reported. IsStatusFor records now (id_model id.now) reported)) }
+        issuer.now ≡ records.issuer
+        → IfOk result (λ reported. IsStatusFor records now (id_model id.now) reported)) }
     ensures faults { IfErr result (λ fault. (fault ≡ ResponseFault.Memory) ⊎ (fault ≡ ResponseFault.Store)) }
 {
     match matches(issuer, id) {

@@ -23,7 +23,8 @@ use sqlite::{Alter, Connection};
 
 /// Changes state letters from `G` (good) to `X` (expired), where the certificate's notAfter is before `now`. Returns how many it changed.
 pub fn expire_ended<S: Alter>(conn: &mut Connection<S>, now: Moment) -> Result<usize, DatabaseFault>
-    ensures made { YieldsWithin S.Store conn.old conn.new result (TurnsCounted (with_expired now) (count_ended_before now)) }
+    ensures made { YieldsWithin S.Store conn.old conn.new result
+        (TurnsCounted (with_expired now) (count_ended_before now)) }
     ensures stepped { StepsWithin S.Store conn.old conn.new }
     ensures under_way { OnOk result (conn.old.in_transaction ≡ true) }
 {
@@ -148,7 +149,8 @@ pub(crate) fn put_letter<S: Alter>(
     serial: Serial,
     not_after: Moment,
 ) -> Result<(), DatabaseFault>
-    ensures made { MakesWithin S.Store conn.old conn.new result (TurnsDerivedRows (with_good serial not_after)) }
+    ensures made { MakesWithin S.Store conn.old conn.new result
+        (TurnsDerivedRows (with_good serial not_after)) }
     ensures stepped { StepsWithin S.Store conn.old conn.new }
 {
     let serial = serial.bytes20();
@@ -206,7 +208,8 @@ pub(crate) fn put_listed<S: Alter>(
     row: RevocationRow,
     not_after: Moment,
 ) -> Result<(), DatabaseFault>
-    ensures made { MakesWithin S.Store conn.old conn.new result (TurnsDerivedRows (with_unlisted row not_after)) }
+    ensures made { MakesWithin S.Store conn.old conn.new result
+        (TurnsDerivedRows (with_unlisted row not_after)) }
     ensures stepped { StepsWithin S.Store conn.old conn.new }
 {
     let serial = row.serial.bytes20();

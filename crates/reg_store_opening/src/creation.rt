@@ -41,7 +41,8 @@ fn create_in_transaction<S: Alter>(
     policy: &Policy,
 ) -> Result<(), DatabaseFault>
     requires { conn.old.in_transaction ≡ false }
-    ensures commits { Commits S.Store conn.old conn.new result (CreatesRegister no_schema issuer.now policy.now) }
+    ensures commits { Commits S.Store conn.old conn.new result
+        (CreatesRegister no_schema issuer.now policy.now) }
     ensures idle { conn.new.in_transaction ≡ false }
 {
     let mut tx = conn.transaction();

@@ -117,7 +117,8 @@ fn check_issuer(alloc: Global, row: &Row) -> Result<(), StoreFault>
 }
 
 fn check_office_row(alloc: Global, row: &Row, schedule: Schedule) -> Result<(), StoreFault>
-    ensures { MatchResult result (λ _. HasOfficeValues schedule row.now) (Refuses (¬ HasOfficeValues schedule row.now)) }
+    ensures { MatchResult result (λ _. HasOfficeValues schedule row.now)
+        (Refuses (¬ HasOfficeValues schedule row.now)) }
 {
     match policy_in(row, schedule) {
         None => Err(StoreFault::NotARegister),

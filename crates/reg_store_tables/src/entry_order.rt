@@ -27,7 +27,8 @@ pub trait Entered: RowKind<Record = Self> {
 
     /// The SQL statement of [`Tables::entered_after`].
     fn entered_sql() -> &'static str
-        ensures { ReadsPage Self.has_valid_serial Self.has_values Self.shown (entered_page entered) result.now };
+        ensures { ReadsPage Self.has_valid_serial Self.has_values Self.shown
+            (entered_page entered) result.now };
 }
 
 impl Entered for SubscriberRow {

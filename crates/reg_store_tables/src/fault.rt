@@ -109,7 +109,8 @@ impl From<DatabaseFault> for StoreFault {
     ghost use Rattle.reg_store_tables.specs.Faults.{store_fault_of};
     ghost use Rattle.reg_store_tables.specs.Stays.{IsDatabaseFault};
 
-    ghost from_gives = { λ database_fault fault. (fault ≡ store_fault_of database_fault) × IsDatabaseFault fault };
+    ghost from_gives = { λ database_fault fault.
+        (fault ≡ store_fault_of database_fault) × IsDatabaseFault fault };
 
     fn from(database_fault: DatabaseFault) -> StoreFault {
         match database_fault {
@@ -123,7 +124,8 @@ impl From<Error> for StoreFault {
     ghost use Rattle.reg_store_tables.specs.Faults.{database_fault_of, store_fault_of};
     ghost use Rattle.reg_store_tables.specs.Stays.{IsDatabaseFault};
 
-    ghost from_gives = { λ error fault. (fault ≡ store_fault_of (database_fault_of error)) × IsDatabaseFault fault };
+    ghost from_gives = { λ error fault.
+        (fault ≡ store_fault_of (database_fault_of error)) × IsDatabaseFault fault };
 
     fn from(error: Error) -> StoreFault {
         StoreFault::from(DatabaseFault::from(error))

@@ -106,7 +106,8 @@ pub(crate) fn life_at(row: &Row, at: usize) -> Option<u64>
 pub fn serial_at(row: &Row, at: usize) -> Option<Serial>
     ensures read { (serial : ℕ) → IsSerial serial → column row.now at ≡ serial_value serial
         → result ≡ Some serial }
-    ensures in_column { IfSome result (λ serial. IsSerial serial × (column row.now at ≡ serial_value serial)) }
+    ensures in_column { IfSome result (λ serial.
+        IsSerial serial × (column row.now at ≡ serial_value serial)) }
 {
     match row.get_ref(at) {
         Ok(ValueRef::Blob(bytes)) => Serial::from_bytes20(bytes),
