@@ -19,7 +19,7 @@ use Rattle.sqlite.proofs.StateLemmas.{survives_weaker}
 use Rattle.sqlite_tied.specs.Compute.{everything}
 use Rattle.reg_store_tables.specs.ReadStatements.{command_of}
 use Rattle.reg_store_tables.specs.Stays.{LeavesNothing, Stays}
-use Rattle.reg_store_tables.proofs.PublicLaws.{stays_by}
+use Rattle.reg_store_tables.proofs.PublicLaws.{Remains, stays_by}
 use Rattle.reg_store_changes.specs.declared.sql.TheConstants.{BEGIN}
 use Rattle.reg_store_changes.specs.WithinTransactions.{BeginsTransaction, IsTransactionBegun}
 use Rattle.reg_store_changes.proofs.Within.{failed_remains}
@@ -55,6 +55,11 @@ never_begins s db h =
 pub begun_survives : (old new : State) → Survives old new (CommitsBy BEGIN.now [] old) → LeavesNothing old new
 begun_survives old new survives = survives_weaker old new (CommitsBy BEGIN.now [] old) (λ _. ⊥) (λ clean db commits. never_begins old db commits) survives
 
+-- where a failed text leaves the state, it begins no transaction
+remains_idle : (old new : State) → Remains old new → old.in_transaction ≡ false → new.in_transaction ≡ false
+remains_idle old new (inl same) was = same.0.mode ∙ was
+remains_idle old new (inr back) was = back.autocommit
+
 -- ---- the call
 
 pub on_any : {T E X : Type 0} (r : Result T E) → X → OnErr r X
@@ -73,15 +78,18 @@ pub not_begun : {S T E : Type 0} {g : Ghosts S} (h : Held S) (r : Result T E) �
 not_begun {g = g} h r failed = record {
   ok = λ clean. no_ok _ r failed;
   stays = on_any r (record { was_open = λ clean up. up; now = λ clean up. inl refl; committed = λ clean up. refl });
+  idle = on_any r (λ clean was. was);
   survives = leaves_itself (state g h);
 }
 
 pub fails_to_begin : {S T E : Type 0} {g : Ghosts S} (old new : Held S) (r : Result T E) → IsErr r → (e : Error) → (HasCleanDisk (state g new) → Executes BEGIN.now [] (state g old) (state g new) (Err e))
     → Survives (state g old) (state g new) (CommitsBy BEGIN.now [] (state g old)) → BeginsTransaction g old new r
 fails_to_begin {g = g} old new r failed e fails survives =
+    let remains : HasCleanDisk (state g new) → Remains (state g old) (state g new) = λ clean. failed_remains (state g old) (state g new) BEGIN.now [] e (fails clean) in
     record {
       ok = λ clean. no_ok _ r failed;
-      stays = on_any r (stays_by (state g old) (state g new) (λ clean. failed_remains (state g old) (state g new) BEGIN.now [] e (fails clean)));
+      stays = on_any r (stays_by (state g old) (state g new) remains);
+      idle = on_any r (λ clean was. remains_idle (state g old) (state g new) (remains clean) was);
       survives = begun_survives (state g old) (state g new) survives;
     }
 
@@ -90,5 +98,6 @@ pub has_begun : {S : Type 0} {g : Ghosts S} {E : Type 0} (old new : Held S) (cou
 has_begun {g = g} old new count runs survives = record {
   ok = λ clean. begun (state g old) (state g new) count (runs clean);
   stays = tt;
+  idle = tt;
   survives = begun_survives (state g old) (state g new) survives;
 }

@@ -1,6 +1,6 @@
 -- What a change makes, told once for all of them, and the days of the office, which stay.
 use Rattle.std.specs.Prelude.{IsErr, List, OnErr}
-use Rattle.std.proofs.Common.{◌≡◌, ℕ, Result, Ok, Err, OnOk, refl, sym, subst, ap, ◌∙◌}
+use Rattle.std.proofs.Common.{◌≡◌, ℕ, false, Result, Ok, Err, OnOk, refl, sym, subst, ap, ◌∙◌}
 use Rattle.sqlite_trees.specs.Tree.{Trees}
 use Rattle.sqlite_trees.specs.declared.store.Store.{Ghosts}
 use Rattle.sqlite.specs.Held.{Held, state}
@@ -68,11 +68,13 @@ not_made result failed looked = record {
   one = λ clean records columns both. on_err _ result failed;
   days = λ records kept sound fits. on_err _ result failed;
   changed = looked_fails result failed looked;
+  idle = λ clean. looked.idle;
 }
 
 -- ---- a schedule or an issuer that is not set
 
-module _ {S A E : Type 0} {g : Ghosts S} {old new : Held S} (result : Result A E) (failed : IsErr result) (stays : OnErr result (Stays (state g old) (state g new))) where
+module _ {S A E : Type 0} {g : Ghosts S} {old new : Held S} (result : Result A E) (failed : IsErr result) (stays : OnErr result (Stays (state g old) (state g new)))
+    (idle : old.in_transaction ≡ false → new.in_transaction ≡ false) where
   unchanged : (Made : Trees → Type 0) → Survives (state g old) (state g new) Made → Changed g old new Made result
   unchanged Made survives = record { live = λ clean. on_err _ result failed; err = λ register. stays; survives = survives }
 
@@ -83,6 +85,7 @@ module _ {S A E : Type 0} {g : Ghosts S} {old new : Held S} (result : Result A E
     days = λ records shows. on_err _ result failed;
     changed = unchanged (IsScheduled g old steps) survives;
     err = stays;
+    idle = idle;
   }
 
   pub issuer_not_set : {issuer : Issuer} → Survives (state g old) (state g new) (IsIssuerSet g old issuer) → SetsIssuer g old new issuer result
@@ -91,4 +94,5 @@ module _ {S A E : Type 0} {g : Ghosts S} {old new : Held S} (result : Result A E
     days = λ records kept key. on_err _ result failed;
     changed = unchanged (IsIssuerSet g old issuer) survives;
     err = stays;
+    idle = idle;
   }

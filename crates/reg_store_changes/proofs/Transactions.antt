@@ -1,6 +1,6 @@
 -- One transaction, from its beginning to its end.
 use Rattle.std.specs.Prelude.{IsErr, OnErr, OnOk}
-use Rattle.std.proofs.Common.{◌≡◌, inr, ℕ, Result, Ok, Err, IsTrue, refl, sym, ap, subst, ◌∙◌}
+use Rattle.std.proofs.Common.{◌≡◌, inr, ℕ, false, Result, Ok, Err, IsTrue, refl, sym, ap, subst, ◌∙◌}
 use Rattle.sqlite_trees.specs.Tree.{Trees}
 use Rattle.sqlite_trees.specs.declared.store.Store.{Ghosts}
 use Rattle.sqlite.specs.Effect.{Database}
@@ -48,6 +48,12 @@ begun_within g old mid begun was register = record {
   };
   live = λ clean under. (begun clean).is_open;
 }
+
+-- no transaction is under way after its end
+pub ends_idle : {S : Type 0} (g : Ghosts S) (entered new : Held S) (made result : Result (Unit {0}) DatabaseFault) → EndsTransaction g entered new made result → HasCleanDisk (state g new) → new.in_transaction ≡ false
+ends_idle g entered new (Ok x) (Ok y) ends clean = (ends.made clean).mode
+ends_idle g entered new (Ok x) (Err f) ends clean = (ends.undone clean).idle
+ends_idle g entered new (Err e) result ends clean = (ends.1.undone clean).idle
 
 module _ {S : Type 0} (g : Ghosts S) (old mid entered new : Held S) (begins : BeginsTransaction {T = Unit {0}} {E = DatabaseFault} g old mid (Ok tt)) (steps : StepsWithin g mid entered) (Leads : Database → Database → Type 0) where
   clean_mid : HasCleanDisk (state g entered) → HasCleanDisk (state g mid)
@@ -162,6 +168,7 @@ change_made {g = g} {old = old} {mid = mid} {entered = entered} {new = new} {now
             at_rest left.1 trees (changed_by records now change) (derived_after now change kept.0) left.2 made.0 made.1
             (kept_change records kept.0 now sound le kept.2 change fits)) survives;
       };
+      idle = λ clean was. ends_idle g entered new made result ends clean;
     }
 
 pub not_begun_change : {S T E : Type 0} {g : Ghosts S} {old new : Held S} {now : ℕ} {change : Change} {A F : Type 0} {why : F} (result : Result T E) → IsErr result → BeginsTransaction {T = A} {E = F} g old new (Err why) → MakesChange g old new now change result
@@ -174,4 +181,5 @@ not_begun_change {g = g} {old = old} {new = new} {now = now} {change = change} r
     err = λ register. err_more result begins.stays;
     survives = survives_weaker (state g old) (state g new) (λ _. ⊥) (IsChanged g old now change) (λ clean trees none. absurd none) begins.survives;
   };
+  idle = begins.idle;
 }

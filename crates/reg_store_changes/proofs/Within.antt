@@ -122,6 +122,7 @@ failed_step {g = g} old new sql params e is under survives fails =
       within = remains_within (state g old) (state g new) survives.clean remains;
       kept = λ within clean. remains_kept (state g old) (state g new) (remains clean);
       survives = leaves_nothing (state g old) (state g new) sql params is under survives;
+      idle = λ was. absurd (false≢true (sym was ∙ under));
     }
 
 pub written_step : {S : Type 0} {g : Ghosts S} (old new : Held S) (sql : List ℕ) (params : Row) (count : ℕ) → IsWritingText sql → (state g old).in_transaction ≡ true
@@ -144,6 +145,7 @@ written_step {g = g} old new sql params count is under survives runs =
       };
       kept = λ within clean. let it = ran within clean in record { was_open = λ up. it.was_open; committed = λ up. it.committed };
       survives = leaves_nothing (state g old) (state g new) sql params is under survives;
+      idle = λ was. absurd (false≢true (sym was ∙ under));
     }
 
 -- nothing is done
@@ -152,6 +154,7 @@ no_step = record {
   within = λ within. within;
   kept = λ within clean. record { was_open = λ up. up; committed = λ up. refl };
   survives = record { clean = omega arith; shield = λ shielded. shielded; counts = omega arith; limit = refl; closes = λ clean up. inl up; crash = λ clean trees may. inl may };
+  idle = λ was. was;
 }
 
 pub steps_clean : {S : Type 0} {g : Ghosts S} {a b : Held S} → StepsWithin g a b → HasCleanDisk (state g b) → HasCleanDisk (state g a)
@@ -169,6 +172,7 @@ steps_then {g = g} {a = a} {b = b} {c = c} first second = record {
         committed = λ up. later.committed up ∙ (first.kept within was).committed (later.was_open up);
       };
   survives = survives_then (state g a) (state g b) (state g c) (λ _. ¬ IsInTransaction (state g a)) (λ _. ¬ IsInTransaction (state g b)) (λ _. ¬ IsInTransaction (state g a)) (λ clean db none. none) (λ clean db none within. none (first.within within)) first.survives second.survives;
+  idle = λ was. second.idle (first.idle was);
 }
 
 -- a look-up is a step, too
@@ -180,6 +184,7 @@ looked_step {g = g} {a = a} {b = b} looked = record {
   };
   kept = λ within clean. let stays = looked.same within.register in record { was_open = λ up. stays.was_open clean up; committed = λ up. stays.committed clean up };
   survives = survives_weaker (state g a) (state g b) (λ _. ⊥) (λ _. ¬ IsInTransaction (state g a)) (λ clean db none. absurd none) looked.survives;
+  idle = looked.idle;
 }
 
 -- what the tables show in a transaction that is still under way after a look-up, they show until its end

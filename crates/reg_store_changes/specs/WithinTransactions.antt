@@ -31,12 +31,13 @@ pub record IsInTransaction (s : State) : Type 0 where
   pub register : IsRegister s
   pub live : HasCleanDisk s → s.in_transaction ≡ true → IsTrue s.is_open
 
--- A step of a transaction over a register's tables: it commits nothing, even if it fails.
+-- A step of a transaction over a register's tables: it commits nothing, even if it fails, and begins no transaction.
 pub record StepsWithin {S : Type 0} (g : Ghosts S) (old new : Held S) : Type 0 where
   pub within : IsInTransaction (state g old) → IsInTransaction (state g new)
   pub kept : IsInTransaction (state g old) → HasCleanDisk (state g new) → KeepsCommit (state g old) (state g new)
   -- over a register's tables, a stop leaves what it would have left before
   pub survives : Survives (state g old) (state g new) (λ _. ¬ IsInTransaction (state g old))
+  pub idle : old.in_transaction ≡ false → new.in_transaction ≡ false
 
 module _ {S : Type 0} (g : Ghosts S) (old new : Held S) where
   -- A step over a register's tables that returns a value. If it succeeds, and the disk returned what was written, nothing is committed and the
@@ -58,6 +59,10 @@ module _ {S : Type 0} (g : Ghosts S) (old new : Held S) where
   abbrev pub ContinuesWithin : {T E : Type 0} → Result T E → (Database → Database → Type 0) → Type 0
   ContinuesWithin result Leads = IsUnderWay (state g old) → MakesWithin result Leads
 
+-- no transaction stays open: if none was under way before, none is afterwards, if the disk returned what was written
+abbrev pub StaysIdle : {S : Type 0} → Ghosts S → Held S → Held S → Type 0
+StaysIdle g old new = HasCleanDisk (state g new) → old.in_transaction ≡ false → new.in_transaction ≡ false
+
 -- a transaction has begun over an open connection, and nothing else has changed
 pub record IsTransactionBegun (old new : State) : Type 0 where
   pub was_idle : old.in_transaction ≡ false
@@ -71,6 +76,7 @@ pub record IsTransactionBegun (old new : State) : Type 0 where
 pub record BeginsTransaction {S T E : Type 0} (g : Ghosts S) (old new : Held S) (result : Result T E) : Type 0 where
   pub ok : HasCleanDisk (state g new) → OnOk result (IsTransactionBegun (state g old) (state g new))
   pub stays : OnErr result (Stays (state g old) (state g new))
+  pub idle : OnErr result (StaysIdle g old new)
   pub survives : LeavesNothing (state g old) (state g new)
 
 -- No transaction is under way afterwards, and the tables are as they were last committed.

@@ -23,3 +23,6 @@ returns-then-branch-eq1-clause-stepped g c = steps_then c.put_revocation.ensures
 
 pub returns-else-branch-eq1-clause-stepped : goal.returns-else-branch-eq1-clause-stepped
 returns-else-branch-eq1-clause-stepped g c = steps_then c.put_revocation.ensures.stepped (steps_then c.put_listed.ensures.stepped c.mark_revoked.ensures.stepped)
+
+pub returns-in_err-mark_revoked-clause-stepped : goal.returns-in_err-mark_revoked-clause-stepped
+returns-in_err-mark_revoked-clause-stepped g c = steps_then c.put_revocation.ensures.stepped (steps_then c.put_listed.ensures.stepped c.mark_revoked.ensures.stepped)

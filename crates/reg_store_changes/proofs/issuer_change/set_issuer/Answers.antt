@@ -26,7 +26,8 @@ returns g c =
           let both = kept.1.tables clean up in
           at_rest after trees (with_issuer records issuer) kept.0 is (on.0 records kept.0 key both) (on.1.obeys both.shown.schema) (kept_issuer kept.0 records issuer kept.2));
       err = done.stays;
+      idle = λ was. search rules;
     }
 
 pub returns-in_err-set_name : goal.returns-in_err-set_name
-returns-in_err-set_name g c = issuer_not_set _ c.from_residual.ensures.0 (search rules) (search rules)
+returns-in_err-set_name g c = issuer_not_set _ c.from_residual.ensures.0 (search rules) (search rules) (search rules)

@@ -28,7 +28,8 @@ returns g c =
           at_rest after trees (with_schedule records steps) kept.0 is (staged_both _ after records kept.0 steps both on) (staged_first _ after records steps both.shown on).1
           (kept_schedule kept.0 records steps kept.2));
       err = done.stays;
+      idle = λ was. search rules;
     }
 
 pub returns-in_err-write_schedule : goal.returns-in_err-write_schedule
-returns-in_err-write_schedule g c = schedule_not_set _ c.from_residual.ensures.0 (search rules) (search rules)
+returns-in_err-write_schedule g c = schedule_not_set _ c.from_residual.ensures.0 (search rules) (search rules) (search rules)
