@@ -1,6 +1,6 @@
 //! Creates a register in an empty database, and opens an existing one.
 
-ghost use Rattle.std.specs.Prelude.{◌≡◌, false, IfOk, IfErr};
+ghost use Rattle.std.specs.Prelude.{◌≡◌, false, IfOk, IfErr, MatchResult};
 ghost use Rattle.reg_store_opening.specs.Opens.{Opens, IsFailedOpen, Creates, IsFailedCreate};
 
 use crate::store::Store;
@@ -29,7 +29,8 @@ impl<S: Alter> Store<S> {
         ensures creates { IfOk result (λ store. Creates S.Store connection store issuer policy) }
         ensures uncreated { IfErr result (λ unopened.
             IsFailedCreate S.Store connection unopened.connection issuer policy unopened.fault) }
-        ensures idle { IfErr result (λ unopened. unopened.connection.in_transaction ≡ false) }
+        ensures idle { MatchResult result (λ store. store.in_transaction ≡ false)
+            (λ unopened. unopened.connection.in_transaction ≡ false) }
     {
         let mut connection = connection;
         match reg_store_opening::create(&mut connection, &issuer, &policy) {
@@ -46,7 +47,8 @@ impl<S: Alter> Store<S> {
         ensures opens { IfOk result (λ store. Opens S.Store connection store) }
         ensures unopened { IfErr result (λ unopened.
             IsFailedOpen S.Store connection unopened.connection unopened.fault) }
-        ensures idle { IfErr result (λ unopened. unopened.connection.in_transaction ≡ false) }
+        ensures idle { MatchResult result (λ store. store.in_transaction ≡ false)
+            (λ unopened. unopened.connection.in_transaction ≡ false) }
     {
         let mut connection = connection;
         match reg_store_opening::open(alloc, &mut connection) {

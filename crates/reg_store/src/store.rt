@@ -54,7 +54,7 @@ impl<S: Alter> DerefMut for Store<S> {
 }
 
 impl<S: Alter> Store<S> {
-    /// Returns the store's connection as it is. The call closes and writes nothing.
+    /// Returns the store's connection as it is: a transaction that is under way stays so, and none begins. The call closes and writes nothing.
     pub fn into_connection(self) -> Connection<S>
         ensures { result ≡ self }
     {
