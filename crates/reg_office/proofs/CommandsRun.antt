@@ -24,6 +24,7 @@ use Rattle.reg_store_tables.specs.Kept.{ShowsKept}
 use Rattle.reg_store_tables.specs.Stays.{Changed, Looked}
 use Rattle.reg_store_tables.specs.declared.fault.DatabaseFault.{DatabaseFault}
 use Rattle.reg_store_changes.specs.AfterStoppedChange.{IsChanged}
+use Rattle.reg_store_changes.specs.WithinTransactions.{StaysIdle}
 use Rattle.reg_core_laws.specs.Run.{Happens}
 use Rattle.reg_core_laws.proofs.PublicLaws.{accepted_clock, step_accepted, step_refused}
 use Rattle.reg_store_tables.proofs.PublicLaws.{after_look, after_looked, was_clean}
@@ -88,6 +89,7 @@ module _ {C S : Type 0} (g : Ghosts C) (signs : Identity → List ℕ → List �
       stands = stands_looked looked stands;
     });
     changed = looked_failed (Err fault) refl looked;
+    idle = λ clean. looked.idle;
     same_identity = same;
     device = λ by_signer. device (the_fault fault SignerFailed by_signer);
     faults = is_fault;
@@ -95,7 +97,7 @@ module _ {C S : Type 0} (g : Ghosts C) (signs : Identity → List ℕ → List �
 
   module _ (mid new : Held C) (left : S) (reply : Reply) (change : Change) (same : identity left ≡ identity signer) (looked : Looked g old mid)
       (may : (records : Records) → ShowsKept g old records → SoundRows records → HasCleanDisk (state g mid) → MayChange (signed_by signs (identity signer)) records now command reply change)
-      (forgets : doubt (state g mid).is_clean ≤ doubt (state g new).is_clean) where
+      (forgets : doubt (state g mid).is_clean ≤ doubt (state g new).is_clean) (idle : StaysIdle g mid new) where
     -- over records that stood
     may_of : (records : Records) → Stands g signs old (identity signer) records → HasCleanDisk (state g new) → MayChange (signed_by signs (identity signer)) records now command reply change
     may_of records stands clean = may records stands.shown stands.sound.rows (was_clean (state g mid) (state g new) forgets clean)
@@ -130,6 +132,7 @@ module _ {C S : Type 0} (g : Ghosts C) (signs : Identity → List ℕ → List �
             };
           });
       changed = changed_made looked changed does;
+      idle = λ clean was. idle clean (looked.idle was);
       same_identity = same;
       device = λ by_signer. absurd (let bad : ⊥ = cc in bad);
       faults = tt;
@@ -151,6 +154,7 @@ module _ {C S : Type 0} (g : Ghosts C) (signs : Identity → List ℕ → List �
             };
           });
           changed = changed_failed (Err fault) refl looked changed does;
+          idle = λ clean was. idle clean (looked.idle was);
           same_identity = same;
           device = λ by_signer. never_signer fault (of_failure IsTableFault tt tt failure) (the_fault fault SignerFailed by_signer);
           faults = office_fault fault (of_failure IsTableFault tt tt failure);

@@ -12,19 +12,22 @@ use Rattle.reg_core.specs.declared.refusal.Fault.TheVariants.{Signer as SignerFa
 use Rattle.reg_crl.specs.Signing.{Identity}
 use Rattle.reg_crl.specs.declared.signer.Signer.{Ghosts as Signer}
 use Rattle.reg_office_api.specs.Signers.{Signs}
+use Rattle.reg_store_changes.specs.WithinTransactions.{StaysIdle}
 use Rattle.reg_store_tables.specs.Stays.{Changed}
 use Rattle.reg_office.specs.AfterStoppedCommand.{Does}
 use Rattle.reg_office.specs.Faults.{IsOfficeFault}
 use Rattle.reg_office.specs.Stands.{Stands, HasOutcome}
 
 -- The command had this outcome over the store's records, and the store shows the records after it. A stop leaves the records before the
--- command or after it. The signer has the same identity. `Signer` is the outcome only of a CRL for which the signer counted a failure.
+-- command or after it, and no transaction stays open. The signer has the same identity. `Signer` is the outcome only of a CRL for which the
+-- signer counted a failure.
 pub record IsCommandRun {C S : Type 0} (g : Ghosts C) (signs : Signs) (identity : S → Identity)
     (failures : S → ℕ) (old new : Held C) (signer left : S) (now : ℕ) (command : Command)
     (outcome : Result Reply Fault) : Type 0 where
   pub step : (records : Records) → Stands g signs old (identity signer) records → HasCleanDisk (state g new)
       → HasOutcome g signs new (identity left) records now command outcome
   pub changed : Changed g old new (Does g signs old (identity signer) now command) outcome
+  pub idle : StaysIdle g old new
   pub same_identity : identity left ≡ identity signer
   pub device : IsErrOf outcome SignerFailed → (command ≡ IssueCrl) × (failures signer < failures left)
   pub faults : IfErr outcome IsOfficeFault

@@ -11,7 +11,7 @@ ghost use Rattle.reg_office.specs.Calls.{OfficeLeads, OfficeLooks, SignsNothing}
 ghost use Rattle.reg_office.specs.Replays.{IsPageWithout, LeadsWithin, MayReplace, MayTakeHead, TakesIssuer, TakesMoment, joined_rows, none_replayed, rows_and};
 ghost use Rattle.reg_office_api.specs.Follows.{ArePositionsOf, EntersPages, FollowsPages, FormsSign, IsLastOf, IsWithoutNews, counts_of_records, declines_of_records, no_feed_rows};
 ghost use Rattle.reg_office_api.specs.LookUps.{IsOfStore};
-ghost use Rattle.reg_store_changes.specs.WithinTransactions.{StepsWithin};
+ghost use Rattle.reg_store_changes.specs.WithinTransactions.{StaysIdle, StepsWithin};
 ghost use Rattle.reg_store_tables.specs.LookUps.{Learns, LooksUp};
 
 use crate::changes::digest_at;
@@ -61,8 +61,9 @@ impl<C: Alter, S: Signer> Office<C, S> {
         pages: &[ReceivedPage],
         page: &ReceivedPage,
     ) -> Result<Positions, FollowFault>
-        ensures { FormsSign S.signs S.forms → IsLastOf pages.now page.now → OfficeLeads C.Store S.Signer
+        ensures enters { FormsSign S.signs S.forms → IsLastOf pages.now page.now → OfficeLeads C.Store S.Signer
             (λ signers. EntersPages pages.now result) self.old self.new }
+        ensures idle { StaysIdle C.Store self.old.store self.new.store }
     {
         match self.store.begin() {
             Ok(()) => {}

@@ -1,4 +1,4 @@
-ghost use Rattle.std.specs.Prelude.{◌≡◌, IfOk, IfSome, OnOk};
+ghost use Rattle.std.specs.Prelude.{◌≡◌, false, IfOk, IfSome, OnOk};
 ghost use Rattle.sqlite.specs.Held.{state};
 ghost use Rattle.sqlite.specs.State.{HasCleanDisk};
 ghost use Rattle.reg_core.specs.Crls.{next_number, number_after};
@@ -66,6 +66,7 @@ pub(crate) fn set_key_identifier<C: Alter>(
         → HasCleanDisk (state C.Store store.new)
         → OnOk result (HasIdentifier records.issuer (next_number records.crls) octets) }
     ensures changed { Changed C.Store store.old store.new (IsIdentified C.Store store.old octets) result }
+    ensures idle { store.old.in_transaction ≡ false → store.new.in_transaction ≡ false }
 {
     let issuer = identified(store, alloc, octets)?;
     store.set_issuer(&issuer)

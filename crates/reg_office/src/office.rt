@@ -71,7 +71,7 @@ impl<C: Alter, S: Signer> Office<C, S> {
 // In the clauses, `OfficeLeads` relates the records before a call to those after it, `OfficeReports` says that they are the same, and `OfficeLooks`
 // also that the call changes no table and commits nothing. `OfficeStops` says which records a stop of the machine in the call leaves.
 impl<C: Alter, S: Signer> reg_office_api::Office for Office<C, S> {
-    ghost use Rattle.std.specs.Prelude.{◌≤◌, ◌<◌, ◌↔◌, ◌^◌, Err, IsErrOf, OnOk, OnErr, IfOk, IfErr};
+    ghost use Rattle.std.specs.Prelude.{◌≤◌, ◌<◌, ◌↔◌, ◌^◌, false, Err, IsErrOf, OnOk, OnErr, IfOk, IfErr};
     ghost use Rattle.sqlite.specs.Held.{state};
     ghost use Rattle.sqlite.specs.State.{HasCleanDisk};
     ghost use Rattle.reg_core.specs.Calendar.{clock_end};
@@ -91,6 +91,7 @@ impl<C: Alter, S: Signer> reg_office_api::Office for Office<C, S> {
     ghost use Rattle.reg_office_api.specs.Ocsp.{IsNoOcspRequest, IsOcspReply};
     ghost use Rattle.reg_office_api.specs.Settings.{SetsKeyIdentifier, ReplacesSchedule};
     ghost use Rattle.reg_store_changes.specs.AfterStoppedChange.{IsScheduled};
+    ghost use Rattle.reg_store_changes.specs.WithinTransactions.{StaysIdle};
     ghost use Rattle.reg_der.specs.Issuers.{with_key_identifier};
     ghost use Rattle.reg_store_tables.specs.Stays.{Changed, Stays};
     ghost use Rattle.reg_office.specs.AfterStoppedCommand.{IsIdentified, batch_call, command_call, identifier_call, schedule_call};
@@ -151,6 +152,7 @@ impl<C: Alter, S: Signer> reg_office_api::Office for Office<C, S> {
             self.old self.new }
         ensures stops { OfficeStops C.Store S.Signer (batch_call commands.now) result
             (BatchStep S.signs commands.now result) self.old self.new }
+        ensures idle { StaysIdle C.Store self.old.store self.new.store }
     {
         match self.store.begin() {
             Ok(()) => {}
@@ -300,8 +302,9 @@ impl<C: Alter, S: Signer> reg_office_api::Office for Office<C, S> {
         from: &Positions,
         pages: &[ReceivedPage],
     ) -> Result<Positions, FollowFault>
-        ensures { FormsSign S.signs S.forms → OfficeLeads C.Store S.Signer
+        ensures follows { FormsSign S.signs S.forms → OfficeLeads C.Store S.Signer
             (λ signers. FollowStep from.now pages.now result) self.old self.new }
+        ensures idle { StaysIdle C.Store self.old.store self.new.store }
     {
         let Some((page, earlier)) = pages.split_last() else {
             return Err(no_page());
@@ -374,6 +377,7 @@ impl<C: Alter, S: Signer> reg_office_api::Office for Office<C, S> {
         ensures changed { Changed C.Store self.old.store self.new.store
             (IsScheduled C.Store self.old.store schedule) result }
         ensures err { OnErr result (Stays (state C.Store self.old.store) (state C.Store self.new.store)) }
+        ensures idle { self.old.store.in_transaction ≡ false → self.new.store.in_transaction ≡ false }
         ensures untouched { SignsNothing self.old self.new }
     {
         // Called only for its contract, which says that these are the steps of a valid schedule.
@@ -395,6 +399,7 @@ impl<C: Alter, S: Signer> reg_office_api::Office for Office<C, S> {
             → OnOk result (StandsIn C.Store S.Signer self.new (with_key_identifier records octets)) }
         ensures changed { Changed C.Store self.old.store self.new.store
             (IsIdentified C.Store self.old.store octets) result }
+        ensures idle { self.old.store.in_transaction ≡ false → self.new.store.in_transaction ≡ false }
         ensures untouched { SignsNothing self.old self.new }
     {
         match set_key_identifier(&mut self.store, alloc, octets) {

@@ -4,6 +4,7 @@ ghost use Rattle.sqlite.specs.State.{HasCleanDisk, IsLive};
 ghost use Rattle.sqlite_trees.specs.Tree.{Trees};
 ghost use Rattle.sqlite_trees.specs.View.{doubt};
 ghost use Rattle.reg_core.specs.Records.{Records};
+ghost use Rattle.reg_store_changes.specs.WithinTransactions.{StaysIdle};
 ghost use Rattle.reg_office.specs.AfterStoppedCommand.{ShowsPrefix};
 ghost use Rattle.reg_office.specs.Calls.{StandsIn};
 ghost use Rattle.reg_office.specs.Stands.{Appends, HasRun};
@@ -39,6 +40,7 @@ impl<C: Alter, S: Signer> Office<C, S> {
             → ShowsPrefix S.signs (S.identity self.old.signer) records commands.now came trees) }
         ensures clean { doubt (state C.Store self.old.store).is_clean
             ≤ doubt (state C.Store self.new.store).is_clean }
+        ensures idle { StaysIdle C.Store self.old.store self.new.store }
         ensures same_identity { S.identity self.new.signer ≡ S.identity self.old.signer }
         ensures same_responder { self.new.responder ≡ self.old.responder }
     {

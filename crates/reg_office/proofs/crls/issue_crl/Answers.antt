@@ -41,7 +41,7 @@ returns-in_err-add_crl g c =
     not_carried_out g.C.Store signers.signs signers.identity signers.failure_count c.args.store.now c.args.signer.now c.args.now IssueCrl
     _ _ _ (CrlIssued row.number c.in_ok-der.entries) (change.Crl row c.deref.result) c.made_crl.ensures.same_identity looks.looked
     (λ records kept sound clean. may_issue _ records c.args.now (row, next) c.in_ok-der.der.items c.in_ok-der.entries c.deref.result c.deref.ensures.value (looks.found records (kept_until _ kept) sound clean))
-    c.add_crl.ensures.changed.survives.clean
+    c.add_crl.ensures.changed.survives.clean c.add_crl.ensures.idle
     c.from_residual-in_err-add_crl.result c.in_err-add_crl.field-0.0 c.from_residual-in_err-add_crl.ensures.1 c.requires c.in_err-add_crl.ensures.changed
 
 pub returns : goal.returns
@@ -53,4 +53,4 @@ returns g c =
     carried_out g.C.Store signers.signs signers.identity signers.failure_count c.args.store.now c.args.signer.now c.args.now IssueCrl
     _ _ _ (CrlIssued row.number c.in_ok-der.entries) (change.Crl row c.deref.result) c.made_crl.ensures.same_identity looks.looked
     (λ records kept sound clean. may_issue _ records c.args.now (row, next) c.in_ok-der.der.items c.in_ok-der.entries c.deref.result c.deref.ensures.value (looks.found records (kept_until _ kept) sound clean))
-    c.add_crl.ensures.changed.survives.clean c.in_ok-add_crl.ensures.ok c.in_ok-add_crl.ensures.changed
+    c.add_crl.ensures.changed.survives.clean c.add_crl.ensures.idle c.in_ok-add_crl.ensures.ok c.in_ok-add_crl.ensures.changed

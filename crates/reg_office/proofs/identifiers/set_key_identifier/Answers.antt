@@ -42,3 +42,10 @@ returns-clause-changed g c =
     let is = c.in_ok-issuer.ensures.found records (kept_shows s c.deref_mut.result.now records lent) clean_1 in
     subst (λ i. ShowsDerivedAfterStop (with_issuer records i) trees) is
     (changed records (after_looked c.identified.ensures.looked records lent) (ap (λ (i : Issuer). i.key) (sym is))))
+
+pub returns-clause-idle : goal.returns-clause-idle
+returns-clause-idle g c was =
+    c.set_issuer.ensures.idle ((subst (λ those. Looked g.C.Store those c.identified.new.tables) c.deref_mut.ensures.shows c.identified.ensures.looked).idle was)
+
+pub returns-in_err-issuer-clause-idle : goal.returns-in_err-issuer-clause-idle
+returns-in_err-issuer-clause-idle g c = (subst (λ those. Looked g.C.Store those c.identified.new.tables) c.deref_mut.ensures.shows c.identified.ensures.looked).idle

@@ -1,12 +1,14 @@
 use Rattle.std.specs.Prelude.{Result}
 use Rattle.std.proofs.Common.{◌≡◌, ◌+◌, ℕ, List, [], ◌∷◌, ◌++◌, length, take, refl, sym, ap, subst, ◌∙◌, append_assoc, arith}
 use Rattle.std.proofs.lemmas.List.{append-nil as append_nil, take_all, take_more}
+use Rattle.sqlite.specs.Held.{state}
 use Rattle.reg_core.specs.declared.command.Command.{Command}
 use Rattle.reg_core.specs.declared.command.Reply.{Reply}
 use Rattle.reg_core.specs.declared.refusal.Fault.{Fault}
 use Rattle.reg_crl.specs.Signing.{Identity}
 use Rattle.reg_office.specs.AfterStoppedCommand.{AreRunByOne, IsRunOne}
 use Rattle.reg_office.specs.Stands.{HasOutcome, HasRun}
+use Rattle.reg_store_tables.proofs.PublicLaws.{was_clean}
 use Rattle.reg_office.proofs.Stopping.{one_more, partly_run, ran_all, run_clean, run_length}
 use Rattle.reg_office.proofs.office.Office.run.Goals as goal
 
@@ -15,6 +17,7 @@ loop-now-init g c = record {
   room = omega (arith, c.in-Ok.ensures.ok);
   same_identity = refl;
   same_responder = refl;
+  idle = λ clean was. was;
   came = ([], c.in-Ok.ensures.items ∙ sym (append_nil c.args.outcomes.now.items), refl);
 }
 
@@ -45,6 +48,8 @@ loop-now-preserved g c =
       room = omega (arith, c.in-Ok-push.ensures.len, c.in-Ok-push.ensures.capacity, c.loop-now.invariant.room);
       same_identity = ran.ensures.ran.same_identity ∙ c.loop-now.invariant.same_identity;
       same_responder = ran.ensures.same_responder ∙ c.loop-now.invariant.same_responder;
+      idle = λ clean was.
+          ran.ensures.ran.idle clean (c.loop-now.invariant.idle (was_clean (state s c.loop-now.self.store) (state s new) ran.ensures.ran.changed.survives.clean clean) was);
       came = (
         earlier.0 ++ ran.result ∷ [],
         c.in-Ok-push.ensures.items
@@ -99,6 +104,10 @@ returns-clause-clean g c =
 
 pub returns-in_default-push-clause-none_ran : goal.returns-in_default-push-clause-none_ran
 returns-in_default-push-clause-none_ran g c =
+    absurd (omega (arith, c.in_default-push.ensures.full, c.loop-now.invariant.room, c.loop-now-test.true))
+
+pub returns-in_default-push-clause-idle : goal.returns-in_default-push-clause-idle
+returns-in_default-push-clause-idle g c =
     absurd (omega (arith, c.in_default-push.ensures.full, c.loop-now.invariant.room, c.loop-now-test.true))
 
 pub returns-in_default-push-clause-clean : goal.returns-in_default-push-clause-clean

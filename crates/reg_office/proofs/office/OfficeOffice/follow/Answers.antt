@@ -5,24 +5,27 @@ use Rattle.reg_office.specs.Calls.{OfficeLooks}
 use Rattle.reg_office.proofs.FollowCalls.{entered_is_step, error_is_step, looks_as, stays_is_step}
 use Rattle.reg_office.proofs.office.OfficeOffice.follow.Goals as goal
 
-pub returns-then-news : goal.returns-then-news
-returns-then-news g c forms =
+pub returns-then-news-clause-follows : goal.returns-then-news-clause-follows
+returns-then-news-clause-follows g c forms =
     entered_is_step g.C.Store g.S.Signer c.args.from.now c.args.pages.now c.follow_news.result c.args.self.now c.have_news.new.self c.follow_news.new.self
-    c.have_news.ensures (c.follow_news.ensures forms (c.in-Some.earlier.now, c.in-Some.ensures.cases.0))
+    c.have_news.ensures (c.follow_news.ensures.enters forms (c.in-Some.earlier.now, c.in-Some.ensures.cases.0))
 
-pub returns : goal.returns
-returns g c forms =
+pub returns-clause-follows : goal.returns-clause-follows
+returns-clause-follows g c forms =
     let page = c.in-Some.page.now in
     -- a page without news comes alone
     let alone : c.in-Some.earlier.now ≡ [] → c.args.pages.now ≡ page ∷ [] = λ none. c.in-Some.ensures.cases.0 ∙ ap (λ (earlier : List ReceivedPage). earlier ++ page ∷ []) none in
     stays_is_step g.C.Store g.S.Signer c.args.from.now c.args.pages.now c.args.self.now c.have_news.new.self page c.in-Some.earlier.now alone
     (looks_as g.C.Store g.S.Signer c.args.self.now c.have_news.new.self c.in_ok-news.ensures (λ records it. it c.if-news.false))
 
-pub returns-in_err-news : goal.returns-in_err-news
-returns-in_err-news g c forms =
+pub returns-in_err-news-clause-follows : goal.returns-in_err-news-clause-follows
+returns-in_err-news-clause-follows g c forms =
     error_is_step g.C.Store g.S.Signer c.args.from.now c.args.pages.now c.from_residual.result c.args.self.now c.have_news.new.self c.from_residual.ensures.0 c.have_news.ensures
 
-pub returns-in_default : goal.returns-in_default
-returns-in_default g c forms =
+pub returns-in_default-clause-follows : goal.returns-in_default-clause-follows
+returns-in_default-clause-follows g c forms =
     let looks : OfficeLooks g.C.Store g.S.Signer (λ records. Unit {0}) c.args.self.now c.args.self.now = record { looked = looked_none; same = refl; found = λ records stands clean. tt } in
     error_is_step g.C.Store g.S.Signer c.args.from.now c.args.pages.now (Err c.no_page.result) c.args.self.now c.args.self.now refl looks
+
+pub returns-then-news-clause-idle : goal.returns-then-news-clause-idle
+returns-then-news-clause-idle g c clean was = c.follow_news.ensures.idle clean (c.have_news.ensures.looked.idle was)

@@ -1,4 +1,5 @@
 use Rattle.std.proofs.Common.{Err, Ok, ap}
+use Rattle.reg_store_changes.proofs.PublicLaws.{ends_idle}
 use Rattle.reg_office.specs.Calls.{seen}
 use Rattle.reg_office.proofs.BatchStops.{batch_committed, batch_steps, batch_stopped, batch_unbegun, batch_uncommitted, stops_of_store}
 use Rattle.reg_office.proofs.Composing.{answer_of_fault}
@@ -47,3 +48,16 @@ returns-in-Err-run_each-clause-stops g c =
 
 pub returns-in-Err-run_each-clause-runs : goal.returns-in-Err-run_each-clause-runs
 returns-in-Err-run_each-clause-runs g c = batch_steps g.C.Store g.S.Signer.signs c.args.commands.now (Err c.in-Err-run_each.fault) _ _ (returns-in-Err-run_each-clause-stops g c)
+
+pub returns-in-Err-clause-idle : goal.returns-in-Err-clause-idle
+returns-in-Err-clause-idle g c = c.in-Err.ensures.idle
+
+pub returns-in-Ok-end-clause-idle : goal.returns-in-Ok-end-clause-idle
+returns-in-Ok-end-clause-idle g c clean was = ends_idle g.C.Store _ c.end.new.self (Ok tt) (Ok tt) c.in-Ok-end.ensures clean
+
+pub returns-in-Err-end-clause-idle : goal.returns-in-Err-end-clause-idle
+returns-in-Err-end-clause-idle g c clean was = ends_idle g.C.Store _ c.end.new.self (Ok tt) (Err c.in-Err-end.fault) c.in-Err-end.ensures clean
+
+pub returns-in-Err-run_each-clause-idle : goal.returns-in-Err-run_each-clause-idle
+returns-in-Err-run_each-clause-idle g c clean was =
+    ends_idle g.C.Store _ c.end-in-Err-run_each.new.self (Err _) c.end-in-Err-run_each.result c.end-in-Err-run_each.ensures clean

@@ -66,7 +66,7 @@ returns-in_err-apply-in-Ok-clause-ran g c =
     not_carried_out g.C.Store signers.signs signers.identity signers.failure_count c.args.self.now.store c.args.self.now.signer c.args.now c.args.command.now
     _ _ _ decided.0 decided.1 refl looks.looked
     (λ records kept sound clean. may_change records c.args.now c.args.command.now decided c.in_default.not-Crl (looks.found records (kept_until _ kept) sound clean))
-    c.apply.ensures.changed.survives.clean
+    c.apply.ensures.changed.survives.clean c.apply.ensures.idle
     c.from_residual.result c.in_err-apply-in-Ok.field-0.0 c.from_residual.ensures.1 below c.in_err-apply-in-Ok.ensures.changed
 
 pub returns-in_err-apply-in-Ok-clause-stops : goal.returns-in_err-apply-in-Ok-clause-stops
@@ -86,7 +86,7 @@ returns-in_ok-apply-in-Ok-clause-ran g c =
     carried_out g.C.Store signers.signs signers.identity signers.failure_count c.args.self.now.store c.args.self.now.signer c.args.now c.args.command.now
     _ _ _ decided.0 decided.1 refl looks.looked
     (λ records kept sound clean. may_change records c.args.now c.args.command.now decided c.in_default.not-Crl (looks.found records (kept_until _ kept) sound clean))
-    c.apply.ensures.changed.survives.clean c.in_ok-apply-in-Ok.ensures.ok c.in_ok-apply-in-Ok.ensures.changed
+    c.apply.ensures.changed.survives.clean c.apply.ensures.idle c.in_ok-apply-in-Ok.ensures.ok c.in_ok-apply-in-Ok.ensures.changed
 
 pub returns-in_ok-apply-in-Ok-clause-stops : goal.returns-in_ok-apply-in-Ok-clause-stops
 returns-in_ok-apply-in-Ok-clause-stops g c = ran_stops g.C.Store g.S.Signer _ _ _ _ _ (λ held trees is_open leaves. g.met.C.Store.settled held.store trees is_open leaves) (returns-in_ok-apply-in-Ok-clause-ran g c) refl
