@@ -50,8 +50,8 @@ pub enum Defect {
     AfterEnd,
     AfterRevocation,
     Earlier,
-    // A revocation has the number of the first CRL that can list it. `NoFirst`: that CRL is neither issued nor the next one. `WrongFirst`: a previous
-    // CRL is dated (thisUpdate) after the revocation, or that CRL or a later one before it. `EarlierFirst`: the previous row has a higher number.
+    // A revocation has the number N of the first CRL that can list it. `NoFirst`: CRL N is neither issued nor the next one. `WrongFirst`: a CRL
+    // before N has a thisUpdate after the revocation, or a CRL from N on has one before it. `EarlierFirst`: the previous row has a higher N.
     NoFirst,
     WrongFirst,
     EarlierFirst,

@@ -1,4 +1,4 @@
-//! The line that reports an audit's result, with its LF. Errors: out of memory.
+//! The line that reports an audit's result, with its LF. Errors: out of memory. `broken_row.rt` explains the tables `standing`, `kept` and `listed`.
 
 ghost use Rattle.std.specs.Prelude.{◌≡◌, ◌++◌, IfOk};
 ghost use Rattle.std.specs.Fmt.{decimal};

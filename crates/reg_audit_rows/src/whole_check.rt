@@ -14,7 +14,8 @@ use crate::fault::CheckFault;
 use crate::rows::{Rows, RowsBySerial, check_rows};
 use std::alloc::Global;
 
-/// Checks the derived rows against sound records: `rows`, some by serial number in `found`. `letters`: rows of `standing`. `listed`: CRL entries.
+/// Checks the derived rows against the records, `rows`, which are sound. `found` has their certificates and revocations by serial number. `letters`:
+/// the rows of `standing`, each with a state letter (`G`, `R` or `X`). `listed`: the CRL entry of each revocation, and which CRLs list it.
 fn check_derived(
     alloc: Global,
     rows: &Rows<'_>,

@@ -21,7 +21,7 @@ pub struct KeyIdentifier {
     pub octets: Label,
 }
 
-/// The stored key identifier with which the bytes begin, and the bytes after it; `None` if they do not begin with one. `joined` has no second text.
+/// The stored key identifier with which the bytes begin, and the bytes after it; `None` if they do not begin with one.
 #[tactic(auto, unfolding(crate::specs::Authority::identifier_at))]
 fn first_identifier(bytes: &[u8]) -> Option<(KeyIdentifier, &[u8])>
     ensures exact { AgreesWith (λ x. (x.0, x.1.now)) result (authority.identifier_at bytes.now) }
@@ -37,6 +37,7 @@ fn first_identifier(bytes: &[u8]) -> Option<(KeyIdentifier, &[u8])>
     let (first, octets) = value.contents.split_at(NUMBER_LENGTH);
     let identifier = KeyIdentifier {
         first: number(first),
+        // `joined` makes one label of two texts; here all octets are in the first.
         octets: Label::joined(octets, &[]),
     };
     Some((identifier, rest))
