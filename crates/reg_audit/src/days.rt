@@ -14,7 +14,7 @@ use reg_core::Schedule;
 use reg_store_tables::sql_values::number_at;
 use sqlite::Row;
 
-/// Whether `days`, the longest validity at creation, is 1 to 398 (`can_allow`). It is column 6 of the row of `office` that `AuditQuery::Terms` reads.
+/// Whether `days`, the longest validity when the register was created, is 1 to 398 (`can_allow`). `AuditQuery::Terms` reads it as column 6.
 fn has_allowed_days(row: &Row) -> bool
     ensures allowed { IsTrue result → (days : ℕ) × (column row.now 6 ≡ number days) × IsDays days }
     ensures others { (days : ℕ) → column row.now 6 ≡ number days → IsDays days → IsTrue result }

@@ -59,6 +59,7 @@ pub fn decide_order(
     let Some(subscriber) = subscriber else {
         return Err(Refusal::NoSubscriber);
     };
+    // The schedule has the longest validity in days for each notBefore. An order may allow at most the greatest of them.
     let most = head.policy.schedule().greatest();
     if days == 0 || days > most {
         return Err(Refusal::BadDays { most });

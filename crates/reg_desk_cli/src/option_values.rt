@@ -246,6 +246,7 @@ fn choose<'a>(
     }
 }
 
+/// `--clock`: the lines run at the clock's moments. `--accept-clock`: even if the clock is over 30 days past the last accepted command.
 pub(crate) fn script_options_of(matches: &ArgMatches<'_>) -> ScriptOptions
     ensures { result ≡ script_options_in (rows_of (found_of matches.now)) }
 {
@@ -266,6 +267,7 @@ pub(crate) fn is_set(matches: &ArgMatches<'_>, id: &str) -> bool
     }
 }
 
+/// `--orders SUBSCRIBER DAYS` of `at --import`: each imported certificate gets an order of this subscriber, for at most DAYS days.
 pub(crate) fn order_terms_option(matches: &ArgMatches<'_>) -> Option<Option<OrderTerms>>
     ensures { result ≡ order_terms_given (rows_of (found_of matches.now)) }
 {

@@ -30,7 +30,7 @@ pub struct OcspReply {
 /// The result of a line.
 #[derive(Drop)]
 pub enum Answered {
-    /// The line's kind and outcome. `Nothing` has [`Refusal::Syntax`]. `Ocsp` has [`Fault::Memory`]: an OCSP line with a response is a `Response`.
+    /// The line's kind and outcome: always [`Refusal::Syntax`] for `Nothing`, and [`Fault::Memory`] for `Ocsp`, which otherwise gives a `Response`.
     Completed(LineKind, Outcome),
     Response(OcspReply),
 }
