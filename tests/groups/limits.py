@@ -1939,6 +1939,22 @@ def the_log_of_an_open_register_stays_short(t):
     t.true(size < lines * 2 * 4_096 * 2 / 3, f"the log has {size} bytes after {lines} commands")
 
 
+@test
+def a_closed_register_has_no_page_in_its_log(t):
+    """Each job that changes the register writes the pages of its log into its file at the end: the file alone has all entries."""
+    t.register()
+    jobs = (
+        (["script", "ca.db"], f"{DAY} subscriber acme\n{DAY} order 1 30\n"),
+        (["import", "ca.db", "--now", DAY], f"1,05,{DAY},2026-01-02T00:00:00Z\n"),
+        (["schedule", "ca.db", "1970-01-01T00:00:00Z=300"], ""),
+        (["key-id", "ca.db", "0A0B"], ""),
+    )
+    for words, given in jobs:
+        t.done(*words, given=given)
+        log = t.room / "ca.db-wal"
+        t.true(not log.exists() or log.stat().st_size < 4_096, f"after {words[0]}, the log has a page")
+
+
 @test(seconds=2)
 def a_register_whose_log_has_megabytes_is_read_with_all_of_it(t):
     t.register()
