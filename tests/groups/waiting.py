@@ -656,6 +656,19 @@ def ten_seconds_of_a_line_to_the_millisecond(t):
         t.same(crl.result(), "F3 signer")
 
 
+@test
+def ten_seconds_of_a_line_end_although_nothing_else_happens(t):
+    t.register(key=P256_KEY)
+    held = Held(t)
+    desk = Passing(t, *SIGNING)
+    with ThreadPoolExecutor(1) as pool, t.control() as control:
+        crl = pool.submit(control.ask, "crl")
+        t.true(held.signers.until(1), "the CRL's signature is not requested")
+        with t.at_once("the reply"):
+            desk.set_forward(10_000)
+            t.same(crl.result(), "F3 signer")
+
+
 @each({"at the last command": DAY, "more than 30 days after it": "2026-02-01T00:00:01Z"}, seconds=3)
 def an_ocsp_line_delays_no_http_request(t, moment):
     """If the clock is too far ahead, only commands are refused. An `ocsp` line is signed as before."""
@@ -683,8 +696,8 @@ def no_signer_listens_for_a_crl(t):
 @test(seconds=5)
 def a_crl_of_more_than_a_socket_takes_at_once(t):
     """The message to sign is longer than the socket's buffers, and the signer begins to read after a second. The desk answers HTTP meanwhile."""
-    count = 6_000
-    registers.make_revoked(t.room / "ca.db", count, P256_KEY)
+    count = 20_000
+    registers.make_revoked(t.room / "ca.db", count, P256_KEY, every=1)
     server = t.enter_context(socket.socket(socket.AF_UNIX))
     server.bind(str(t.room / "ca.sign"))
     server.listen(4)
@@ -699,7 +712,7 @@ def a_crl_of_more_than_a_socket_takes_at_once(t):
             message = program.read_all(client)
             client.sendall(ANY_SIGNATURE)
         t.same(crl.result(), f"crl 1 entries {count}")
-    t.true(len(message) > 250_000, f"the message to sign has only {len(message)} bytes")
+    t.true(len(message) > 1_048_576, f"the message to sign has only {len(message)} bytes")
     t.has(authority.body_of(t, desk.ask("GET", "/crl"), "application/pkix-crl"), message, "the CRL has the signed message")
 
 
