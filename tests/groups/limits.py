@@ -698,6 +698,16 @@ def a_client_that_closed_its_side(t, desk):
     client.shutdown(socket.SHUT_WR)
 
 
+def a_line_that_waits_for_its_signature(t, desk):
+    """A line of another client waits behind it."""
+    signers = t.enter_context(Signers(t.room / "ca.sign", lambda message: t.ends.wait(60) and ANY_SIGNATURE))
+    first, behind = t.control(), t.control()
+    first.stream.sendall(b"crl\n")
+    t.true(signers.until(1), "its signature is not requested")
+    behind.stream.sendall(b"counts\n")
+    authority.until(lambda: program.is_read(behind.stream), "the desk to read the line behind it")
+
+
 def a_signer_that_had_no_room(t, desk):
     connects = lambda: faults.counted(t.room / "count")["connect"]
     before = connects()
@@ -724,6 +734,7 @@ def descriptors_that_ran_out_for_a_time(t, desk):
 # How often the desk may wake up in a second.
 IDLE = {"nobody": (lambda t, desk: None, 1), "eight control connections": (eight_control_connections, 1), "a silent client": (a_silent_client, 8),
         "a client that closed its side": (a_client_that_closed_its_side, 8),
+        "a line that waits for its signature": (a_line_that_waits_for_its_signature, 8),
         "a signer that had no room": (a_signer_that_had_no_room, 1),
         "descriptors that ran out for a time": (descriptors_that_ran_out_for_a_time, 1)}
 
@@ -1408,9 +1419,10 @@ def a_long_ocsp_request_by_get_is_answered_as_by_post(t):
     t.register(key=P256_KEY)
     t.clock(DAY)
     t.enter_context(Signers(t.room / "ca.sign"))
-    desk, request = t.open("ca.db", "--log", *SIGNING), asks(60)
+    # The head of a request has 8,192 bytes at most.
+    desk, request = t.open("ca.db", "--log", *SIGNING), asks(85)
     text = base64.b64encode(request).decode().replace("+", "%2B").replace("/", "%2F").replace("=", "%3D")
-    t.true(len(text) > 5_000, f"the request has {len(text)} characters")
+    t.true(len(text) > 7_000, f"the request has {len(text)} characters")
     t.same(parted(desk.ask("GET", f"/ocsp/{text}"))[2], parted(desk.ask("POST", "/ocsp", request))[2], "the answer by GET")
     status, _, body = parted(desk.ask("GET", "/list/certificates?" + "x" * 1_000))
     t.same((status, body), (400, b'{"error":"E22 syntax"}'), "a query of a thousand characters")
@@ -1682,20 +1694,23 @@ def a_signer_that_is_gone_after_nine_seconds_is_asked_for_the_next_line(t):
 
 @each(WAITS, seconds=2)
 def a_signer_whose_queue_is_full_is_soon_asked_again(t, waits):
-    """The desk asks it up to a hundred times a second, although nothing else happens."""
+    """The desk asks it up to a hundred times a second, although nothing else happens, and sleeps between two attempts."""
     t.register(key=P256_KEY)
-    connects = lambda: faults.counted(t.room / "count")["connect"]
+    counts = lambda: [faults.counted(t.room / "count")[it] for it in ("connect", "poll")]
     with ThreadPoolExecutor(1) as pool, full_queue(t):
         desk = t.open("ca.db", *SIGNING, faults=faults.environment(count=t.room / "count"))
         pool.submit(waits, t, desk)
-        authority.until(connects, "the desk to ask the signer")
-        found = []
+        authority.until(lambda: counts()[0], "the desk to ask the signer")
+        found, begun, before = [], time.monotonic(), counts()
         # A slow machine may take four of the ten seconds that the signer has.
         while len(found) < 4 and max(found, default=0) < 20:
-            before = connects()
+            first = counts()[0]
             time.sleep(1)
-            found.append(connects() - before)
+            found.append(counts()[0] - first)
+        attempts, polls = (now - then for now, then in zip(counts(), before))
+        most = 110 * (time.monotonic() - begun) + 10
     t.true(max(found) >= 20, f"attempts in each second: {found}")
+    t.true(attempts <= most and polls <= 2 * most, f"{attempts} attempts and {polls} polls, of which {most:.0f} attempts are right")
 
 
 @test
