@@ -37,8 +37,9 @@ const KEY: [u8; 3] = *b"abc";
 /// How many bytes a page of the database has: as few as SQLite allows. A commit copies and hashes each page that it changed.
 const PAGE: usize = 512;
 
-/// How many pages that were read are kept, and how many changed ones wait for the log: 8 MB.
-const CACHE_PAGES: usize = 16_000;
+/// How many pages that were read are kept, and how many changed ones wait for the log: 2 MB. More pages make a short script slower, and a long one
+/// hardly faster.
+const CACHE_PAGES: usize = 4_000;
 
 /// After how many pages the log is copied into the database: 4 MB.
 const LOG_PAGES: usize = 8_000;
