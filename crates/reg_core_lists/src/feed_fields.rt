@@ -43,7 +43,7 @@ pub(crate) fn read_crl_line(text: &[u8]) -> Option<(CrlRow, u64)>
     Some((row, next_value(&mut fields)?))
 }
 
-/// The last line of a page: whether the page is the last one (`end`, not `more`), and the positions, which say how far a copy has got with the page.
+/// The last line of a page: whether the page is the last one (`end`, not `more`), and the positions of a copy that has this page.
 #[tactic(auto, unfolding(crate::specs::FeedReading::last_line_read))]
 pub(crate) fn read_last_line(text: &[u8]) -> Option<(bool, Positions)>
     ensures { result ≡ last_line_read text.now }

@@ -70,7 +70,7 @@ pub trait Signer {
         ensures same_identity { identity self.new ≡ identity self.old }
         ensures same_failures { failure_count self.new ≡ failure_count self.old };
 
-    /// Whether the signature, which another program gave, has the form of one of the message by this signer's algorithm and key. It is not verified.
+    /// Whether the signature, which another program gave, has the form of a signature of the message by this signer. It is not verified.
     fn has_form(&self, message: &[u8], signature: &[u8]) -> bool
         ensures { OnTrue result (forms (identity self.now) message.now signature.now) };
 

@@ -29,7 +29,7 @@ const MAX_CACHE_PAGES: usize = 131_072;
 const OWNER_ONLY: u32 = 0o600;
 
 /// Opens the database at a path for writing, or creates it. The crate `sqlite` then checks each page, index and constraint. `start` tells contracts
-/// what the file and its log (`-wal`) hold, and (`Start::mixes`) whether a torn write leaves each byte old or new: if so, most commits sync once.
+/// what the file and its log (`-wal`) hold. `Start::mixes` says whether a torn write leaves each byte old or new. If it does, most commits sync once.
 /// Errors: `Memory`; `Store`, with its cause if that is known, if the file can't be opened, if it is no database, or if the path is `:memory:` or
 /// begins with `file:`.
 pub fn open_file<S: Start>(
@@ -58,7 +58,7 @@ pub fn open_file<S: Start>(
 }
 
 /// The options to open the database at a path. The seed for its log's salts is random: `RandomState` gives a fixed value a random hash. The page
-/// cache has room for twice the file's pages (8 MB to 512 MiB): look-ups seldom read the disk. As many changed pages can wait in memory for the log.
+/// cache has room for twice the file's pages (8 MB to 512 MiB): look-ups seldom read the disk. The same number of changed pages can wait in memory.
 pub(crate) fn options_for(rt: &HostRuntime, path: &str) -> Result<Options, FileFault>
     ensures room { IfOk result (λ options. (2000 ≤ options.cache_pages) × (options.cache_pages ≤ 131072)
         × (options.spill_pages ≡ options.cache_pages)) }
