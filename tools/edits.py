@@ -8,9 +8,8 @@ Usage: tools/edits.py CRATE ..        tries all edits of these crates with `rt m
 The exit status is 1 if an edit is not refused, does not apply or was not tried, if rt fails, or if --check finds too many edits. rt runs in
 a temporary copy of the crates as they stand in the working tree. `rt must-fail` reuses the proofs that `rt check` kept, so check the crate first.
 
-Run --some after an `rt ci` that passed on the same files: rt takes all proofs from that run. The sample takes at most ten times as long
-as `rt selftest`. It has up to four edits of a crate that builds within 250 seconds (tools/build-times.txt): rt proves that crate once more,
-and tries each edit over that proof. It has one edit of any other crate: rt checks a single edit without that proof, with one job.
+Run --some after an `rt ci` that passed on the same files: rt takes all proofs from that run. The sample has up to four edits of one crate
+that builds within 250 seconds (tools/build-times.txt): rt proves it once more, and tries each edit over that. Only you try those of others.
 """
 import hashlib
 import re
@@ -66,11 +65,12 @@ def limits_exceeded():
 
 
 def sample_of(commit):
-    """Returns some edits of one crate, which the hash of the commit selects."""
-    found = sorted(edits_in(OTHERS), key=lambda it: hashlib.sha256(f"{commit} {it.relative_to(TOP)}".encode()).digest())
-    crate = crate_of(found[0])
-    seconds = re.search(rf"^{crate.name} (\d+)$", (TOP / "tools/build-times.txt").read_text(encoding="utf-8"), re.MULTILINE)
-    return [it for it in found if crate_of(it) == crate][: MOST_IN_SAMPLE if seconds and int(seconds[1]) <= SECONDS_OF_SMALL_CRATE else 1]
+    """Returns some edits of one small crate, which the hash of the commit selects."""
+    times = re.findall(r"^(\w+) (\d+)$", (TOP / "tools/build-times.txt").read_text(encoding="utf-8"), re.MULTILINE)
+    small = {crate for crate, seconds in times if int(seconds) <= SECONDS_OF_SMALL_CRATE}
+    chance = lambda it: hashlib.sha256(f"{commit} {it.relative_to(TOP)}".encode()).digest()
+    found = sorted((it for it in edits_in(OTHERS) if crate_of(it).name in small), key=chance)
+    return [it for it in found if crate_of(it) == crate_of(found[0])][:MOST_IN_SAMPLE]
 
 
 def copy_crates(room, edits):
