@@ -128,9 +128,14 @@ def entry(serial, at, reason):
 
 def sealed(number, this_update, entries):
     """Returns a CertificateList (RFC 5280 5.1) of these entries, with the SHA-1 digest of its tbsCertList in the place of a signature."""
+    return sealed_with(number, this_update, b"".join(entry(*row) for row in sorted(entries)))
+
+
+def sealed_with(number, this_update, written, identifier=None):
+    """Returns a CertificateList as `sealed` does, of entries that are written already, with a key identifier of the issuer's own if one is given."""
     algorithm = bytes.fromhex("300906052b0e03021a0500")
-    revoked = tlv(0x30, *(entry(*row) for row in sorted(entries))) if entries else b""
-    identifier = tlv(0x30, tlv(0x80, hashlib.sha1(KEY).digest()))
+    revoked = tlv(0x30, written) if written else b""
+    identifier = tlv(0x30, tlv(0x80, identifier or hashlib.sha1(KEY).digest()))
     counted = integer(number.to_bytes(8, "big"))
     extensions = tlv(0xA0, tlv(0x30, extension(b"\x55\x1d\x23", identifier), extension(b"\x55\x1d\x14", counted)))
     name = bytes.fromhex(NAME)
