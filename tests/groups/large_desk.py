@@ -282,6 +282,47 @@ def an_issuer_of_1200_key_identifiers(t):
     t.same(t.done("audit", "ca.db"), "sound, 0 certificates, 0 revoked, 1201 CRLs\n")
 
 
+@test(seconds=2)
+def the_last_row_of_each_table(t):
+    """Each table has its row 999,999, without most rows before it. So there is room for one more, as the cap is 1,000,000."""
+    count, begins, ends = 999_999, registers.START, registers.START + 300 * SECONDS
+    t.register()
+    serial = bytes(18) + b"\1\1"
+    with contextlib.closing(registers.sqlite3.connect(t.room / "ca.db")) as db:
+        db.execute("INSERT INTO subscriber VALUES (?, 'acme')", (count,))
+        db.execute("INSERT INTO orders VALUES (?, ?, 398)", (count, count))
+        db.execute("INSERT INTO cert (rowid, serial, order_id, not_before, not_after) VALUES (?, ?, ?, ?, ?)", (count, serial, count, begins, ends))
+        db.execute("INSERT INTO request VALUES (?, ?, 6, ?, 0)", (count, serial, begins))
+        db.execute("INSERT INTO standing VALUES (?, ?, 'G')", (serial, ends))
+        db.execute("UPDATE kept SET n_good = 1")
+        db.execute("INSERT INTO crl VALUES (?, ?, ?)", (count, begins, placeholder_crl(count, begins, b"")))
+        db.execute("UPDATE office SET last_at = ?", (begins,))
+        db.commit()
+    t.clock(begins)
+    desk = t.open("ca.db", "--log-file", "ca.log")
+    last = f"{2**159 - 1:x}"
+    lines = {
+        "subscriber b": "subscriber 1000000", "order 1000000 398": "order 1000000", f"register 1000000 {last} {DAY} {moment_of(ends)}": "registered",
+        f"request {last} superseded": f"request 1000000 due {moment_of(begins + SECONDS)}", "revoke 1000000": "revoked",
+        "crl": "crl 1000000 entries 1", "revoke 999999 101": "revoked",
+    }  # fmt: skip
+    full = ("subscriber c", "order 1000000 1", f"request {last[:-1]} superseded", "crl")
+    with t.control() as control:
+        for line, reply in lines.items():
+            t.same(control.ask(line), reply, line)
+        entry = registers.entry((2**159 - 1).to_bytes(20, "big"), begins, 4)
+        t.same(parted(desk.ask("GET", "/crl/1000000"))[2], placeholder_crl(1_000_000, begins, entry), "CRL 1,000,000")
+        t.same([control.ask(it) for it in full], ["E03 full", "E03 full", "E14 unknown-serial", "E03 full"], "lines that would add a row")
+        t.same(control.ask(f"listing {last}"), "listing first 1000000")
+        t.same(control.ask("listing 101"), "listing first 1000001")
+    found = metrics(t, desk)
+    t.same(set(of(found, "desk_rows{").values()), {1_000_000}, "the rows of each table")
+    t.same(found["desk_crl_number"], 1_000_000, "the number of the latest CRL")
+    (row,) = json.loads(parted(desk.ask("GET", "/list/crls?after=999999"))[2])["rows"]
+    t.same(row, {"crl": 1_000_000, "thisUpdate": DAY}, "the last page of CRLs")
+    t.same((t.room / "ca.log").read_text().count(f" request 1000000 {last}"), 2, "lines of the log that name request 1,000,000")
+
+
 # A CRL of more than two mebibytes
 
 
@@ -341,6 +382,28 @@ def a_crl_of_forty_thousand_entries(t):
     t.true((rows, crls, ends) == ([("crl", f"1 {moment_of(at)} {len(whole)}")], {1: whole}, False), f"another page: {rows}")
     (line,) = [it for it in (t.room / "ca.log").read_text().splitlines() if "GET /crl" in it]
     t.true(re.search(rf'"GET /crl HTTP/1\.1" "HTTP/1\.1 200 OK" {len(response)} \d+$', line), f"its line in the log: {line}")
+
+
+@test(seconds=2)
+def a_latest_crl_of_twenty_megabytes(t):
+    """A signature of 20,000,000 octets makes the CRL so long. The desk doesn't verify it."""
+    at = registers.START + 10
+    t.register(key=P256_KEY)
+    algorithm, identifier = bytes.fromhex(authority.IDENTIFIERS["ecdsa-sha256"]), der.sha1(bytes.fromhex(P256_KEY))
+    _, whole = crl_of(1, at, b"", identifier, algorithm, lambda part: bytes(20_000_000))
+    t.sql("ca.db", "INSERT INTO crl VALUES (1, ?, ?)", at, whole)
+    t.sql("ca.db", "UPDATE office SET last_at = ?", at)
+    t.signer()
+    t.clock(at)
+    desk = t.open("ca.db", *SIGNING)
+    t.same(parted(desk.ask("GET", "/health"))[0], 200, "the status of /health")
+    found = metrics(t, desk)
+    t.same((found["desk_register_readable"], found["desk_crl_due_timestamp_seconds"]), (1, at + 7 * SECONDS), "the metrics")
+    t.true(parted(desk.ask("GET", "/crl"))[2] == whole, "another answer to GET /crl")
+    _, rows, crls, ends, after = asked(t, desk)
+    t.true((rows, crls, ends) == ([("crl", f"1 {moment_of(at)} {len(whole)}")], {1: whole}, False), f"another page: {rows}")
+    t.same(asked(t, desk, after)[1:4], ([], {}, True), "the page behind it")
+    t.same(t.control().ask("crl"), "crl 2 entries 0")
 
 
 # The longest requests and lines
@@ -490,7 +553,7 @@ def certificate(key, size):
 @test(seconds=3)
 def long_answers_have_a_long_certificate_and_a_signature(t):
     """Each answer has the embedded certificate of 65,536 octets. The signer takes persistent connections, and the longest message has more than
-    100,000 octets. The answer to a line has the certificate, too."""
+    180,000 octets, which a socket takes. The answer to a line has the certificate, too."""
     t.register(key=P256_KEY)
     t.clock(DAY)
     signer = t.enter_context(Keeping(t.room / "ca.sign"))
@@ -506,12 +569,12 @@ def long_answers_have_a_long_certificate_and_a_signature(t):
         return len(part)
 
     longest = 0
-    for size in (30_000, 30_000, 36_000, 36_000):
+    for size in (30_000, 30_000, 65_536, 65_536):
         request = request_of(size)
         status, _, body = parted(desk.send(post(request)))
         t.same(status, 200)
         longest = max(longest, is_whole(body, len(authority.cert_ids(request))))
-    t.true(longest > 100_000, f"the longest message has only {longest} octets")
+    t.true(longest > 180_000, f"the longest message has only {longest} octets")
     t.same((len(signer.asked), [len(it) for it in signer.kept]), (1, [3]), "messages on each connection")
     with t.control() as control:
         request = request_of(4_083)
@@ -556,26 +619,33 @@ def together(desk, requests, status=b"HTTP/1.1 200 OK\r\n"):
 
 @test(seconds=20)
 def more_requests_than_65536_of_one_desk(t):
-    """Each tenth one is for an OCSP answer, which is signed. Each is answered, counted and logged."""
+    """They come in rounds of fifty: five for OCSP answers, which are signed, and six for other routes. Each is answered, counted and logged."""
     signer = t.enter_context(Keeping(t.room / "ca.sign", lambda message: frame(ANY_SIGNATURE)))
     t.register(key=P256_KEY)
     t.clock(DAY)
     desk = t.open("ca.db", *SIGNING, "--log-file", "ca.log")
-    rounds, batch = 1_320, [COUNTS] * 45 + [post(asks(1))] * 5
+    with t.control() as control:
+        t.same(control.ask("crl"), "crl 1 entries 0")
+    others = {
+        "/crl": "/crl", "/crl/{number}": "/crl/1", "/status/{serial}": "/status/05", "/list/{word}": "/list/crls", "/health": "/health",
+        "/metrics": "/metrics",
+    }  # fmt: skip
+    rounds, batch = 1_320, [COUNTS] * 39 + [post(asks(1))] * 5 + [f"GET {it} HTTP/1.1\r\n\r\n".encode() for it in others.values()]
     for at in range(rounds):
         t.same(together(desk, batch), len(batch), f"answers of round {at}")
     found = metrics(t, desk)
     answers, count = of(found, "desk_http_responses_total"), rounds * len(batch)
     t.true(count > 65_536, f"only {count} requests")
-    t.same(answers, {'{route="/counts",code="200"}': 45 * rounds, '{route="/ocsp",code="200"}': 5 * rounds}, "answers by route")
-    t.same((found["desk_connections_accepted_total"], found["desk_exchange_seconds_count"]), (count + 1, count), "connections and exchanges")
-    t.same(of(found, "desk_signatures_total"), {'{of="crl"}': 0, '{of="ocsp"}': 5 * rounds}, "signatures")
+    wanted = {"/counts": 39 * rounds, "/ocsp": 5 * rounds, **dict.fromkeys(others, rounds)}
+    t.same(answers, {f'{{route="{route}",code="200"}}': number for route, number in wanted.items()}, "answers by route")
+    t.same((found["desk_connections_accepted_total"], found["desk_exchange_seconds_count"]), (count + 1, count + 1), "connections and exchanges")
+    t.same(of(found, "desk_signatures_total"), {'{of="crl"}': 1, '{of="ocsp"}': 5 * rounds}, "signatures")
     t.same({*of(found, "desk_connections_lost_total").values(), *of(found, "desk_ocsp_internal_errors_total").values()}, {0}, "losses and errors")
-    t.same(len(signer.asked) + sum(map(len, signer.kept)), 5 * rounds, "messages to the signer")
+    t.same(len(signer.asked) + sum(map(len, signer.kept)), 5 * rounds + 1, "messages to the signer")
     t.true(len(signer.kept) <= 32, f"{len(signer.kept)} persistent connections")
-    t.same((t.room / "ca.log").read_text().count("\n"), count + 1, "lines of the log")
+    t.same((t.room / "ca.log").read_text().count("\n"), count + 2, "lines of the log")
     with t.control() as control:
-        t.same((control.ask("counts"), control.ask("crl")), ("good 0 revoked 0 expired 0", "crl 1 entries 0"), "lines at the control socket")
+        t.same((control.ask("counts"), control.ask("crl")), ("good 0 revoked 0 expired 0", "crl 2 entries 0"), "lines at the control socket")
 
 
 @test(seconds=5)
@@ -666,6 +736,21 @@ def a_thousand_crls_answers_and_failures_of_lines(t):
     t.same([it["crl"] for it in crls["rows"]], [count, count + 1], "the last page of CRLs")
 
 
+@test(seconds=3)
+def a_thousand_crls_answers_and_failures_of_a_script(t):
+    t.register(key=P256_KEY)
+    count, line = 1_001, f"ocsp {asks(1).hex()}"
+    given = f"{DAY} crl\n{DAY} {line}\n" * count
+    with t.signer() as signer:
+        replies = t.done("script", "ca.db", *SIGNING, given=given, faults=faults.environment()).splitlines()
+    t.same(replies[::2], [f"crl {at} entries 0" for at in range(1, count + 1)], "the replies to `crl`")
+    t.same(sum(ANY_SIGNATURE.hex() in it for it in replies[1::2]), count, "signed answers")
+    t.same(len(signer.asked), 2 * count, "messages to the signer")
+    replies = t.done("script", "ca.db", *SIGNING, given=given).splitlines()
+    t.same(set(zip(replies[::2], replies[1::2])), {("F3 signer", f"ocsp {authority.INTERNAL.hex()}")}, "the replies without a signer")
+    t.same(len(replies), 2 * count, "their number")
+
+
 @test(seconds=4)
 def a_thousand_requests_for_revocation_over_http(t):
     """Each of 401 certificates has three, a hundred in each minute. Then a thousand clients reset their connections within a request."""
@@ -695,6 +780,23 @@ def a_thousand_requests_for_revocation_over_http(t):
     found = metrics(t, desk)
     t.same(found["desk_requests_open"], 3 * count, "open requests")
     t.same(of(found, "desk_connections{"), {'at="port"}': 1, 'at="counter"}': 0}, "open connections")
+
+
+@test(seconds=2)
+def a_hundred_copies_and_one_at_a_long_path(t):
+    """A path has at most 4,095 bytes; while the copy is made, its name ends with `.part`."""
+    t.register()
+    t.open(faults=faults.environment())
+    folder = t.room
+    while len(str(folder)) < 3_800:
+        folder /= "f" * 200
+    folder.mkdir(parents=True)
+    path = folder / ("c" * (4_080 - len(str(folder)) - 1))
+    with t.control() as control:
+        sizes = {control.ask(f"copy {t.room}/copy-{at}.db").rpartition(" in ")[0] for at in range(101)}
+        t.same(sizes, {f"copied {(t.room / 'copy-100.db').stat().st_size} bytes"}, "the replies to the copies")
+        t.same(control.ask(f"copy {path}").rpartition(" in ")[0], sizes.pop(), "the reply to the copy at a long path")
+    t.true(path.read_bytes() == (t.room / "copy-0.db").read_bytes(), "the copy at a long path has other bytes")
 
 
 # Long times
