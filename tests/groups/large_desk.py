@@ -323,6 +323,39 @@ def the_last_row_of_each_table(t):
     t.same((t.room / "ca.log").read_text().count(f" request 1000000 {last}"), 2, "lines of the log that name request 1,000,000")
 
 
+def of_rows(t, file, orders, requests):
+    """A register whose last order and whose last request have these numbers. It has no other one, and a certificate of serial number 05."""
+    begins, ends, serial = registers.START, registers.START + 300 * SECONDS, bytes(19) + b"\5"
+    t.register(file)
+    with contextlib.closing(registers.sqlite3.connect(t.room / file)) as db:
+        db.execute("INSERT INTO subscriber VALUES (1, 'acme')")
+        db.execute("INSERT INTO orders VALUES (?, 1, 398)", (orders,))
+        db.execute("INSERT INTO cert VALUES (?, ?, ?, ?)", (serial, orders, begins, ends))
+        db.execute("INSERT INTO request VALUES (?, ?, 6, ?, 1)", (requests, serial, begins))
+        db.execute("INSERT INTO standing VALUES (?, ?, 'G')", (serial, ends))
+        db.execute("UPDATE kept SET n_good = 1")
+        db.execute("UPDATE office SET last_at = ?", (begins,))
+        db.commit()
+    t.clock(begins)
+    return t.open(file, "--control", f"{file}.control")
+
+
+@test(seconds=2)
+def a_fifth_and_a_tenth_of_a_million_rows_are_left(t):
+    """The health is failing if less than a fifth is left in a table. Requests over HTTP are refused if less than a tenth is left for them."""
+    desk = of_rows(t, "orders.db", 799_999, 1)
+    for number, rows in ((800_000, None), (800_001, DAY)):
+        t.same(t.control("orders.db.control").ask("order 1 398"), f"order {number}")
+        t.same(json.loads(parted(desk.ask("GET", "/health"))[2])["rows"], rows, f"the health with {number} orders")
+    desk = of_rows(t, "requests.db", 1, 899_999)
+    body, due = b'{"serial":"05","ground":"superseded"}', moment_of(registers.START + SECONDS)
+    for number in (900_000, 900_001):
+        told = parted(desk.ask("POST", "/requests", body))[::2]
+        t.same(told, (200, b'{"due":"%b","request":%d}' % (due.encode(), number)), f"request {number}")
+    t.same(parted(desk.ask("POST", "/requests", body))[::2], (503, b'{"error":"503"}'), "request 900,002")
+    t.same(t.control("requests.db.control").ask("request 05 superseded"), f"request 900002 due {due}", "the line")
+
+
 # A CRL of more than two mebibytes
 
 
@@ -552,20 +585,23 @@ def certificate(key, size):
 
 @test(seconds=3)
 def long_answers_have_a_long_certificate_and_a_signature(t):
-    """Each answer has the embedded certificate of 65,536 octets. The signer takes persistent connections, and the longest message has more than
-    180,000 octets, which a socket takes. The answer to a line has the certificate, too."""
+    """Each answer has the responder's certificate, of 65,536 octets. Its signer takes persistent connections. The longest message to it has more than
+    180,000 octets, for which a socket has room. The answer to a line has the certificate, too."""
     t.register(key=P256_KEY)
     t.clock(DAY)
-    signer = t.enter_context(Keeping(t.room / "ca.sign"))
-    embedded = certificate(P256_KEY, 65_536)
-    (t.room / "ca.der").write_bytes(embedded)
-    desk = t.open("ca.db", *SIGNING, "--embed", "ca.der")
+    signer = t.enter_context(Keeping(t.room / "ocsp.sign"))
+    own = certificate(P256_KEY, 65_536)
+    (t.room / "ocsp.der").write_bytes(own)
+    words = ("--responder", "ocsp.der", "--responder-signer", "ocsp.sign", "--responder-algorithm", "ecdsa-sha256")
+    desk = t.open("ca.db", *SIGNING, *words)
+    found = metrics(t, desk)
+    t.same(found["desk_responder_certificate_not_after_timestamp_seconds"], registers.START + 300 * SECONDS, "notAfter in the metrics")
 
     def is_whole(response, count):
         part, _, signature = authority.signed_part(authority.basic_of(response))
         t.true(signature == own_signature(part), f"the answer to {count} CertIDs has another signature")
         t.true(len(authority.answered_ids(response)) == count, f"the answer to {count} CertIDs has others")
-        t.true(response.endswith(embedded), f"the answer to {count} CertIDs ends otherwise")
+        t.true(response.endswith(own), f"the answer to {count} CertIDs ends otherwise")
         return len(part)
 
     longest = 0
@@ -788,7 +824,7 @@ def a_hundred_copies_and_one_at_a_long_path(t):
     t.register()
     t.open(faults=faults.environment())
     folder = t.room
-    while len(str(folder)) < 3_800:
+    while len(str(folder)) < 3_850:
         folder /= "f" * 200
     folder.mkdir(parents=True)
     path = folder / ("c" * (4_080 - len(str(folder)) - 1))
