@@ -35,10 +35,10 @@ SECONDS = 86_400
 
 
 class Records(registers.Records):
-    """Of 20,000 certificates 12,000 are revoked and 1,000 have expired; 1,000 more have a declined request and 1,000 an open one, of which half are
-    overdue. The 1,200 CRLs were issued before the first revocation. Names have 64 bytes, serial numbers 20 octets."""
+    """Of 20,000 certificates 12,000 are revoked and 1,000 have expired; 1,000 more have a declined request, and 1,000 more have twelve open requests
+    each. Of these all but 500 are overdue. The 1,200 CRLs came before the first revocation. Names have 64 bytes, serial numbers 20 octets."""
 
-    SUBSCRIBERS, CERTIFICATES, REQUESTS, REVOKED, CRLS = 2_500, 20_000, 14_000, 12_000, 1_200
+    SUBSCRIBERS, CERTIFICATES, REQUESTS, REVOKED, CRLS = 2_500, 20_000, 25_000, 12_000, 1_200
     NOW = registers.START + 20 * SECONDS
 
     def __init__(self):
@@ -47,9 +47,10 @@ class Records(registers.Records):
         self.certs = [(serial, id, begins, begins + (300 * SECONDS if id <= 19_000 else SECONDS) + id) for id, serial in zip(ids, self.serials)]
         self.ends = {cert[0]: cert[3] for cert in self.certs}
         # Ground 1, `asked`, has no reason in a CRL.
-        ground, received = lambda id: 2 + id % 10, lambda id: begins + 2_000 + id + (id > 13_500) * 39 * SECONDS // 2
+        ground, received = lambda id: 2 + id % 10, lambda id: begins + 2_000 + id + (id > 24_500) * 39 * SECONDS // 2
         declined = lambda id: int(12_000 < id <= 13_000)
-        self.requests = [(id, self.serials[id - 1], ground(id), received(id), declined(id)) for id in range(1, self.REQUESTS + 1)]
+        of = self.certificate_of
+        self.requests = [(id, self.serials[of(id) - 1], ground(id), received(id), declined(id)) for id in range(1, self.REQUESTS + 1)]
         reason = lambda id: TERMS[GROUNDS[ground(id) - 1].encode()][1]
         at = lambda id: begins + 20_000 + id + (id > 11_000) * 2 * SECONDS
         self.revocations = [(self.serials[id - 1], at(id), reason(id), id, self.CRLS + 1) for id in range(1, self.REVOKED + 1)]
@@ -73,6 +74,10 @@ class Records(registers.Records):
     def name(self, id):
         return f"subscriber-{id:053d}"
 
+    def certificate_of(self, id):
+        """The order of the certificate for which there is a request."""
+        return id if id <= 14_000 else 13_001 + id % 1_000
+
     # The rows of lists at NOW
 
     def owner(self, order):
@@ -90,7 +95,8 @@ class Records(registers.Records):
         _, serial, ground, at, _ = self.requests[id - 1]
         word = GROUNDS[ground - 1]
         row = {"request": id, "serial": serial.hex(), "ground": word, "received": moment_of(at), "due": moment_of(at + TERMS[word.encode()][0])}
-        return row | self.owner(id) | {it: self.certificate(id)[it] for it in ("notBefore", "notAfter")}
+        order = self.certificate_of(id)
+        return row | self.owner(order) | {it: self.certificate(order)[it] for it in ("notBefore", "notAfter")}
 
     def history(self, id):
         _, _, ground, at, declined = self.requests[id - 1]
@@ -110,7 +116,7 @@ class Records(registers.Records):
         serial, number = lambda id: self.serials[id - 1].hex(), str
         certificates, before = by_serial(self.CERTIFICATES), registers.START + 300 * SECONDS + 15_000
         ending = lambda id: self.certificate(id) if self.REVOKED < id <= 19_000 and self.certs[id - 1][3] < before else None
-        late = lambda id: self.request(id) if 13_000 < id <= 13_500 else None
+        late = lambda id: self.request(id) if 13_000 < id <= 24_500 else None
         requests = range(1, self.REQUESTS + 1)
         return {
             "certificates": ("", certificates, serial, self.certificate), "revoked": ("", by_serial(self.REVOKED), serial, self.revoked),
@@ -204,7 +210,7 @@ def its_lists(t, records, desk):
     """Pages of 250 rows at the beginning, behind ten thousand rows, and at the end."""
     longest, sizes = 0, []
     for word, (query, ids, key, row) in records.pages().items():
-        for first in (0, 1, 1_000, 10_001, 11_500, len(ids) - 251, len(ids) - 250, len(ids) - 1):
+        for first in (0, 1, 1_000, 10_001, 13_000, len(ids) - 251, len(ids) - 250, len(ids) - 1):
             if not 0 <= first < len(ids):
                 continue
             behind = f"&after={key(ids[first - 1])}" if first else ""
@@ -234,11 +240,11 @@ def its_numbers(t, records, desk, control):
     as_json = lambda word, row: json.dumps({name: row[name] for name in FIELDS[word]}, separators=(",", ":"))
     serial, (_, at, reason, _, _) = records.serials[11_999].hex(), records.revocations[-1]
     for line, reply in {
-        "show request 13999": as_json("requests", records.history(13_999)),
+        "show request 24999": as_json("requests", records.history(24_999)),
         f"show {serial}": as_json("certificates", records.certificate(12_000)),
         f"show subscriber {records.name(2_499)}": as_json("subscribers", {"subscriber": 2_499, "name": records.name(2_499)}),
         "counts": "good 7000 revoked 12000 expired 1000",
-        "overdue": "overdue 500 first 13001",
+        "overdue": "overdue 11500 first 13001",
         f"listing {serial}": "listing first 1201",
         f"status {serial}": f"revoked {moment_of(at)} reason {reason}",
         "next-crl": f"next-crl {moment_of(registers.START + 20_001 + SECONDS)}",
@@ -246,8 +252,8 @@ def its_numbers(t, records, desk, control):
         t.same(control.ask(line), reply, line)
     found = metrics(t, desk)
     t.same(of(found, "desk_certificates"), {'{status="good"}': 7_000, '{status="revoked"}': 12_000, '{status="expired"}': 1_000})
-    t.same((found["desk_requests_open"], found["desk_requests_overdue"], found["desk_crl_number"]), (1_000, 500, 1_200), "requests and CRLs")
-    rows = {"subscribers": 2_500, "orders": 20_000, "certificates": 20_000, "requests": 14_000, "crls": 1_200}
+    t.same((found["desk_requests_open"], found["desk_requests_overdue"], found["desk_crl_number"]), (12_000, 11_500, 1_200), "requests and CRLs")
+    rows = {"subscribers": 2_500, "orders": 20_000, "certificates": 20_000, "requests": 25_000, "crls": 1_200}
     t.same(of(found, "desk_rows{"), {f'table="{table}"}}': count for table, count in rows.items()}, "rows")
 
 
@@ -458,19 +464,19 @@ def certified(t, **how):
     return register, now, (5, 7, 8, longest, 9)
 
 
-def single(serial, issuer=(b"", b"")):
-    """The Request of a CertID (RFC 6960 4.1.1) by SHA-1, with these hashes of the issuer."""
-    algorithm = der.value(0x30, der.value(0x06, ocsp.SHA1_NAMED))
+def single(serial, issuer=(b"", b""), named=ocsp.SHA1_NAMED):
+    """The Request of a CertID (RFC 6960 4.1.1) by SHA-1 or another hash, with these hashes of the issuer."""
+    algorithm = der.value(0x30, der.value(0x06, named))
     return der.value(0x30, der.value(0x30, algorithm, *(der.value(0x04, it) for it in issuer), der.integer(serial)))
 
 
-def request_of(size, serials=None):
+def request_of(size, serials=None, named=ocsp.SHA1_NAMED):
     """An OCSP request of exactly so many octets: for these serial numbers over and over, or for as many CertIDs of other issuers as fit."""
     issuer = tuple(map(der.sha1, (der.NAME, der.KEY))) if serials else (b"", b"")
     singles, left = [], size - 12
     while left > 250:
         serial = serials[len(singles) % len(serials)] if serials else 100 + len(singles) % 20
-        singles.append(single(serial, issuer))
+        singles.append(single(serial, issuer, named))
         left -= len(singles[-1])
     for first, more in ((first, more) for first in range(8) for more in range(220)):
         made = der.value(0x30, der.value(0x30, der.value(0x30, *singles, single(1, (bytes(first), b"")), single(1, (bytes(more), b"")))))
@@ -526,7 +532,10 @@ def the_longest_requests_have_their_answers(t):
             for length in (8_191, 8_192):
                 sends(get_of(length, request, quoted), 200, ocsp.answer(register, now, request), f"a head of {length} bytes")
             sends(get_of(8_193, request, quoted), 431, b'{"error":"431"}', "a head of 8,193 bytes")
-    t.true(most > 180_000, f"the longest answer has only {most} bytes")
+    # A hash may have a shorter name: then there is room for more CertIDs.
+    request = request_of(65_536, named=b"*")
+    most = max(most, sends(post(request), 200, ocsp.answer(register, now, request), "the shortest CertIDs"))
+    t.true(most > 216_000, f"the longest answer has only {most} bytes")
     sends(post(bytes(65_537)), 413, b'{"error":"413"}', "65,537 bytes by POST")
     revokes = b'"serial":"05","ground":"superseded"}'
     nested = b'{"more":' + b"[" * 60 + b"]" * 60 + b","
@@ -710,9 +719,9 @@ def nine_hundred_answers_wait_for_their_signatures_together(t):
 
 
 @test(seconds=2)
-def desk_serve_answers_thousands_of_requests(t):
+def desk_serve_answers_more_than_a_thousand_requests(t):
     t.register()
-    count = 5_001
+    count = 1_001
     desk = t.open("ca.db", "--requests", count, command="serve")
     for _ in range(count // 50):
         t.same(together(desk, [COUNTS] * 50), 50, "answers")
