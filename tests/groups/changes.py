@@ -6,7 +6,7 @@ import hashlib
 import sqlite3
 
 from lib import faults, program, registers
-from lib.authority import Authority
+from lib.authority import Authority, values_of
 from lib.program import parted
 from lib.trial import need, test
 from lib.web_server import Front, certificates
@@ -56,7 +56,7 @@ class Tables:
 
     def digest(self, counts):
         """The digest of positions with these counts of rows."""
-        name = self.name[: 2 + self.name[1]]
+        name = values_of(self.name)[0][2]
         text = f"issuer {name.hex()} {self.key.hex()}\n{''.join(f'{counts[kind]}.' for kind in COUNTED)}\n".encode()
         for kind in COUNTED[:-1]:
             text += "".join(f"{kind} {line}\n" for line in self.lines[kind][: counts[kind]][-WINDOW:]).encode()
