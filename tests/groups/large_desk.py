@@ -12,7 +12,7 @@ from concurrent.futures import ThreadPoolExecutor
 
 from groups.changes import COUNTED, GROUNDS, Tables, asked
 from groups.identifiers import name_of
-from groups.limits import asks
+from groups.limits import asks, full_queue
 from groups.lists import FIELDS
 from groups.monitoring import metrics, of
 from groups.persistent import Keeping, is_own
@@ -630,6 +630,18 @@ def long_answers_have_a_long_certificate_and_a_signature(t):
         is_whole(bytes.fromhex(control.ask(f"ocsp {request.hex()}").removeprefix("ocsp ")), len(authority.cert_ids(request)))
 
 
+@test
+def a_body_of_twenty_megabytes_is_refused_and_dropped(t):
+    """The answer comes at once, and no time passes. If the desk closed the connection with unread bytes, the client could lose the answer."""
+    t.register()
+    desk = Passing(t).desk
+    with desk.connect() as client:
+        client.sendall(b"POST /ocsp HTTP/1.1\r\nContent-Length: 20000000\r\n\r\n")
+        client.sendall(bytes(20_000_000))
+        t.same(parted(read_all(client))[::2], (413, b'{"error":"413"}'), "the answer")
+    t.same(parted(desk.send(COUNTS))[0], 200, "another client")
+
+
 @test(seconds=3)
 def a_long_signature_comes_octet_by_octet(t):
     """Each read and write of a socket moves one octet. The signature is as long as the longest modulus of a key. It comes on connections of its own
@@ -883,6 +895,30 @@ def exchanges_that_take_days(t):
     t.has(told, f"\ndesk_exchange_seconds_sum {(103 + 3) * day // 1_000_000}.000000\n", "the metrics")
     lines = desk.end().err_lines
     t.same([int(it.split()[-1]) for it in lines], [day] * 100 + [3 * day] + [day] * 4, "the microseconds in the log")
+
+
+@test(seconds=3)
+def a_signer_without_room_is_asked_for_nine_seconds(t):
+    """An answer and a line wait. Every ten milliseconds the desk tries to connect for them, hundreds of times in all. Then the signer has room."""
+    t.register(key=P256_KEY)
+    with full_queue(t) as server, ThreadPoolExecutor(2) as pool, contextlib.ExitStack() as clients:
+        desk = Passing(t, *SIGNING)
+        answer = desk.comes(post(asks(1)))
+        control = clients.enter_context(Control(t.room / "control"))
+        crl = pool.submit(control.ask, "crl")
+        authority.until(lambda: program.is_read(control.stream), "the desk to read the line")
+        for _ in range(890):
+            desk.advance(10)
+        t.same(crl.done(), False, "whether the line has its reply")
+        server.accept()[0].close()
+        for _ in range(2):
+            desk.advance(10)
+            client, _ = server.accept()
+            with client:
+                read_all(client)
+                client.sendall(ANY_SIGNATURE)
+        t.same(crl.result(), "crl 1 entries 0", "the reply")
+        t.true(ANY_SIGNATURE in read_all(answer), "the answer is not signed")
 
 
 @test(seconds=2)
