@@ -8,8 +8,10 @@ import shutil
 import socket
 import sqlite3
 from concurrent.futures import ThreadPoolExecutor
+from dataclasses import dataclass
 
-from groups.changes import Tables, asked, page_of
+from groups.changes import GROUNDS, Tables, asked, page_of
+from groups.identifiers import name_of
 from groups.limits import on_a_terminal
 from groups.vectors import CERTIFICATE, modelled, ran
 from lib import authority, program, registers
@@ -25,11 +27,135 @@ SOUND = "sound, {} certificates, {} revoked, {} CRLs\n"
 OTHER_BYTES = "broken: crl 1: its bytes do not encode the CRL that the records give\n"
 
 
+def serial_of(at):
+    """The serial number of certificate `at`, of 20 octets. Those of certificates that are entered one after another are far apart."""
+    return (2**158 + at * 7_919 % 100_003).to_bytes(20, "big")
+
+
+@dataclass
+class Rows:
+    """The rows of a register of version 1, as `registers.make` takes them."""
+
+    certs: list
+    requests: list
+    revocations: list
+    last: int
+    crls: tuple = ()
+
+
 def like(t, got, wanted, what):
     """Compares long texts or lists: a failure shows the first place at which they differ."""
     if got != wanted:
         at = next((it for it, (one, other) in enumerate(zip(got, wanted)) if one != other), min(len(got), len(wanted)))
         t.same((len(got), got[at : at + 300]), (len(wanted), wanted[at : at + 300]), f"{what}: the length, and what follows index {at}")
+
+
+def filled(t, table, columns, count, more=()):
+    """Inserts rows of the numbers 1 to `count`, with these columns by SQL, in which `id` is the number."""
+    numbers = "WITH RECURSIVE row (id) AS (SELECT 1 UNION ALL SELECT id + 1 FROM row WHERE id < ?)"
+    t.sql("ca.db", f"INSERT INTO {table} {numbers} SELECT {columns} FROM row", count)
+    for statement in more:
+        t.sql("ca.db", statement)
+
+
+@test(seconds=6)
+def a_list_and_an_audit_of_sixty_six_thousand_requests(t):
+    """All are for one certificate, and a third of them is declined."""
+    count, end = 66_000, moment_of(START + 398 * DAY - 1)
+    begun = ("subscriber acme", "order 1 398", f"register 1 05 {FIRST} {end}")
+    t.register(lines="".join(f"{FIRST} {it}\n" for it in begun))
+    columns = f"id, x'{5:040x}', 2 + id % 10, {START} + id, id % 3 = 0"
+    filled(t, "request", columns, count, [f"UPDATE office SET last_at = {START + count}"])
+    now = START + 3 * DAY
+    due = lambda id: START + id + (5 if id % 10 >= 6 else 1) * DAY
+    overdue = [id for id in range(1, count + 1) if id % 3 and due(id) < now]
+    pairs = [
+        ("overdue", f"overdue {len(overdue)} first {overdue[0]}"), ("request 05 asked", f"request {count + 1} due {moment_of(now + DAY)}"),
+        (f"decline {count}", "E18 declined-before"), (f"decline {count - 1}", "declined"), (f"revoke {count - 2}", "revoked"),
+        ("overdue", "overdue 0"), (f"revoke {count + 1}", f"E19 revoked-before {moment_of(now)}"), (f"revoke {count + 2}", "E17 no-request"),
+    ]  # fmt: skip
+    ran(t, [(f"{moment_of(now)} {line}", reply) for line, reply in pairs], "ca.db")
+    of_certificate = f'"subscriber":1,"name":"acme","order":1,"notBefore":"{FIRST}","notAfter":"{end}"'
+    revoked = '"state":"revoked","decided":"%s","lateness":{}' % moment_of(now)
+
+    def row(id, ground, received, due, is_declined):
+        state = '"state":"declined","decided":null,"lateness":null' if is_declined else revoked.format(max(0, now - due))
+        asked = f'"request":{id},"serial":"{5:040x}","ground":"{ground}","received":"{moment_of(received)}","due":"{moment_of(due)}"'
+        return f"{{{asked},{of_certificate},{state}}}\n"
+
+    wanted = [row(id, GROUNDS[1 + id % 10], START + id, due(id), id % 3 == 0 or id == count - 1) for id in range(1, count + 1)]
+    wanted.append(row(count + 1, "asked", now, now + DAY, False))
+    t.true(sum(map(len, wanted)) > 16_777_216, "the list is short")
+    like(t, t.done("list", "ca.db", "requests", "--json", "--now", moment_of(now)), "".join(wanted), "the list of requests")
+    t.same(t.done("audit", "ca.db"), SOUND.format(1, 1, 0))
+
+
+@test(seconds=4)
+def an_audit_of_sixty_six_thousand_subscribers(t):
+    """Their names have 64 bytes. An audit names the last row if it is wrong."""
+    count = 66_000
+    t.register(lines=f"{FIRST} subscriber acme\n")
+    filled(t, "subscriber", "id + 1, printf('%064d', id)", count - 1)
+    filled(t, "orders", "id, id, 1 + id % 398", count)
+    t.same(t.done("audit", "ca.db"), SOUND.format(0, 0, 0))
+    t.sql("ca.db", "UPDATE subscriber SET name = 'a b' WHERE id = ?", count)
+    told = t.desk("audit", "ca.db")
+    t.same((told.status, told.lines), (1, [f"broken: subscriber {count}: a name that no command takes"]))
+
+
+@test(seconds=3)
+def thirty_thousand_certificates_end_at_once(t):
+    """The file has only the rows from which certificates are counted, and those that they refer to."""
+    count = 30_000
+    t.register(lines=f"{FIRST} subscriber acme\n")
+    serial = "CAST(printf('%020d', id) AS BLOB)"
+    filled(t, "orders", "id, 1, 398", count)
+    filled(t, "cert", f"{serial}, id, {START}, {START + DAY}", count)
+    filled(t, "standing", f"{serial}, {START + DAY}, 'G'", count, [f"UPDATE kept SET n_good = {count}"])
+    before, after = moment_of(START + DAY), moment_of(START + DAY + 1)
+    good, expired = f"good {count} revoked 0 expired 0", f"good 0 revoked 0 expired {count}"
+    pairs = [
+        (f"{FIRST} counts", good), (f"{after} counts", expired), (f"{before} subscriber a", "subscriber 2"), (f"{before} counts", good),
+        (f"{after} subscriber b", "subscriber 3"), (f"{after} counts", expired),
+    ]  # fmt: skip
+    ran(t, pairs, "ca.db")
+    t.same(t.sql("ca.db", "SELECT state, count(*) FROM standing GROUP BY 1"), [("X", count)], "the states")
+    t.same(t.sql("ca.db", "SELECT n_good, n_revoked, n_expired FROM kept"), [(0, 0, count)], "the counts")
+
+
+@test(seconds=12)
+def sixty_six_thousand_revocations(t):
+    """A register of version 1 becomes one of version 3, and issues CRLs with all revocations, until the certificates have ended. Then another
+    register is compared with a CRL, and lacks all of its entries."""
+    count, overdue = 66_000, 2_000
+    end, last, gone = START + 100 * DAY, START + 5 * DAY, START + 2 * DAY
+    certs = [(serial_of(at), at, START, end) for at in range(1, count + 2)]
+    requests = [(id, certs[id - 1][0], 6, START + id // 2, 0) for id in range(1, count + 1)]
+    requests += [(id, certs[-1][0], 6, START + DAY, 0) for id in range(count + 1, count + 1 + overdue)]
+    registers.make(t.room / "ca.db", Rows(certs, requests, [(row[1], gone, 4, row[0], 1) for row in requests[:count]], last), 1)
+    good, later = f"good 1 revoked {count} expired 0", f"good 0 revoked {count} expired 1"
+    pairs = [
+        (last, "counts", good), (last, "overdue", f"overdue {overdue} first {count + 1}"), (last, "next-crl", "next-crl at-once"),
+        (last, "crl", f"crl 1 entries {count}"), (last, "next-crl", f"next-crl {moment_of(last + 7 * DAY)}"),
+        (last, f"listing {certs[-2][0].hex()}", "listing first 1"), (end + 1, "crl", f"crl 2 entries {count}"), (end + 1, "crl", "crl 3 entries 0"),
+        (end + 1, "counts", later), (end + 1, f"listing {certs[0][0].hex()}", "listing first 1 last 2"),
+    ]  # fmt: skip
+    ran(t, [(f"{moment_of(at)} {line}", reply) for at, line, reply in pairs], "ca.db")
+    serials = sorted(row[0] for row in certs[:count])
+    sample = registers.entry(serials[0], gone, 4)
+    at = sample.index(serials[0])
+    entries = b"".join(sample[:at] + serial + sample[at + 20 :] for serial in serials)
+    crls = [registers.sealed_with(number, *it) for number, it in enumerate(((last, entries), (end + 1, entries), (end + 1, b"")), 1)]
+    for (got,), wanted in zip(t.sql("ca.db", "SELECT der FROM crl ORDER BY number"), crls, strict=True):
+        like(t, got, wanted, "a CRL")
+    t.same(t.sql("ca.db", "SELECT first_crl, last_listed, count(*) FROM listed GROUP BY 1, 2"), [(1, 2, count)], "the entries")
+    t.same(t.sql("ca.db", "SELECT state, count(*) FROM standing GROUP BY 1"), [("R", count), ("X", 1)], "the states")
+    (t.room / "published.crl").write_bytes(crls[1])
+    t.register("other.db")
+    t.clock(end + 1)
+    told = t.desk("open", "other.db", "--port", program.free_port(), "--control", "other", "--unsigned", "--published", "published.crl")
+    t.same((told.status, told.err), (1, b"behind-crl\n"), "status and standard error of a desk that lacks all")
+    like(t, told.out.decode(), "missing crl 2\n" + "".join(f"missing revocation {it.hex()}\n" for it in serials), "what that desk lacks")
 
 
 @test
@@ -234,6 +360,8 @@ def long_rows_are_refused_alone(t):
     replies = [*["E22 syntax"] * 3, "registered"]
     t.register("other.db", lines=f"{FIRST} subscriber acme\n{FIRST} order 1 398\n")
     t.same(t.desk("import", "other.db", "--now", FIRST, given=rows).lines, replies, "an import")
+    ran = t.desk("import", "other.db", "--now", FIRST, "--strict", given=f"1,05,{FIRST},{FIRST}\n" + "x" * 6_000_000)
+    t.same((ran.status, ran.lines, ran.err), (3, ["same"], b"no-line-end\n"), "a strict import whose last line has no end")
     t.open()
     (t.room / "rows.csv").write_text(rows)
     t.same(t.desk("at", "control", "--import", "rows.csv").lines, replies, "an import at the control socket")
@@ -381,6 +509,27 @@ def an_audit_of_a_crl_with(t, octets, signature, is_sound):
     ran = t.desk("audit", "ca.db")
     wanted = SOUND.format(0, 0, 1) if is_sound else OTHER_BYTES
     t.same((ran.status, ran.out.decode()), (0 if is_sound else 1, wanted))
+
+
+@test
+def the_longest_name_and_key(t):
+    """A Name has at most 1,024 octets, and a key 2,048."""
+    name, key = name_of(1_024), bytes(range(256)) * 8
+    for words in ((name_of(1_025), key), (name, key + b"k")):
+        told = t.desk("init", "ca.db", "--name", words[0].hex(), "--key", words[1].hex())
+        t.same((told.status, told.out, told.err), (1, b"", b"bad-issuer\n"), f"a Name of {len(words[0])} octets and a key of {len(words[1])}")
+    lines = ("subscriber acme", "order 1 398", f"register 1 05 {FIRST} {FIRST}", "crl")
+    t.register(name=name.hex(), key=key.hex(), lines="".join(f"{FIRST} {it}\n" for it in lines))
+    t.same(t.done("audit", "ca.db"), SOUND.format(1, 0, 1))
+    for hashed, algorithm in ((hashlib.sha1, der.SHA1), (hashlib.sha256, bytes.fromhex("300D06096086480165030402010500"))):
+        asked_for = cert_id(algorithm, hashed(name).digest(), hashed(key).digest())
+        told = t.done("script", "ca.db", given=f"{FIRST} ocsp {ocsp_request(asked_for).hex()}\n")
+        t.has(told, asked_for[2:].hex() + "8000", "the answer, by which the certificate is good")
+    t.has(t.desk("crl", "ca.db").out, name, "the CRL")
+    t.clock(START)
+    desk = t.open()
+    head, *_ = page_of(t, parted(desk.ask("GET", "/changes"))[2])
+    t.has(head.decode(), f"\nissuer {name.hex()} {key.hex()}\n", "the head of a page of the changes feed")
 
 
 @test(seconds=3)
