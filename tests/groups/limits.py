@@ -2022,9 +2022,9 @@ def a_register_that_grows_while_it_is_open_is_read_once(t):
 
 @test(seconds=2)
 def a_copy_takes_little_memory(t):
-    """A register of 160 MB is copied page by page, by a program that may have 32 MB."""
+    """A register of 270 MB and more than 65,536 pages is copied page by page, by a program that may have 32 MB."""
     t.register(lines=f"{DAY} crl\n{DAY} crl\n")
-    t.sql("ca.db", "UPDATE crl SET der = zeroblob(160000000) WHERE number = 1")
+    t.sql("ca.db", "UPDATE crl SET der = zeroblob(270000000) WHERE number = 1")
     ran = t.tried("prlimit", "--as=32000000", program.program(), "copy", "ca.db", "copy.db")
     t.same((ran.returncode, ran.stdout.split()[:1], ran.stderr), (0, [b"copied"], b""), "status, the first word of the output, and standard error")
 
