@@ -12,7 +12,7 @@ from concurrent.futures import ThreadPoolExecutor
 
 from groups.changes import COUNTED, GROUNDS, Tables, asked
 from groups.identifiers import name_of
-from groups.limits import asks, full_queue
+from groups.limits import asks, full_queue, have_passed
 from groups.lists import FIELDS
 from groups.monitoring import metrics, of
 from groups.persistent import Keeping, is_own
@@ -31,6 +31,13 @@ DAY = "2026-01-01T00:00:00Z"
 SIGNING = ("--signer", "ca.sign", "--algorithm", "ecdsa-sha256")
 COUNTS = b"GET /counts HTTP/1.1\r\n\r\n"
 SECONDS = 86_400
+
+
+def unhurried(t, **how):
+    """The environment of a desk for which no time passes, so that no client and no signature is late, however slow the machine is."""
+    have_passed(t, 0)
+    return faults.environment(passed=t.room / "passed", **how)
+
 
 # A register of 20,000 certificates
 
@@ -606,7 +613,7 @@ def long_answers_have_a_long_certificate_and_a_signature(t):
     own = certificate(P256_KEY, 65_536)
     (t.room / "ocsp.der").write_bytes(own)
     words = ("--responder", "ocsp.der", "--responder-signer", "ocsp.sign", "--responder-algorithm", "ecdsa-sha256")
-    desk = t.open("ca.db", *SIGNING, *words)
+    desk = t.open("ca.db", *SIGNING, *words, faults=unhurried(t))
     found = metrics(t, desk)
     t.same(found["desk_responder_certificate_not_after_timestamp_seconds"], registers.START + 300 * SECONDS, "notAfter in the metrics")
 
@@ -652,7 +659,7 @@ def a_long_signature_comes_octet_by_octet(t):
     t.register(key=LONGEST_RSA_KEY)
     t.clock(DAY)
     words = ["--signer", "ca.sign", "--algorithm", "rsa-sha256"]
-    desk = t.open("ca.db", *words, faults=faults.environment(short=1, only="socket"))
+    desk = t.open("ca.db", *words, faults=unhurried(t, short=1, only="socket"))
     for at in range(3):
         body = parted(desk.ask("POST", "/ocsp", asks(1)))[2]
         t.true(authority.signed_part(authority.basic_of(body))[2] == signature, f"answer {at} has no signature")
@@ -684,7 +691,7 @@ def more_requests_than_65536_of_one_desk(t):
     signer = t.enter_context(Keeping(t.room / "ca.sign", lambda message: frame(ANY_SIGNATURE)))
     t.register(key=P256_KEY)
     t.clock(DAY)
-    desk = t.open("ca.db", *SIGNING, "--log-file", "ca.log")
+    desk = t.open("ca.db", *SIGNING, "--log-file", "ca.log", faults=unhurried(t))
     with t.control() as control:
         t.same(control.ask("crl"), "crl 1 entries 0")
     others = {
@@ -765,7 +772,7 @@ def a_thousand_crls_answers_and_failures_of_lines(t):
     t.register(key=P256_KEY)
     t.clock(DAY)
     count, line = 1_001, f"ocsp {asks(1).hex()}"
-    desk = t.open("ca.db", *SIGNING, faults=faults.environment())
+    desk = t.open("ca.db", *SIGNING, faults=unhurried(t))
     with t.control() as control:
 
         def replies_to(*lines):
@@ -822,7 +829,7 @@ def a_thousand_requests_for_revocation_over_http(t):
     t.register(lines="".join(f"{it}\n" for it in lines))
     now = registers.START
     t.clock(now)
-    desk = t.open("ca.db", faults=faults.environment())
+    desk = t.open("ca.db", faults=unhurried(t))
     for id in range(1, 3 * count + 1):
         if id % 100 == 1:
             now += 60
