@@ -280,6 +280,19 @@ def a_request_has_30_seconds_to_be_whole(t):
 
 
 @test
+def a_request_has_30_seconds_on_a_machine_that_runs_for_weeks(t):
+    """After 49.7 days, the machine's milliseconds need more than 32 bits."""
+    entered(t)
+    desk = Passing(t)
+    desk.advance(2**32 - 10_000 - desk.millis)
+    slow = desk.comes(COUNTS[:9])
+    desk.advance(20_000)
+    desk.loses()
+    desk.advance(20_000)
+    desk.loses(slow, why="late")
+
+
+@test
 def a_request_in_pieces_has_30_seconds_in_all(t):
     """More bytes of the request do not extend the timeout."""
     entered(t)
