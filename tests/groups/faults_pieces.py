@@ -94,6 +94,17 @@ def a_register_s_file_in_pieces_is_a_failure_that_loses_nothing(t, size):
     t.same(t.done("script", "ca.db", given=f"{DAY} subscriber b\n"), "subscriber 2\n")
 
 
+@each({"4,095 bytes": 4_095, "a hundred bytes": 100})
+def a_register_that_is_only_read_in_pieces_is_read_whole(t, size):
+    """An audit and a copy read on where a read ended."""
+    t.register(lines="".join(f"{asked}\n" for asked, _ in REGISTERED))
+    ran, _ = faults.run(t, ["audit", "ca.db"], only="ca.db", short=size)
+    t.same((ran.status, ran.out, ran.err), (0, b"sound, 1 certificates, 0 revoked, 0 CRLs\n", b""))
+    ran, _ = faults.run(t, ["copy", "ca.db", "copy.db"], only="ca.db", short=size)
+    t.same((ran.status, ran.err), (0, b""))
+    t.same((t.room / "copy.db").read_bytes(), (t.room / "ca.db").read_bytes(), "the copy")
+
+
 @each({"fails": "", "fails from then on": "+"}, seconds=4)
 def a_read_of_a_script_fails(t, how):
     base = t.register("base.db")
