@@ -1920,6 +1920,22 @@ def a_log_that_is_a_link_is_not_read(t):
         t.same((ran.status, ran.out, ran.err), (1, b"", b"F2 store\n"), program.shown(words))
 
 
+@each({"an audit": ["audit", "ca.db"], "a copy": ["copy", "ca.db", "copy.db"]})
+def a_log_that_may_not_be_read_is_not_passed_over(t, words):
+    """Without its log, the register lacks the last commands."""
+    t.register()
+    desk = t.open()
+    t.same(t.control().ask("subscriber acme"), "subscriber 1")
+    desk.end(signal.SIGKILL)
+    os.chmod(t.room / "ca.db", 0o644)
+    os.chmod(t.room / "ca.db-wal", 0)
+    t.as_nobody("--version")
+    os.chmod(t.room, 0o777)
+    ran = t.as_nobody(*words)
+    t.same((ran.returncode, ran.stdout, ran.stderr), (1, b"", b"F2 store\n"))
+    t.same((t.room / "copy.db").exists(), False, "whether there is a copy")
+
+
 @test
 def each_log_has_salts_of_its_own(t):
     """Without them, frames that an earlier log left behind could pass for those of a later one (SQLite's file format, 4.1)."""
@@ -2027,6 +2043,14 @@ def a_copy_takes_little_memory(t):
     t.sql("ca.db", "UPDATE crl SET der = zeroblob(270000000) WHERE number = 1")
     ran = t.tried("prlimit", "--as=32000000", program.program(), "copy", "ca.db", "copy.db")
     t.same((ran.returncode, ran.stdout.split()[:1], ran.stderr), (0, [b"copied"], b""), "status, the first word of the output, and standard error")
+
+
+@test(seconds=2)
+def a_long_script_without_a_file_takes_little_memory(t):
+    """The log of a register in memory is emptied again and again: ten thousand commands run in a program that may have 32 MB."""
+    lines = "".join(f"{DAY} subscriber name{at}\n" for at in range(10_000))
+    ran = t.tried("prlimit", "--as=32000000", program.program(), "script", given=lines)
+    t.same((ran.returncode, ran.stdout.count(b"subscriber "), ran.stderr), (0, 10_000, b""), "status, accepted commands, and standard error")
 
 
 @test
