@@ -245,6 +245,16 @@ def a_reply_that_is_cut_off_is_not_printed(t, replies, lines):
 
 
 @test
+def a_row_that_fails_ends_nothing(t):
+    """The rows behind it are revoked."""
+    (t.room / "rows.csv").write_text("01,superseded\n02,superseded\n03,superseded\n")
+    received, _ = standing_in(t.room / "control", ["F2 store\n", "request 7 due x\n", "F1 memory\n", "request 8 due x\n", "revoked\n"])
+    ran = t.desk("at", "control", "--revoke", "rows.csv")
+    t.same((ran.status, ran.out, ran.err), (3, b"F2 store\nF1 memory\nrevoked\n", b"refused\n"))
+    t.same(received[-1], f"revoke 8 {3:040x}\n")
+
+
+@test
 def a_refused_revocation_is_reported(t):
     (t.room / "rows.csv").write_text("01,superseded\n")
     received, _ = standing_in(t.room / "control", ["request 7 due x\n", "E18 declined-before\n"])
