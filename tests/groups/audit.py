@@ -296,6 +296,18 @@ FULL = "".join(
 )  # fmt: skip
 
 
+@test
+def a_row_is_named_by_its_place_in_its_table(t):
+    """The certificates were registered in another order than that of their serial numbers."""
+    day = "2026-01-01T00:00:00Z"
+    entered = (it for at, serial in enumerate(("0c", "0a", "0b"), 1) for it in ("order 1 10", f"register {at} {serial} {day} 2026-01-10T00:00:00Z"))
+    t.register(lines="".join(f"{day} {it}\n" for it in ("subscriber acme", *entered)))
+    for at in (1, 2, 3):
+        alter(t, f"UPDATE standing SET not_after = not_after + 1 WHERE rowid = {at}")
+        t.same(audited(t), (1, f"broken: standing {at}: differs from the records, or a row with a lower serial number is missing\n", "broken\n"))
+        alter(t, f"UPDATE standing SET not_after = not_after - 1 WHERE rowid = {at}")
+
+
 @each({statement: (statement, line) for statement, line in TOLD})
 def each_broken_row_has_its_line(t, statement, line):
     t.register(lines=FULL)
