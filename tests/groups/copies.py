@@ -118,6 +118,8 @@ IN_THE_WAY = {
     "a link that leads nowhere": (a_link_to_nowhere, ""),
     "a log": (a_file, "-wal"),
     "a journal": (a_file, "-journal"),
+    "a link at a log's path that leads nowhere": (a_link_to_nowhere, "-wal"),
+    "a link at a journal's path that leads nowhere": (a_link_to_nowhere, "-journal"),
     "another copy under way": (a_file, ".part"),
 }
 
