@@ -11,7 +11,7 @@ import subprocess
 import threading
 import time
 
-from lib import authority, program
+from lib import authority, program, registers
 from lib.trial import Skipped, each, need, test
 
 DAY = "2026-01-01T00:00:00Z"
@@ -269,6 +269,14 @@ def a_long_script_shows_its_progress_on_a_terminal(t):
 def no_progress_is_shown_without_a_terminal(t):
     t.register()
     t.same(len(t.done("script", "ca.db", given=f"{DAY} subscriber acme\n" + f"{DAY} order 1 398\n" * 2_000).splitlines()), 2_001)
+
+
+@test(seconds=2)
+def a_command_comes_after_the_end_of_thousands_of_certificates(t):
+    """All have ended since the last command."""
+    registers.make(t.room / "ca.db", registers.Records(5_000, 0, 5_000), 3)
+    later = "2026-06-01T00:00:00Z"
+    t.same(t.done("script", "ca.db", given=f"{later} subscriber second\n{later} counts\n"), "subscriber 2\ngood 0 revoked 1 expired 4999\n")
 
 
 # Causes
