@@ -669,14 +669,14 @@ def ten_seconds_of_a_line_end_although_nothing_else_happens(t):
             t.same(crl.result(), "F3 signer")
 
 
-@each({"at the last command": DAY, "more than 30 days after it": "2026-02-01T00:00:01Z"}, seconds=3)
-def an_ocsp_line_delays_no_http_request(t, moment):
+@each({"at the last command": (DAY, str), "more than 30 days after it": ("2026-02-01T00:00:01Z", str), "in capital letters": (DAY, str.upper)}, seconds=3)
+def an_ocsp_line_delays_no_http_request(t, moment, letters):
     """If the clock is too far ahead, only commands are refused. An `ocsp` line is signed as before."""
     held = Held(t)
     desk = certified(t)
     t.clock(moment)
     with ThreadPoolExecutor(1) as pool, t.control() as control:
-        line = pool.submit(control.ask, f"ocsp {asked_for(0x1111).hex()}")
+        line = pool.submit(control.ask, f"ocsp {letters(asked_for(0x1111).hex())}")
         t.true(held.signers.until(1), "the answer's signature is not requested")
         quick(t, desk)
         t.same(line.done(), False, "whether the line is answered")
