@@ -56,6 +56,16 @@ def lines_in_pieces_of_one_byte_are_answered_each_on_its_connection(t):
 
 
 @test
+def commands_after_2038(t):
+    """The seconds since 1970 then have more than 31 bits. The desk compares the clock with the last command before it runs another one."""
+    t.register()
+    t.clock("2038-01-19T03:14:08Z")
+    t.open()
+    with t.control() as control:
+        t.same([control.ask(it) for it in ("subscriber acme", "order 1 30", "crl", "next-crl")], ["subscriber 1", "order 1", "crl 1 entries 0", "next-crl 2038-01-26T03:14:08Z"])
+
+
+@test
 def an_end_of_line_with_a_cr_is_the_same(t):
     opened(t)
     control = t.control()
