@@ -768,6 +768,14 @@ def desk_serve_seldom_wakes_up_while_it_waits_for_a_client(t):
 
 
 @test(seconds=2)
+def desk_serve_seldom_wakes_up_while_its_last_client_is_silent(t):
+    t.register()
+    desk = t.open("ca.db", "--requests", 1, command="serve", faults=faults.environment(count=t.room / "count"))
+    a_silent_client(t, desk)
+    seldom_wakes_up(t, 8)
+
+
+@test(seconds=2)
 def a_desk_polls_at_most_a_thousand_times_for_a_signature_before_it_waits(t):
     """The signer hangs. Polls without waiting take processor time."""
     polls = lambda: faults.counted(t.room / "count")["poll"]
@@ -1669,6 +1677,27 @@ def a_signer_whose_queue_stays_full_has_ten_seconds(t, waits, fault):
             # After two answers, the event loop has made a whole iteration since the time was set.
             t.same([parted(desk.send(COUNTS))[0] for _ in range(2)], [200, 200])
         t.same(reply.result(20), fault)
+
+
+@test
+def a_line_has_ten_seconds_although_its_signer_has_no_room_at_first(t):
+    """After six seconds there is room in the queue. The signer then reads the message and does not answer it."""
+    t.register(key=P256_KEY)
+    have_passed(t, 0)
+    connects = lambda: faults.counted(t.room / "count")["connect"]
+    with ThreadPoolExecutor(1) as pool, full_queue(t) as server:
+        t.open("ca.db", *SIGNING, faults=faults.environment(passed=t.room / "passed", count=t.room / "count"))
+        reply = pool.submit(t.control().ask, "crl")
+        authority.until(connects, "the desk to ask the signer")
+        have_passed(t, 6_000)
+        server.accept()[0].close()
+        client, _ = server.accept()
+        with client:
+            t.true(read_all(client), "the message is empty")
+            have_passed(t, 10_000)
+            # The desk looks four times a second whether the ten seconds are over.
+            authority.until(reply.done, "the reply after ten seconds", seconds=5)
+        t.same(reply.result(), "F3 signer")
 
 
 @test
