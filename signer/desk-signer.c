@@ -40,6 +40,10 @@ static const long long SECOND = 1000000000, PATIENCE = 10 * SECOND;
 /* For so many nanoseconds a process polls for the message of a new client, or for the next client, before it sleeps: waking up takes time. */
 static const long long MESSAGE_DUE = 50000;
 static long long client_due = 300000;
+/* If more than FEW connections had a message within the last RECENT nanoseconds, a process sleeps instead of polling for the next one. Such clients
+ * have other work meanwhile, and need the processor. */
+enum { FEW = 2 };
+static const long long RECENT = 1000000;
 /* For so many nanoseconds a process leaves a new client to those with fewer persistent connections. */
 static const long long LEFT_TO_OTHERS = 10000000;
 
@@ -371,12 +375,21 @@ static void handle_signals(const sigset_t *while_waiting) {
     (void)sigprocmask(SIG_SETMASK, &blocked, NULL);
 }
 
+/* Whether more than FEW connections had a message lately. */
+static bool are_many(long long now) {
+    int lately = 0;
+    for (size_t i = 0; i < count && lately <= FEW; i++)
+        lately += now - open_ones[i]->arrived < RECENT;
+    return lately > FEW;
+}
+
 /* Waits for clients. A client whose signature must wait only ends the wait when it disconnects. */
 static void wait_for_clients(const sigset_t *signals) {
     struct pollfd polled[CONNECTIONS + 1];
     const struct connection *slow = oldest(INCOMPLETE);
     long long now = nanoseconds();
-    bool is_message_due = slow && now - last_arrival < MESSAGE_DUE, is_client_due = last_gap < client_due && now - last_end < client_due;
+    bool is_message_due = slow && now - last_arrival < MESSAGE_DUE;
+    bool is_client_due = last_gap < client_due && now - last_end < client_due && !are_many(now);
     bool draws = !is_message_due && wants_nonce(&signer) && now - last_end < SECOND;
     long long wait = is_message_due || is_client_due || draws ? 0 : wait_time(now, slow);
     struct timespec timeout = {wait / SECOND, wait % SECOND};

@@ -1085,6 +1085,26 @@ def it_polls_for_the_next_message(t):
     authority.until(lambda: state() == "S", "the signer to sleep after a millisecond")
 
 
+@each({"two": (2, "R"), "three": (3, "S")}, seconds=2)
+def it_polls_only_for_two_clients(t, number, wanted):
+    """With more than two connections that had a message within a millisecond, it sleeps as soon as it has answered. No time passes for it."""
+    if len(os.sched_getaffinity(0)) == 1:
+        raise Skipped("with a single processor the signer does not poll")
+    it = Authority(t)
+    (t.room / "passed").write_bytes(struct.pack("=Q", 1_000_000))
+    before = ["env", f"LD_PRELOAD={os.environ['DESK_FAULTS_LIBRARY']}", f"FAULTS_PASSED={t.room / 'passed'}"]
+    process = started(t, "--persistent", it.key, before=before)
+    clients = [persistent(t) for _ in range(number)]
+    for _ in range(3):
+        for client in clients:
+            t.true(asked(client, b"a message"), "no signature")
+    state = lambda: Path(f"/proc/{process.pid}/stat").read_text().rpartition(") ")[2][0]
+    if wanted == "S":
+        authority.until(lambda: state() == "S", "the signer to sleep")
+    else:
+        t.same({state() for _ in range(1000)}, {"R"}, "its states after the messages")
+
+
 @each({"with nonces": (), "without nonces, which libcrypto does not draw": ("NO_NONCES=1",)}, seconds=2)
 def on_the_only_processor_it_does_not_poll(t, *variables):
     """There it sleeps as soon as it has answered, because polling would keep the client from running. No time passes for it."""
