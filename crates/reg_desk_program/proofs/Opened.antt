@@ -6,8 +6,8 @@ use Rattle.reg_office_api.specs.Signers.{Responder}
 use Rattle.reg_crl.specs.Signing.{Identity}
 use Rattle.reg_desk_service.specs.Signers.{EmbeddedKeyFits}
 use Rattle.reg_desk_service.specs.declared.crl_signer.CrlSignerChoice.{CrlSignerChoice}
-use Rattle.reg_office.specs.Answering.{answers_by}
-use Rattle.reg_office.specs.declared.responder.Responder.{Responder as Held_by}
+use Rattle.reg_office_reads.specs.Answering.{answers_by}
+use Rattle.reg_office_reads.specs.declared.responder.Responder.{Responder as Held_by}
 use Rattle.reg_desk_program.specs.StoreSigners.{FitsRegister}
 use Rattle.reg_store_tables.specs.Stays.{Looked}
 

@@ -37,7 +37,7 @@ use Rattle.reg_office.specs.AfterStoppedCommand.{LeavesThese, LeavesReported}
 use Rattle.reg_office.specs.Calls.{seen}
 use Rattle.reg_office.specs.Stands.{Stands}
 use Rattle.reg_office.specs.declared.office.Office.{Office}
-use Rattle.reg_office.specs.declared.responder.Responder.{Responder}
+use Rattle.reg_office_reads.specs.declared.responder.Responder.{Responder}
 use Rattle.reg_desk_service.specs.Signers.{EmbeddedKeyFits, Follows, IsSigning}
 use Rattle.reg_desk_service.specs.declared.crl_signer.CrlSignerChoice.{CrlSignerChoice}
 

@@ -8,7 +8,7 @@ ghost use Rattle.reg_core.specs.Records.{Records};
 ghost use Rattle.reg_core.specs.Sound.{SoundRows};
 ghost use Rattle.reg_desk_service.specs.RegisterFailures.{IsOpenFailure};
 ghost use Rattle.reg_desk_service.specs.Signers.{MayFollow, identity_of_signer};
-ghost use Rattle.reg_office.specs.Answering.{answers_by};
+ghost use Rattle.reg_office_reads.specs.Answering.{answers_by};
 ghost use Rattle.reg_crl_signer.specs.Forms.{identity_of};
 ghost use Rattle.reg_crl_signer.specs.RegisterSigners.{register_signer_path};
 ghost use Rattle.reg_crl_signer.specs.Signed.{IsCrlWithAlgorithm};

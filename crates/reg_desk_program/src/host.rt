@@ -119,7 +119,7 @@ impl<'a> Machine for SystemHost<'a> {
     ghost use Rattle.reg_crl.specs.Signing.{Identity};
     ghost use Rattle.reg_desk_files.specs.Overlaid.{image};
     ghost use Rattle.reg_desk_service.specs.Signers.{IsAnswering};
-    ghost use Rattle.reg_office.specs.Answering.{signers_of};
+    ghost use Rattle.reg_office_reads.specs.Answering.{signers_of};
     ghost use Rattle.reg_desk_program.specs.Files.{IsAuditOf, IsConnection, IsMadeFrom, OpensFor};
 
     type Office = FileOffice;

@@ -6,7 +6,7 @@ ghost use Rattle.sqlite.specs.Files.{file_state, over_files, IsOpened};
 ghost use Rattle.sqlite.specs.State.{HasCleanDisk};
 ghost use Rattle.reg_office.specs.AfterStoppedCommand.{LeavesReported};
 ghost use Rattle.reg_office.specs.Stands.{Stands};
-ghost use Rattle.reg_office.specs.declared.responder.Responder.TheVariants.{Issuer as ByIssuer};
+ghost use Rattle.reg_office_reads.specs.declared.responder.Responder.TheVariants.{Issuer as ByIssuer};
 ghost use Rattle.reg_desk_jobs.specs.Digest.{digests};
 ghost use Rattle.reg_desk_service.specs.RegisterFailures.{IsCreateFailure};
 ghost use Rattle.reg_desk_jobs.specs.Sample.{sample_records};

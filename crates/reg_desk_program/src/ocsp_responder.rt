@@ -4,7 +4,7 @@ ghost use Rattle.std.specs.Prelude.{◌≡◌, ◌⊎◌, IsTrue, IfOk, IfErr, O
 ghost use Rattle.reg_crl.specs.Signing.{Identity};
 ghost use Rattle.reg_desk_service.specs.RegisterFailures.{IsOpenFailure};
 ghost use Rattle.reg_desk_service.specs.Signers.{EmbeddedKeyFits, HasCertificate, IsAnswering, IsDelegate};
-ghost use Rattle.reg_office.specs.Answering.{answers_by, signers_of};
+ghost use Rattle.reg_office_reads.specs.Answering.{answers_by, signers_of};
 ghost use Rattle.reg_desk_cli.specs.declared.job.ResponderChoice.TheVariants.{Issuer};
 
 use crate::crl_signer::key_signer;

@@ -3,9 +3,9 @@
 ghost use Rattle.std.specs.Prelude.{◌≡◌, None, false, IfOk, IfErr};
 ghost use Rattle.reg_core.specs.Records.{no_records};
 ghost use Rattle.reg_desk_service.specs.RegisterFailures.{IsCreateFailure, IsOpenFailure};
-ghost use Rattle.reg_office.specs.Answering.{signers_of};
+ghost use Rattle.reg_office_reads.specs.Answering.{signers_of};
 ghost use Rattle.reg_office.specs.Calls.{seen};
-ghost use Rattle.reg_office.specs.declared.responder.Responder.TheVariants.{Issuer as ByIssuer};
+ghost use Rattle.reg_office_reads.specs.declared.responder.Responder.TheVariants.{Issuer as ByIssuer};
 ghost use Rattle.reg_desk_program.specs.Files.{MakesOver, OpensOver};
 
 use crate::crl_signer::signer_for;

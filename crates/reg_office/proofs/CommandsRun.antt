@@ -30,10 +30,10 @@ use Rattle.reg_core_laws.proofs.PublicLaws.{accepted_clock, step_accepted, step_
 use Rattle.reg_store_tables.proofs.PublicLaws.{after_look, after_looked, was_clean}
 use Rattle.reg_office.specs.AfterStoppedCommand.{Does}
 use Rattle.reg_office.specs.Commands.{IsCommandRun}
-use Rattle.reg_office.specs.Faults.{IsOfficeFault, IsTableFault}
-use Rattle.reg_office.specs.Looking.{IsAcceptance, IsDecidedOr}
+use Rattle.reg_office_reads.specs.Faults.{IsOfficeFault, IsTableFault}
+use Rattle.reg_office_reads.specs.Looking.{IsAcceptance, IsDecidedOr}
 use Rattle.reg_office.specs.Stands.{Stands, HasOutcome}
-use Rattle.reg_office.proofs.Composing.{of_failure}
+use Rattle.reg_office_reads.proofs.PublicLaws.{of_failure}
 use Rattle.reg_office.proofs.Following.{step_keeps_sound_for}
 use Rattle.reg_office.proofs.RegisterSummary.{changed_failed, changed_made, looked_failed, never_signer, office_fault, stands_looked}
 

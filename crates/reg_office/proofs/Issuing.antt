@@ -22,10 +22,10 @@ use Rattle.reg_store_tables.specs.Faults.{fault_of}
 use Rattle.reg_store_tables.specs.declared.fault.DatabaseFault.{DatabaseFault}
 use Rattle.reg_office_api.specs.Answered.{IsGiven}
 use Rattle.reg_office_api.specs.Items.{items_of}
-use Rattle.reg_office.specs.Faults.{IsMakingFault, IsOfficeFault, IsSigningFault}
+use Rattle.reg_office_reads.specs.Faults.{IsMakingFault, IsOfficeFault, IsSigningFault}
 use Rattle.reg_office.specs.Issuing.{IsNextOf}
 use Rattle.reg_office.proofs.CommandsRun.{MayChange}
-use Rattle.reg_office.proofs.Composing.{of_failure}
+use Rattle.reg_office_reads.proofs.PublicLaws.{of_failure}
 
 -- ---- the next CRL
 

@@ -24,18 +24,18 @@ use Rattle.reg_io.specs.declared.begun.ReadyOrUnsigned.{ReadyOrUnsigned}
 use Rattle.reg_io.specs.declared.begun.ReadyOrUnsigned.TheVariants.{Ready, Unsigned}
 use Rattle.reg_store_tables.specs.Stays.{Changed, Looked}
 use Rattle.reg_store_tables.proofs.PublicLaws.{kept_until, was_clean, ok_then}
-use Rattle.reg_office.proofs.Beginning.{draft_replied}
+use Rattle.reg_office_reads.proofs.PublicLaws.{draft_replied}
 use Rattle.reg_office.specs.AfterStoppedCommand.{ChangingCall, Does, command_call}
 use Rattle.reg_office.specs.Calls.{LeadsOver, OfficeLeads, OfficeLooks, OfficeStops, RanIn, StandsWith, StopsOver, seen}
-use Rattle.reg_office.specs.Beginning.{IsBegun, IsSignedBy}
-use Rattle.reg_office.specs.Faults.{IsTableFault}
+use Rattle.reg_office_reads.specs.Beginning.{IsBegun, IsSignedBy}
+use Rattle.reg_office_reads.specs.Faults.{IsTableFault}
 use Rattle.reg_store_tables.specs.LookUps.{LooksUp}
 use Rattle.reg_office.specs.Stands.{Stands, HasOutcome}
 use Rattle.reg_office_api.specs.Ocsp.{IsOcspReply}
 use Rattle.reg_office.proofs.Leaving.{leaves_done, leaves_looked}
-use Rattle.reg_office.specs.Answering.{signers_of}
+use Rattle.reg_office_reads.specs.Answering.{signers_of}
 use Rattle.reg_office.specs.declared.office.Office.{Office}
-use Rattle.reg_office.specs.declared.responder.Responder.{Responder as Held_by}
+use Rattle.reg_office_reads.specs.declared.responder.Responder.{Responder as Held_by}
 use Rattle.reg_office.proofs.RegisterSummary.{stands_looked}
 use Rattle.reg_office.proofs.Stopping.{Settles}
 

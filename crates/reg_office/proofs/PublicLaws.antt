@@ -1,5 +1,5 @@
 -- The lemmas for proofs of crates above: they cite these alone.
-pub use Rattle.reg_office.proofs.Composing.{of_failure}
+pub use Rattle.reg_office_reads.proofs.PublicLaws.{of_failure}
 pub use Rattle.reg_office.proofs.Following.{created_sound_for}
 pub use Rattle.reg_office.proofs.Issuing.{latest_in}
 pub use Rattle.reg_office.proofs.Interrupting.{one_of_them, only_itself}

@@ -13,7 +13,7 @@ use Rattle.reg_core.specs.declared.refusal.Fault.TheVariants.{Signer}
 use Rattle.reg_crl.specs.Signing.{Identity}
 use Rattle.reg_store_tables.specs.Stays.{Changed, IsRegister, Looked, Stays}
 use Rattle.reg_store_tables.proofs.PublicLaws.{after_look, stays_register, stays_then}
-use Rattle.reg_office.specs.Faults.{IsOfficeFault, IsTableFault}
+use Rattle.reg_office_reads.specs.Faults.{IsOfficeFault, IsTableFault}
 use Rattle.reg_office.specs.Stands.{Stands}
 
 -- what stood stands over a call that leaves a register's tables as they are

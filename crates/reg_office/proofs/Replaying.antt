@@ -34,7 +34,7 @@ use Rattle.reg_store_tables.specs.Stays.{Moves}
 use Rattle.reg_store_tables.specs.Steps.{WritesRows}
 use Rattle.reg_office.specs.Batches.{StandsWithin}
 use Rattle.reg_office.specs.Issuing.{IsNextOf}
-use Rattle.reg_office.specs.Looking.{IsAcceptance}
+use Rattle.reg_office_reads.specs.Looking.{IsAcceptance}
 use Rattle.reg_office.specs.Replays.{LeadsIf, LeadsWithin, MayTakeHead, with_feed_row}
 use Rattle.reg_office.specs.declared.feed_row.FeedRow.{FeedRow}
 use Rattle.reg_office.specs.Stands.{SoundFor}

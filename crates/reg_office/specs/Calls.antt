@@ -14,7 +14,7 @@ use Rattle.reg_core.specs.declared.refusal.Fault.TheVariants.{Refused}
 use Rattle.reg_crl.specs.declared.signer.Signer.{Ghosts as Signer}
 use Rattle.reg_store_tables.specs.Stays.{Looked}
 use Rattle.reg_office.specs.AfterStoppedCommand.{ChangingCall, LeavesReported}
-use Rattle.reg_office.specs.Answering.{failures_of, signers_of}
+use Rattle.reg_office_reads.specs.Answering.{failures_of, signers_of}
 use Rattle.reg_office.specs.Commands.{RunsCommand}
 use Rattle.reg_office.specs.Stands.{Stands}
 use Rattle.reg_office.specs.declared.office.Office.{Office}

@@ -15,7 +15,7 @@ use Rattle.reg_office_api.specs.Signers.{Signs}
 use Rattle.reg_store_changes.specs.WithinTransactions.{StaysIdle}
 use Rattle.reg_store_tables.specs.Stays.{Changed}
 use Rattle.reg_office.specs.AfterStoppedCommand.{Does}
-use Rattle.reg_office.specs.Faults.{IsOfficeFault}
+use Rattle.reg_office_reads.specs.Faults.{IsOfficeFault}
 use Rattle.reg_office.specs.Stands.{Stands, HasOutcome}
 
 -- The command had this outcome over the store's records, and the store shows the records after it. A stop leaves the records before the

@@ -5,10 +5,10 @@ ghost use Rattle.reg_office.specs.Batches.{HappensWithin, RunsWithin, StopsBatch
 ghost use Rattle.reg_office.specs.Calls.{SignsNothing};
 ghost use Rattle.reg_store_changes.specs.WithinTransactions.{StepsWithin};
 
-use crate::commands::decide;
 use crate::office::Office;
 use reg_core::{Command, Fault, Moment, Outcome, Refusal};
 use reg_crl::Signer;
+use reg_office_reads::decide;
 use sqlite::Alter;
 use std::alloc::Global;
 

@@ -14,7 +14,6 @@ ghost use Rattle.reg_office_api.specs.LookUps.{IsOfStore};
 ghost use Rattle.reg_store_changes.specs.WithinTransactions.{StaysIdle, StepsWithin};
 ghost use Rattle.reg_store_tables.specs.LookUps.{Learns, LooksUp};
 
-use crate::changes::digest_at;
 use crate::office::Office;
 use crate::replay::{Reached, same_octets};
 use crate::replay_order::none_replayed;
@@ -26,6 +25,7 @@ use reg_core_lists::{
 use reg_crl::Signer;
 use reg_der::{Issuer, IssuerFault};
 use reg_office_api::{FeedPart, FeedRule, FollowFault};
+use reg_office_reads::digest_at;
 use reg_store::{DatabaseFault, Table, Tables};
 use sqlite::Alter;
 use std::alloc::{AllocError, Global};
@@ -364,7 +364,7 @@ fn is_same_identifier(own: &Option<Label>, given: &Option<Label>) -> bool
 
 // ---- positions
 
-#[tactic(auto, using(crate::proofs::Composing::answer_of_fault))]
+#[tactic(auto, using(crate::proofs::StoreFaults::store_fault))]
 pub(crate) fn own_positions<C: Alter>(
     tables: &mut Tables<C>,
     alloc: Global,

@@ -1,22 +1,19 @@
 ghost use Rattle.std.specs.Prelude.{◌≡◌, None};
-ghost use Rattle.reg_office.specs.declared.responder.Responder.TheVariants.{Issuer};
+ghost use Rattle.reg_office_reads.specs.declared.responder.Responder.TheVariants.{Issuer};
 
-use crate::changes::changes_in;
-use crate::commands::decide;
 use crate::crls::{issue_crl, latest_der, next_message, numbered_der};
 use crate::follow::{no_page, own_positions};
 use crate::identifiers::set_key_identifier;
-use crate::ocsp_answer::{begin_ocsp, sign_draft};
-use crate::pages::page;
-use crate::queries::answer;
-use crate::register_state::{last_in, longest_in, open_count_in, request_load_in, summary_in};
-use crate::responder::{Responder, failures_in};
 use reg_core::{Command, Fault, Label, Memory, Moment, Outcome, Query, Refusal, Schedule, Serial};
 use reg_core_lists::{Cursor, Page, Positions, ReceivedPage};
 use reg_crl::Signer;
 use reg_io::ReadyOrUnsigned;
 use reg_ocsp::Draft;
 use reg_office_api::{Changes, FollowFault, OcspResponse, RegisterSummary, RequestLoad};
+use reg_office_reads::{
+    Responder, answer, begin_ocsp, changes_in, decide, failures_in, last_in, longest_in,
+    open_count_in, page, request_load_in, sign_draft, summary_in,
+};
 use reg_store::{DatabaseFault, Store};
 use sqlite::Alter;
 use std::alloc::Global;
@@ -95,10 +92,10 @@ impl<C: Alter, S: Signer> reg_office_api::Office for Office<C, S> {
     ghost use Rattle.reg_der.specs.Issuers.{with_key_identifier};
     ghost use Rattle.reg_store_tables.specs.Stays.{Changed, Stays};
     ghost use Rattle.reg_office.specs.AfterStoppedCommand.{IsIdentified, batch_call, command_call, identifier_call, schedule_call};
-    ghost use Rattle.reg_office.specs.Answering.{SignerHasFailed};
-    ghost use Rattle.reg_office.specs.Beginning.{IsBegun, RefusesRequest};
+    ghost use Rattle.reg_office_reads.specs.Answering.{SignerHasFailed};
+    ghost use Rattle.reg_office_reads.specs.Beginning.{IsBegun, RefusesRequest};
     ghost use Rattle.reg_office.specs.Calls.{OfficeLeads, OfficeLooks, OfficeStops, OfficeReports, RanIn, SignsNothing, StandsFor, StandsIn, answer_failures_in, seen};
-    ghost use Rattle.reg_office.specs.Faults.{IsTableFault};
+    ghost use Rattle.reg_office_reads.specs.Faults.{IsTableFault};
 
     ghost is_clean = { λ office. HasCleanDisk (state C.Store office.store) };
 

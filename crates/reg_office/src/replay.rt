@@ -12,7 +12,6 @@ ghost use Rattle.reg_office_api.specs.Follows.{FormsSign};
 ghost use Rattle.reg_store_changes.specs.WithinTransactions.{StepsWithin};
 ghost use Rattle.reg_store_tables.specs.LookUps.{LooksUp};
 
-use crate::commands::decide;
 use crate::crls::{listed, next_row};
 use crate::feed_row::FeedRow;
 use crate::office::Office;
@@ -23,6 +22,7 @@ use reg_core_lists::{FeedCrl, FeedRows, ReceivedPage};
 use reg_crl::{Signer, crl_tbs, crl_whole};
 use reg_der::{Issuer, take};
 use reg_office_api::{FeedPart, FeedRule};
+use reg_office_reads::decide;
 use reg_store::{DatabaseFault, Tables};
 use sqlite::Alter;
 use std::alloc::Global;

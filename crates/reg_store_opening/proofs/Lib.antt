@@ -1,3 +1,6 @@
+pub mod Steps
+pub mod Texts
+pub mod VersionNumbers
 pub mod SchemaTexts
 pub mod FirstRows
 pub mod FirstShown

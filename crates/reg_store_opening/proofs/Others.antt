@@ -6,7 +6,7 @@ use Rattle.sqlite.specs.State.{State, HasCleanDisk}
 use Rattle.reg_core.specs.Records.{Records}
 use Rattle.reg_store_tables.specs.Schema.{register_schema}
 use Rattle.reg_store_tables.specs.Stays.{IsRegister, Stays}
-use Rattle.reg_store_schema.specs.declared.versions.Version.{Version}
+use Rattle.reg_store_opening.specs.declared.versions.Version.{Version}
 use Rattle.reg_store_migration.specs.Older.{older_schema}
 use Rattle.reg_store_migration.specs.declared.version.OlderVersion.{OlderVersion}
 use Rattle.reg_store_opening.specs.Examined.{HasVersionAndOffice, IsFoundOf, found_version}

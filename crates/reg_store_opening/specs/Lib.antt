@@ -1,3 +1,4 @@
+pub mod Versions
 pub mod Blank
 pub mod VersionAndOffice
 pub mod Examined

@@ -30,8 +30,8 @@ use Rattle.reg_store_migration.specs.declared.version.OlderVersion.{OlderVersion
 use Rattle.reg_store_opening.specs.declared.sql.TheConstants.{VERSION, OFFICE, OLDER_OFFICE}
 use Rattle.reg_store_tables.specs.declared.fault.StoreFault.{StoreFault}
 use Rattle.reg_store_tables.specs.declared.fault.StoreFault.TheVariants.{Memory, NotARegister}
-use Rattle.reg_store_schema.specs.declared.versions.Version.{Version}
-use Rattle.reg_store_schema.specs.declared.versions.Version.TheVariants as version
+use Rattle.reg_store_opening.specs.declared.versions.Version.{Version}
+use Rattle.reg_store_opening.specs.declared.versions.Version.TheVariants as version
 use Rattle.reg_store_migration.specs.declared.version.OlderVersion.TheVariants.{First, Second}
 
 -- the error is out of memory, of the disk, of a closed connection, or of the limit on steps that the caller has set

@@ -4,8 +4,9 @@ ghost use Rattle.std.specs.Prelude.{◌≡◌, ◌↔◌, Some, false, IfOk, IsT
 ghost use Rattle.sqlite.specs.Held.{state};
 ghost use Rattle.reg_store_opening.specs.VersionAndOffice.{SchemaHasVersion, version_or_current};
 
+use crate::schemas::version_of;
+use crate::versions::Version;
 use reg_store_migration::OlderVersion;
-use reg_store_schema::{Version, version_of};
 use sqlite::{Alter, Connection};
 use std::alloc::{AllocError, Global};
 

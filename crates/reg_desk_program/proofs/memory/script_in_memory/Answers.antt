@@ -2,7 +2,7 @@ use Rattle.std.proofs.Common.{None, ap, inr}
 use Rattle.reg_desk_jobs.specs.Digest.{digest_alone}
 use Rattle.reg_desk_jobs.specs.Sample.{sample_records}
 use Rattle.reg_crl_signer.specs.KeyOrDigestSignatures.{digest}
-use Rattle.reg_office.specs.Answering.{signers_of}
+use Rattle.reg_office_reads.specs.Answering.{signers_of}
 use Rattle.reg_desk_files.specs.Overlaid.{file_below}
 use Rattle.reg_desk_program.proofs.Clean.{always_clean, honest_always}
 use Rattle.reg_desk_program.proofs.memory.script_in_memory.Goals as goal

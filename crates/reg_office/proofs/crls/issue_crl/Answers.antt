@@ -8,7 +8,7 @@ use Rattle.reg_crl.specs.Signing.{signed_by}
 use Rattle.reg_office.proofs.CommandsRun.{carried_out, fault_happens, not_carried_out, not_run}
 use Rattle.reg_office.proofs.Issuing.{making_happens, may_issue, office_of_making}
 use Rattle.reg_office.proofs.RegisterSummary.{never_signer, office_fault}
-use Rattle.reg_office.proofs.Looking.{lent}
+use Rattle.reg_office_reads.proofs.PublicLaws.{lent}
 use Rattle.reg_office.proofs.crls.issue_crl.Goals as goal
 
 pub returns-in_err-row : goal.returns-in_err-row

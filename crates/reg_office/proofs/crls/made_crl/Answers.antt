@@ -3,8 +3,8 @@ use Rattle.reg_crl.specs.Signing.{signed_by}
 use Rattle.reg_core_laws.proofs.PublicLaws.{entries_length}
 use Rattle.reg_store_tables.specs.Faults.{fault_of}
 use Rattle.reg_store_tables.proofs.PublicLaws.{by_none, gives_none, so}
-use Rattle.reg_office.specs.Faults.{IsMakingFault}
-use Rattle.reg_office.proofs.Composing.{of_failure, passed_on}
+use Rattle.reg_office_reads.specs.Faults.{IsMakingFault}
+use Rattle.reg_office_reads.proofs.PublicLaws.{of_failure, passed_on}
 use Rattle.reg_office.proofs.Issuing.{making_of_signing, signed_list}
 use Rattle.reg_office.proofs.crls.made_crl.Goals as goal
 

@@ -2,8 +2,8 @@ use Rattle.std.proofs.Common.{◌≡◌, ◌+◌, ℕ, ap, ◌∙◌, Ok, Err}
 use Rattle.reg_core.specs.declared.rows.Head.{Head}
 use Rattle.reg_core_laws.proofs.PublicLaws.{crl_decided}
 use Rattle.reg_store_tables.proofs.PublicLaws.{and_so, looked_then, so}
-use Rattle.reg_office.proofs.Deciding.{unsigned}
-use Rattle.reg_office.proofs.Looking.{decided_against, decided_for, not_decided}
+use Rattle.reg_office_reads.proofs.PublicLaws.{unsigned}
+use Rattle.reg_office_reads.proofs.PublicLaws.{decided_against, decided_for, not_decided}
 use Rattle.reg_office.proofs.crls.next_row.Goals as goal
 
 pub returns-in_err-head : goal.returns-in_err-head

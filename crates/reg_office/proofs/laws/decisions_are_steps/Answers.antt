@@ -1,6 +1,6 @@
 -- Each decision is a step, whoever signs.
 use Rattle.reg_crl.specs.Signing.{signed_by}
-use Rattle.reg_office.proofs.Deciding.{subscribers, orders, registrations, requests, declines, revocations, crls}
+use Rattle.reg_office_reads.proofs.PublicLaws.{subscribers, orders, registrations, requests, declines, revocations, crls}
 use Rattle.reg_office.proofs.laws.decisions_are_steps.Goals as goal
 
 pub returns-clause-subscribers : goal.returns-clause-subscribers

@@ -1,8 +1,8 @@
 use Rattle.std.proofs.Common.{◌≡◌, ◌↔◌, Option, None, Some, subst}
 use Rattle.sqlite_schema.specs.declared.schema.Schema.{Schema}
 use Rattle.reg_store_tables.proofs.PublicLaws.{params-ok_then as ok_then}
-use Rattle.reg_store_schema.specs.Versions.{version_schema}
-use Rattle.reg_store_schema.specs.declared.versions.Version.{Version}
+use Rattle.reg_store_opening.specs.Versions.{version_schema}
+use Rattle.reg_store_opening.specs.declared.versions.Version.{Version}
 use Rattle.reg_store_migration.specs.declared.version.OlderVersion.TheVariants.{First, Second}
 use Rattle.reg_store_opening.specs.VersionAndOffice.{SchemaHasVersion, version_or_current}
 use Rattle.reg_store_opening.proofs.schema_check.schema_version.Goals as goal

@@ -5,7 +5,7 @@ use Rattle.reg_der.specs.Authority.{name_of}
 use Rattle.reg_store_tables.specs.LookUps.{LooksUp}
 use Rattle.reg_store_changes.proofs.PublicLaws.{is_under_way, looked_step}
 use Rattle.reg_store_tables.proofs.PublicLaws.{so}
-use Rattle.reg_office.proofs.Looking.{lent}
+use Rattle.reg_office_reads.proofs.PublicLaws.{lent}
 use Rattle.reg_office.proofs.Replaying.{looked_leads}
 use Rattle.reg_office.proofs.office.Office.check_positions.Goals as goal
 

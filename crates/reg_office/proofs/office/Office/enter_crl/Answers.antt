@@ -5,7 +5,7 @@ use Rattle.reg_core.specs.declared.rows.CrlRow.{CrlRow}
 use Rattle.reg_crl.specs.Signing.{signed_by}
 use Rattle.reg_store_changes.proofs.PublicLaws.{looked_step, steps_then}
 use Rattle.reg_store_tables.proofs.PublicLaws.{under_before}
-use Rattle.reg_office.proofs.Looking.{lent}
+use Rattle.reg_office_reads.proofs.PublicLaws.{lent}
 use Rattle.reg_office.proofs.Replaying.{crl_leads, leads_if_as, signed_by_form}
 use Rattle.reg_office.proofs.office.Office.enter_crl.Goals as goal
 

@@ -2,7 +2,7 @@ use Rattle.std.proofs.Common.{rules}
 use Rattle.reg_core.specs.declared.change.Change.{Change}
 use Rattle.reg_core.specs.declared.command.Reply.{Reply}
 use Rattle.reg_store_changes.proofs.PublicLaws.{looked_step, steps_then}
-use Rattle.reg_office.proofs.Looking.{lent}
+use Rattle.reg_office_reads.proofs.PublicLaws.{lent}
 use Rattle.reg_office.proofs.Replaying.{row_leads}
 use Rattle.reg_office.proofs.office.Office.enter_row.Goals as goal
 

@@ -3,7 +3,7 @@ use Rattle.std.proofs.lemmas.Bool.{false≢true}
 use Rattle.reg_store_tables.proofs.PublicLaws.{looked_none}
 use Rattle.reg_office.proofs.FollowLookUps.{nothing_in}
 use Rattle.reg_office.proofs.Leading.{office_looks}
-use Rattle.reg_office.proofs.Looking.{lent}
+use Rattle.reg_office_reads.proofs.PublicLaws.{lent}
 use Rattle.reg_office.proofs.office.Office.have_news.Goals as goal
 
 pub returns-then-not-is_empty : goal.returns-then-not-is_empty

@@ -3,7 +3,7 @@ use Rattle.std.proofs.lemmas.Bool.{false≢true}
 use Rattle.reg_store_changes.proofs.PublicLaws.{is_under_way, looked_step}
 use Rattle.reg_store_tables.proofs.PublicLaws.{by_finding, so}
 use Rattle.reg_office.proofs.DeclinedTwice.{declined_again}
-use Rattle.reg_office.proofs.Looking.{lent}
+use Rattle.reg_office_reads.proofs.PublicLaws.{lent}
 use Rattle.reg_office.proofs.Replaying.{looked_leads}
 use Rattle.reg_office.proofs.office.Office.is_declined.Goals as goal
 

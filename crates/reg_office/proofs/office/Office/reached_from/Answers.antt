@@ -1,7 +1,7 @@
 use Rattle.std.proofs.Common.{◌≡◌, true, sym, ◌∙◌, rules}
 use Rattle.reg_store_changes.proofs.PublicLaws.{is_under_way, looked_step}
 use Rattle.reg_store_tables.proofs.PublicLaws.{by_finding}
-use Rattle.reg_office.proofs.Looking.{lent}
+use Rattle.reg_office_reads.proofs.PublicLaws.{lent}
 use Rattle.reg_office.proofs.Replaying.{leads_as, looked_leads}
 use Rattle.reg_office.proofs.office.Office.reached_from.Goals as goal
 

@@ -5,7 +5,7 @@ use Rattle.reg_core_lists.specs.Feed.{feed_crl_of}
 use Rattle.reg_store_changes.proofs.PublicLaws.{looked_step, steps_then}
 use Rattle.reg_office.specs.Issuing.{IsNextOf}
 use Rattle.reg_office.specs.Replays.{LeadsIf}
-use Rattle.reg_office.proofs.Looking.{lent}
+use Rattle.reg_office_reads.proofs.PublicLaws.{lent}
 use Rattle.reg_office.proofs.Replaying.{after_look_leads, leads_as, ok_more}
 use Rattle.reg_office.proofs.office.Office.replay_crl.Goals as goal
 

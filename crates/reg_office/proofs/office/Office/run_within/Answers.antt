@@ -4,10 +4,10 @@ use Rattle.reg_core.specs.declared.change.Change.{Change}
 use Rattle.reg_core.specs.declared.command.Reply.{Reply}
 use Rattle.reg_crl.specs.Signing.{signed_by}
 use Rattle.reg_store_changes.proofs.PublicLaws.{is_under_way, looked_step, steps_then}
-use Rattle.reg_office.specs.Looking.{IsAcceptance}
+use Rattle.reg_office_reads.specs.Looking.{IsAcceptance}
 use Rattle.reg_office.proofs.Batching.{accepted_within, failed_within}
 use Rattle.reg_office.proofs.CommandsRun.{fault_happens, may_change}
-use Rattle.reg_office.proofs.Looking.{lent}
+use Rattle.reg_office_reads.proofs.PublicLaws.{lent}
 use Rattle.reg_office.proofs.office.Office.run_within.Goals as goal
 
 pub returns-in-Ok-enter : goal.returns-in-Ok-enter

@@ -6,7 +6,7 @@ use Rattle.reg_store_changes.proofs.PublicLaws.{looked_step, steps_then}
 use Rattle.reg_store_tables.proofs.PublicLaws.{so}
 use Rattle.reg_office_api.specs.declared.follow.FeedRule.{FeedRule}
 use Rattle.reg_office.specs.Replays.{MayTakeHead}
-use Rattle.reg_office.proofs.Looking.{lent}
+use Rattle.reg_office_reads.proofs.PublicLaws.{lent}
 use Rattle.reg_office.proofs.Replaying.{after_look_leads, issuer_leads, leads_then, schedule_leads}
 use Rattle.reg_office.proofs.office.Office.take_issuer.Goals as goal
 

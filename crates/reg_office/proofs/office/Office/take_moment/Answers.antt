@@ -2,7 +2,7 @@ use Rattle.std.proofs.Common.{◌≤◌, ℕ, subst, ◌∙◌, rules}
 use Rattle.reg_core.specs.Changes.{with_schedule}
 use Rattle.reg_store_changes.proofs.PublicLaws.{looked_step, steps_then}
 use Rattle.reg_store_tables.proofs.PublicLaws.{by_finding}
-use Rattle.reg_office.proofs.Looking.{lent}
+use Rattle.reg_office_reads.proofs.PublicLaws.{lent}
 use Rattle.reg_office.proofs.Replaying.{after_look_leads, leads_then, schedule_leads, touched_leads}
 use Rattle.reg_office.proofs.office.Office.take_moment.Goals as goal
 

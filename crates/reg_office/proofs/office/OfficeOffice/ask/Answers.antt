@@ -5,10 +5,10 @@ use Rattle.reg_core.specs.declared.refusal.Fault.TheVariants.{Refused}
 use Rattle.reg_core.specs.declared.refusal.Refusal.TheVariants.{ClockEnd}
 use Rattle.reg_office_api.specs.Answered.{IsAnswered}
 use Rattle.reg_office_api.specs.CallSteps.{Asks}
-use Rattle.reg_office.proofs.QueryLemmas.{is_answered}
+use Rattle.reg_office_reads.proofs.PublicLaws.{is_answered}
 use Rattle.reg_store_tables.proofs.PublicLaws.{looked_none}
 use Rattle.reg_office.proofs.Leading.{office_leads, office_looks, table_fault}
-use Rattle.reg_office.proofs.Looking.{lent}
+use Rattle.reg_office_reads.proofs.PublicLaws.{lent}
 use Rattle.reg_office.proofs.office.OfficeOffice.ask.Goals as goal
 
 -- What is answered at the clock's end comes first, so that another answer is refused by it.

@@ -1,5 +1,5 @@
 use Rattle.reg_office.proofs.Leading.{beginning_leads, office_looks}
-use Rattle.reg_office.proofs.Looking.{lent}
+use Rattle.reg_office_reads.proofs.PublicLaws.{lent}
 use Rattle.reg_office.proofs.office.OfficeOffice.begin_ocsp.Goals as goal
 
 pub returns-clause-looks : goal.returns-clause-looks

@@ -2,7 +2,7 @@ use Rattle.std.proofs.Common.{refl}
 use Rattle.reg_office_api.specs.CallSteps.{CrlStep}
 use Rattle.reg_office_api.specs.Items.{items_of}
 use Rattle.reg_office.proofs.Leading.{office_leads, office_looks}
-use Rattle.reg_office.proofs.Looking.{lent}
+use Rattle.reg_office_reads.proofs.PublicLaws.{lent}
 use Rattle.reg_office.proofs.office.OfficeOffice.crl_bytes.Goals as goal
 
 pub returns-in-Some-clause-looks : goal.returns-in-Some-clause-looks

@@ -1,6 +1,6 @@
 use Rattle.std.proofs.Common.{Ok, refl}
 use Rattle.reg_store_tables.proofs.PublicLaws.{ok_then}
-use Rattle.reg_office.proofs.Beginning.{replied, signed_malformed}
+use Rattle.reg_office_reads.proofs.PublicLaws.{replied, signed_malformed}
 use Rattle.reg_office.proofs.Leading.{gives_nothing, response_leads, signed_looks, then_signed}
 use Rattle.reg_office.proofs.office.OfficeOffice.ocsp.Goals as goal
 

@@ -1,8 +1,8 @@
 use Rattle.std.proofs.Common.{refl}
 use Rattle.reg_core_lists.specs.Pages.{IsPageOfSoundRows, Pages}
 use Rattle.reg_office.proofs.Leading.{office_leads, office_looks}
-use Rattle.reg_office.proofs.Paging.{paged}
-use Rattle.reg_office.proofs.Looking.{lent}
+use Rattle.reg_office_reads.proofs.PublicLaws.{paged}
+use Rattle.reg_office_reads.proofs.PublicLaws.{lent}
 use Rattle.reg_office.proofs.office.OfficeOffice.page.Goals as goal
 
 pub returns-clause-looks : goal.returns-clause-looks

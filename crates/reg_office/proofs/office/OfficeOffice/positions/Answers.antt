@@ -3,7 +3,7 @@ use Rattle.std.specs.Prelude.{IfOk}
 use Rattle.reg_core.specs.Records.{Records}
 use Rattle.reg_office_api.specs.Follows.{ArePositionsOf}
 use Rattle.reg_office.proofs.Leading.{office_leads, office_looks}
-use Rattle.reg_office.proofs.Looking.{lent}
+use Rattle.reg_office_reads.proofs.PublicLaws.{lent}
 use Rattle.reg_office.proofs.office.OfficeOffice.positions.Goals as goal
 
 pub returns-clause-looked : goal.returns-clause-looked

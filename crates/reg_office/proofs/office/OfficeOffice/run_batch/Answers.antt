@@ -2,7 +2,7 @@ use Rattle.std.proofs.Common.{Err, Ok, ap}
 use Rattle.reg_store_changes.proofs.PublicLaws.{ends_idle}
 use Rattle.reg_office.specs.Calls.{seen}
 use Rattle.reg_office.proofs.BatchStops.{batch_committed, batch_steps, batch_stopped, batch_unbegun, batch_uncommitted, stops_of_store}
-use Rattle.reg_office.proofs.Composing.{answer_of_fault}
+use Rattle.reg_office_reads.proofs.PublicLaws.{answer_of_fault}
 use Rattle.reg_office.proofs.Leading.{same_signers}
 use Rattle.reg_office.proofs.office.OfficeOffice.run_batch.Goals as goal
 

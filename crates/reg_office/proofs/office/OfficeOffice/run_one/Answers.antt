@@ -1,5 +1,5 @@
 use Rattle.std.proofs.Common.{◌<◌, Err, refl, rules}
-use Rattle.reg_office.specs.Looking.{IsAcceptance}
+use Rattle.reg_office_reads.specs.Looking.{IsAcceptance}
 use Rattle.reg_core.specs.Calendar.{clock_end}
 use Rattle.reg_core.specs.declared.change.Change.{Change}
 use Rattle.reg_core.specs.declared.command.Reply.{Reply}
@@ -11,7 +11,7 @@ use Rattle.reg_office.specs.AfterStoppedCommand.{command_call}
 use Rattle.reg_office.proofs.CommandsRun.{carried_out, fault_happens, may_change, not_carried_out, not_run}
 use Rattle.reg_office.proofs.Leading.{ran_leads, ran_stops}
 use Rattle.reg_office.proofs.Leaving.{by_refusal}
-use Rattle.reg_office.proofs.Looking.{lent}
+use Rattle.reg_office_reads.proofs.PublicLaws.{lent}
 use Rattle.reg_store_tables.proofs.PublicLaws.{kept_until}
 use Rattle.reg_office.proofs.RegisterSummary.{never_signer, office_fault}
 use Rattle.reg_office.proofs.office.OfficeOffice.run_one.Goals as goal

@@ -2,7 +2,7 @@ use Rattle.std.proofs.Common.{Ok, Err, refl}
 use Rattle.reg_der.specs.Issuers.{with_key_identifier}
 use Rattle.reg_office_api.specs.Settings.{SetsKeyIdentifier}
 use Rattle.reg_office.specs.AfterStoppedCommand.{IsIdentified, identifier_call}
-use Rattle.reg_office.proofs.Composing.{answer_of_fault}
+use Rattle.reg_office_reads.proofs.PublicLaws.{answer_of_fault}
 use Rattle.reg_office.proofs.Identified.{identifier_keeps_sound}
 use Rattle.reg_office.proofs.Leading.{stops_lead}
 use Rattle.reg_office.proofs.Setting.{set_change, set_stops, unset_change}

@@ -3,7 +3,7 @@ use Rattle.reg_core.specs.Changes.{with_schedule}
 use Rattle.reg_office_api.specs.Settings.{ReplacesSchedule}
 use Rattle.reg_store_changes.specs.AfterStoppedChange.{IsScheduled}
 use Rattle.reg_office.specs.AfterStoppedCommand.{schedule_call}
-use Rattle.reg_office.proofs.Composing.{answer_of_fault}
+use Rattle.reg_office_reads.proofs.PublicLaws.{answer_of_fault}
 use Rattle.reg_office.proofs.Following.{schedule_keeps_sound_for}
 use Rattle.reg_office.proofs.Leading.{stops_lead}
 use Rattle.reg_office.proofs.Setting.{set_change, set_stops, unset_change}

@@ -2,7 +2,7 @@ use Rattle.std.proofs.Common.{◌≡◌, refl}
 use Rattle.reg_core.specs.Records.{Records}
 use Rattle.reg_office_api.specs.LookUps.{HasSummary}
 use Rattle.reg_office.proofs.Leading.{office_leads, office_looks}
-use Rattle.reg_office.proofs.Looking.{lent}
+use Rattle.reg_office_reads.proofs.PublicLaws.{lent}
 use Rattle.reg_office.proofs.office.OfficeOffice.summary.Goals as goal
 
 pub returns-clause-looked : goal.returns-clause-looked

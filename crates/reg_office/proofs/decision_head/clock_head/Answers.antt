@@ -1,6 +1,0 @@
-use Rattle.std.proofs.Common.{refl}
-use Rattle.reg_store_tables.proofs.PublicLaws.{by_finding, not_found, so}
-use Rattle.reg_office.proofs.decision_head.clock_head.Goals as goal
-
-pub returns : goal.returns
-returns g c = so (by_finding c.in_ok-last.ensures) (λ records sound it. (refl, it))

@@ -1,0 +1,11 @@
+pub mod QueryLemmas
+pub mod Beginning
+pub mod Composing
+pub mod Deciding
+pub mod Facts
+pub mod FeedPages
+pub mod Looking
+pub mod Paging
+pub mod Responding
+pub mod ListedRows
+pub mod PublicLaws

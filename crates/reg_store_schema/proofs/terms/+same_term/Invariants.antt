@@ -1,4 +1,0 @@
-use Rattle.reg_store_schema.proofs.terms.+same_term.Given as goal
-
-abbrev pub decreases-same_term : goal.decreases-same_term
-decreases-same_term l = l.left.depth
