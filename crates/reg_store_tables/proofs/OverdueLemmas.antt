@@ -1,6 +1,6 @@
 -- What the statement on the requests that are not declined shows, and which of them are overdue.
-use Rattle.std.proofs.Common.{◌≡◌, ◌≤◌, ◌<◌, ◌+◌, ◌++◌, ◌&&◌, ℕ, pos, true, false, Bool, not, cond, Some, List, [], ◌∷◌, map, length, take, get_or, codes, refl, sym, ap, ◌∙◌, arith, inl, inr, length-append}
-use Rattle.std.specs.Prelude.{◌==◌, nat_lt}
+use Rattle.std.proofs.Common.{◌≡◌, ◌≤◌, ◌<◌, ◌+◌, ◌++◌, ◌&&◌, ℕ, pos, true, false, Bool, not, cond, Option, Some, None, List, [], ◌∷◌, map, length, take, get_or, codes, refl, sym, ap, ◌∙◌, arith, inl, inr, length-append}
+use Rattle.std.specs.Prelude.{◌==◌, is_some, nat_lt}
 use Rattle.std.specs.List.{filter, AllByRecursion}
 use Rattle.std.proofs.lemmas.Bool.{cases_Bool}
 use Rattle.std.proofs.lemmas.List.{length-take, take_more}
@@ -19,11 +19,13 @@ use Rattle.sqlite_tied.specs.Compute.{everything}
 use Rattle.reg_core.specs.Due.{deadline, is_open, overdue, overdue_report}
 use Rattle.reg_core.specs.Records.{Records}
 use Rattle.reg_core.specs.Serial.{IsSerial}
-use Rattle.reg_core.specs.Status.{status, is_good}
+use Rattle.reg_core.specs.Status.{status, status_by, is_good}
 use Rattle.reg_core.specs.declared.command.Overdue.{Overdue}
 use Rattle.reg_core.specs.declared.command.Status.{Status}
 use Rattle.reg_core.specs.declared.command.Status.TheVariants.{Unknown, Good, Expired, Revoked}
+use Rattle.reg_core.specs.declared.rows.CertRow.{CertRow}
 use Rattle.reg_core.specs.declared.rows.RequestRow.{RequestRow}
+use Rattle.reg_core.specs.declared.rows.RevocationRow.{RevocationRow}
 use Rattle.reg_store_tables.specs.Schema.{register_schema}
 use Rattle.reg_store_tables.specs.Rows.{number, stored_request}
 use Rattle.reg_store_tables.specs.Shows.{IsShownBy}
@@ -98,6 +100,12 @@ not_good Unknown never = refl
 not_good Good never = absurd (never refl)
 not_good Expired never = refl
 not_good (Revoked at reason) never = refl
+
+-- what has a revocation is not good
+pub revoked_not_good : (moment : ℕ) (certificate : Option CertRow) (revocation : Option RevocationRow) → is_some revocation ≡ true → false ≡ is_good (status_by moment certificate revocation)
+revoked_not_good moment None revocation some = refl
+revoked_not_good moment (Some certificate) (Some revocation) some = refl
+revoked_not_good moment (Some certificate) None some = let no : false ≡ true = some in cc
 
 -- both tests, in the order of the code
 pub late_is : (good past : Bool) → cond good past false ≡ (good && past)

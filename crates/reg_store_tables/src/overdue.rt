@@ -64,8 +64,12 @@ impl<S: Alter> Tables<S> {
         ensures { FindsIf (λ records. IsSome (certificate_in records.certificates serial))
             S.Store self.old self.new result (λ records good. good ≡ is_good (status records serial now)) }
     {
-        let certificate = self.cert(serial)?;
+        // Most requests that were not declined led to a revocation. Then the certificate need not be looked up.
         let revoked = self.revocation(serial)?;
+        if revoked.is_some() {
+            return Ok(false);
+        }
+        let certificate = self.cert(serial)?;
         if certificate.is_none() {
             return Err(DatabaseFault::Store);
         }
@@ -83,7 +87,7 @@ impl<S: Alter> Tables<S> {
         Ok(is_good && is_past)
     }
 
-    /// How many requests are overdue, and their lowest id. The call scans `request`, and looks up each undeclined one's certificate and revocation.
+    /// How many requests are overdue, and their lowest id. The call scans `request`, and looks up one or two rows for each undeclined request.
     pub fn open_past_due(&mut self, now: Moment) -> Result<Option<Overdue>, DatabaseFault>
         ensures { Finds S.Store self.old self.new result (λ records report.
             report ≡ overdue_report (overdue records now)) }
