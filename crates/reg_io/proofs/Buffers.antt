@@ -1,10 +1,10 @@
 -- Lemmas on a buffer that is read into.
-use Rattle.std.proofs.Common.{◌≡◌, ℕ, ◌≤◌, ◌+◌, List, [], ◌++◌, length, take, sym, ap, ◌∙◌, arith, append-nil, append_assoc, length-append, add-zero}
+use Rattle.std.proofs.Common.{◌≡◌, ℕ, ◌≤◌, ◌+◌, List, [], ◌++◌, length, take, sym, subst, ap, ◌∙◌, arith, append-nil, append_assoc, length-append, add-zero}
 use Rattle.std.specs.declared.option.Option.{Option}
 use Rattle.std.specs.Io.KnownBytes.{Consumes, Keeps}
 use Rattle.std.proofs.KnownBytes.{Consumes-nil, Consumes-trans, Consumes-kept}
 use Rattle.std.proofs.Math.Seq.{take-append-add}
-use Rattle.std.proofs.lemmas.List.{take-append-le, length-take-le, take-take}
+use Rattle.std.proofs.lemmas.List.{take-append-le, length-take-le, take_all, take-take}
 use Rattle.std.proofs.lemmas.Slice.{take-put_mid_below}
 use borrow.Rule.Slice.PartMut.{put_mid, post_of}
 use Rattle.reg_io.specs.Fill.{Fills}
@@ -85,6 +85,12 @@ so_far_more input middle left before between ys buffered now k n so_far short ro
       fills = fills_more input middle left before between (put_mid now k between ys) buffered now so_far.took (take n ys) so_far.fills so_far.count read;
       count = omega (arith, so_far.count, length-append so_far.took (take n ys));
     }
+
+-- all of the buffer was read
+pub so_far_full : (input left : Option (List ℕ)) (before after : List ℕ) (filled : ℕ) → SoFar input left before after 0 filled → length after ≤ filled
+    → Consumes input left after
+so_far_full input left before after filled so_far full =
+    subst (Consumes input left) (sym so_far.fills.stands ∙ take_all (0 + length so_far.took) after (omega (arith, so_far.count))) so_far.fills.consumed
 
 -- a read that failed, which left ys in `buf[now..]`
 pub so_far_kept : (input middle left : Option (List ℕ)) (before between ys : List ℕ) (buffered now k : ℕ)

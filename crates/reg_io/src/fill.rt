@@ -1,10 +1,9 @@
-ghost use Rattle.std.specs.Prelude.{◌≡◌, ℕ, ◌+◌, ◌<◌, ◌≤◌, ◌++◌, List, length, take, IfOk, MatchOption, OnErr, OnOk};
+ghost use Rattle.std.specs.Prelude.{◌≡◌, ◌⊎◌, ℕ, ◌+◌, ◌<◌, ◌≤◌, ◌++◌, List, length, take, IfOk, MatchOption, OnErr, OnOk};
 ghost use Rattle.std.specs.Io.KnownBytes.{Consumes, IsAtEnd};
 ghost use Rattle.reg_io.specs.Delimiter.{EndsWith, FirstDelimiter};
 ghost use Rattle.reg_io.specs.Fill.{Fills, FillsShort, FillsTo};
 
 use crate::streams::Source;
-use std::io::Read;
 
 /// The reader failed (even with `Interrupted`), ended before the buffer was full (in [`fill_exact`]), or filled the buffer (in [`fill_to_end`]).
 #[derive(Clone, Copy, PartialEq, Eq)]
@@ -83,7 +82,11 @@ pub fn first_delimiter(
 }
 
 /// Reads into `buf` after its first `buffered` bytes, until `buf` is full.
-pub fn fill_exact<R: Read>(reader: &mut R, buf: &mut [u8], buffered: usize) -> Result<(), ReadFault>
+pub fn fill_exact<R: Source>(
+    reader: &mut R,
+    buf: &mut [u8],
+    buffered: usize,
+) -> Result<(), ReadFault>
     requires { buffered ≤ length buf.old }
     ensures ok { OnOk result ((took : List ℕ)
         × Consumes (R.remaining reader.old) (R.remaining reader.new) took
@@ -91,11 +94,12 @@ pub fn fill_exact<R: Read>(reader: &mut R, buf: &mut [u8], buffered: usize) -> R
     ensures err { OnErr result ((took : List ℕ)
         × Fills (R.remaining reader.old) (R.remaining reader.new) buf.old buf.new buffered took
         × (buffered + length took < length buf.new)) }
+    ensures fails { OnErr result (R.failed ⊎ IsAtEnd (R.remaining reader.new)) }
     ensures is_full { buffered ≡ length buf.old → (reader.new ≡ reader.old) × (buf.new ≡ buf.old) }
 {
     let mut filled = buffered;
     while filled < buf.len() {
-        match reader.read(&mut buf[filled..]) {
+        match reader.read_once(&mut buf[filled..]) {
             Ok(0) | Err(_) => return Err(ReadFault),
             Ok(count) => filled += count,
         }
@@ -104,15 +108,17 @@ pub fn fill_exact<R: Read>(reader: &mut R, buf: &mut [u8], buffered: usize) -> R
 }
 
 /// Reads up to the reader's end into `buf`, and returns how many bytes came. [`ReadFault`] also if they fill the buffer, since more may follow.
-pub fn fill_to_end<R: Read>(reader: &mut R, buf: &mut [u8]) -> Result<usize, ReadFault>
+pub fn fill_to_end<R: Source>(reader: &mut R, buf: &mut [u8]) -> Result<usize, ReadFault>
     ensures came { IfOk result (λ count.
         Consumes (R.remaining reader.old) (R.remaining reader.new) (take count buf.new)) }
     ensures ended { OnOk result (IsAtEnd (R.remaining reader.new)) }
     ensures short { IfOk result (λ count. count < length buf.new) }
+    ensures fails { OnErr result
+        (R.failed ⊎ Consumes (R.remaining reader.old) (R.remaining reader.new) buf.new) }
 {
     let mut filled: usize = 0;
     while filled < buf.len() {
-        match reader.read(&mut buf[filled..]) {
+        match reader.read_once(&mut buf[filled..]) {
             Ok(0) => return Ok(filled),
             Ok(count) => filled += count,
             Err(_) => return Err(ReadFault),

@@ -1,8 +1,10 @@
 use crate::fill::ReadFault;
 use crate::put::WriteFault;
+use std::io;
 use std::io::{Read, Write};
 
-/// A reader whose failure a contract can state: `R.failed` for any `R: Source`. Its call `read_once` ensures this, if it fails; no other call does.
+/// A reader whose failure a contract can state: `R.failed` for any `R: Source`. Its calls `read_once` and `try_read` ensure this, if they fail; no
+/// other call does.
 pub trait Source: Read {
     ghost use Rattle.std.specs.Prelude.{OnErr};
     ghost use Rattle.std.specs.Io.{ReadsAtMost};
@@ -12,6 +14,12 @@ pub trait Source: Read {
 
     /// Reads once, as [`Read::read`], and returns how many bytes came. [`ReadFault`] if the read fails, even with `Interrupted`.
     fn read_once(&mut self, buf: &mut [u8]) -> Result<usize, ReadFault>
+        ensures bound { ReadsAtMost result buf.new }
+        ensures bytes { ReadConsumes (Self.remaining self.old) (Self.remaining self.new) result buf.new }
+        ensures fails { OnErr result failed };
+
+    /// As `read_once`, but with the error of the reader, such as `WouldBlock`.
+    fn try_read(&mut self, buf: &mut [u8]) -> io::Result<usize>
         ensures bound { ReadsAtMost result buf.new }
         ensures bytes { ReadConsumes (Self.remaining self.old) (Self.remaining self.new) result buf.new }
         ensures fails { OnErr result failed };
@@ -26,6 +34,10 @@ impl<R: Read> Source for R {
             Ok(count) => Ok(count),
             Err(_) => Err(ReadFault),
         }
+    }
+
+    fn try_read(&mut self, buf: &mut [u8]) -> io::Result<usize> {
+        self.read(buf)
     }
 }
 
