@@ -13,8 +13,9 @@ pub(crate) const TIMEOUT_MILLIS: u64 = 10_000;
 /// After a request to the signer would have blocked, no signature is requested for this many milliseconds.
 pub(crate) const PAUSE_MILLIS: u64 = 10;
 
-/// How many polls after a request don't block. In their 0.1 to 0.2 ms most signatures come. A wake-up, which blocking adds, takes as long as signing.
-const POLLS: u32 = 100;
+/// How many polls after a request don't block. In their 0.15 to 0.4 ms most signatures come, and then the next request of a client that sends one
+/// after the other. A wake-up, which blocking adds, takes as long as signing.
+const POLLS: u32 = 300;
 
 /// An HTTP connection that waits for a signature: its slot, and its number, which no other connection has.
 #[derive(Clone, Copy)]
