@@ -41,10 +41,10 @@ cut_line [] rest free = refl
 cut_line (byte ∷ front) rest free =
     rw (ne_eqb byte 10 (All-head (λ byte. byte ≢ 10) byte front free), cut_line front rest (All-tail (λ byte. byte ≢ 10) byte front free)) refl
 
-line_then : (line rest : List ℕ) → IsWholeLine line → pieces (line ++ rest) ≡ line ∷ pieces rest
+pub line_then : (line rest : List ℕ) → IsWholeLine line → pieces (line ++ rest) ≡ line ∷ pieces rest
 line_then line rest (front, is, free) = rw is (cut_line front rest free)
 
-no_pieces : pieces [] ≡ []
+pub no_pieces : pieces [] ≡ []
 unfolding pieces
 no_pieces = refl
 

@@ -7,6 +7,7 @@ pub mod Finishing
 pub mod FoundRows
 pub mod LookedAt
 pub mod Looks
+pub mod OwnReplies
 pub mod PageByPage
 pub mod PublicLaws
 pub mod SerialBytes

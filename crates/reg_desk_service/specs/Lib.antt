@@ -12,6 +12,7 @@ pub mod SignerAnswers
 pub mod FinishedResponses
 pub mod Log
 pub mod LogNames
+pub mod OwnReplies
 pub mod Reasons
 pub mod RegisterFailures
 pub mod Registers

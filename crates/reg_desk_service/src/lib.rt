@@ -15,6 +15,7 @@ mod exchange_log;
 mod failure_cause;
 mod health_routes;
 mod http_exchanges;
+pub mod laws;
 mod log_lines;
 mod machine;
 mod reasons;
