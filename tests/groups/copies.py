@@ -3,6 +3,7 @@
 import os
 import re
 import shutil
+import struct
 import threading
 from concurrent.futures import ThreadPoolExecutor
 
@@ -51,6 +52,22 @@ def a_closed_register(t):
     t.same(t.done("audit", "copy.db"), SOUND)
     t.same(t.desk("crl", "copy.db").out, t.desk("crl", "ca.db").out, "the CRL")
     opens(t, "copy.db", "good 2 revoked 0 expired 0")
+
+
+@test
+def the_time_of_a_copy_is_told(t):
+    """The elapsed time goes on by 1,234 ms while the job opens the copy. No other time passes for the job."""
+    t.register(lines=ENTERED)
+    passed, goes_on = t.room / "passed", t.room / "goes-on"
+    passed.write_bytes(struct.pack("=Q", 1_000_000))
+    with ThreadPoolExecutor(1) as pool:
+        ran = pool.submit(t.desk, "copy", "ca.db", "copy.db", faults=faults.environment(passed=passed, slow_open=goes_on, only="copy.db.part"))
+        authority.until(lambda: (t.room / "goes-on.waits").exists(), "the job to open the copy")
+        with open(passed, "r+b") as it:
+            it.write(struct.pack("=Q", 1_001_234))
+        goes_on.touch()
+        told = ran.result()
+    t.same((told.status, told.err, told.out.decode().partition(" bytes ")[2]), (0, b"", "in 1234 ms\n"))
 
 
 @test(seconds=3)
