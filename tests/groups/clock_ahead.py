@@ -139,6 +139,15 @@ def an_import_by_the_clock(t):
     t.same(t.done("import", "ca.db", "--now", later, given=rows[1]), "registered\n", "with --now")
 
 
+@each({f"{command}, {year}": (command, year) for command in ("script", "import") for year in (2027, 2030, 2070, 9998)})
+def a_clock_that_is_years_ahead_is_refused_too(t, command, year):
+    t.register(lines=f"{DAY} {LINES[0]}\n")
+    t.clock(f"{year}-12-31T00:00:00Z")
+    for more in ((), ("--strict",)):
+        ran = t.desk(command, "ca.db", "--clock", *more)
+        t.same((ran.status, ran.out, ran.err), (1, b"", b"bad-clock\n"), f"{command} {more}")
+
+
 @each({it: it for it in ("script", "import")})
 def it_is_refused_past_as_many_days_as_help_names(t, command):
     days = int(re.search(r"--accept-clock .*?more than (\d+) days past", t.done(command, "--help"), re.DOTALL)[1])
