@@ -326,6 +326,22 @@ def a_certificate_that_is_there_gets_no_order(t):
     t.same(replies_to(t, "order 1 1"), ["order 4"], "the next order: only the new certificate got one")
 
 
+@test
+def rows_of_certificates_that_have_expired_end_nothing(t):
+    """One that is registered gets no order, and is not revoked. The rows behind it are registered and revoked."""
+    ended = "2026-01-05T00:00:00Z"
+    t.register(lines=f"{DAY} subscriber acme\n{DAY} order 1 398\n{DAY} register 1 01 {DAY} {ended}\n")
+    t.clock("2026-01-06T00:00:00Z")
+    t.open("ca.db")
+    ran = ordered(t, row("01", ended) + row("02"))
+    t.same((ran.status, ran.out, ran.err), (0, b"expired\nregistered\n", b""), "with one that is registered")
+    ran = ordered(t, row("03", ended) + row("04"))
+    t.same((ran.status, ran.out, ran.err), (3, b"E13 ended\nregistered\n", b"refused\n"), "with a new one")
+    ran = rows(t, "01,superseded\n04,superseded\n")
+    t.same((ran.status, ran.out, ran.err), (3, b"E20 expired\nrevoked\n", b"refused\n"), "to be revoked")
+    t.same(replies_to(t, "counts", "order 1 1"), ["good 1 revoked 1 expired 1", "order 5"], "the next order: each new certificate got one")
+
+
 REFUSED = {
     "no such subscriber": ((2, 398), row("0a"), "E06 no-subscriber"),
     "no days": ((1, 0), row("0a"), "E07 bad-days 398"),
