@@ -244,6 +244,15 @@ def what_a_filter_tells_has_a_form(t, option, value, wanted):
     t.same(refused(t, "list", "none.db", "requests", f"{option}={value}").splitlines()[0], f"error: invalid value '{value}' for '{option}': {wanted}")
 
 
+@each({it: it for it in ("subscriber", "serial")})
+def what_one_part_of_a_filter_tells_is_read_beside_the_other(t, wrong):
+    told = {"subscriber": "acme", "serial": "0a"}
+    value, wanted = {"subscriber": ("a" * 65, "a subscriber's name is"), "serial": ("0x1f", "a serial number's prefix is")}[wrong]
+    told[wrong] = value
+    error = refused(t, "list", "none.db", "requests", *[f"--{name}={it}" for name, it in told.items()]).splitlines()[0]
+    t.true(error.startswith(f"error: invalid value '{value}' for '--{wrong}': {wanted}"), error)
+
+
 @each({" ".join(it): it for it in (
     ("import", "--signer=ca.sign"), ("script", "--embed=ca.der"), ("script", "--responder=r.der"), ("script", "--published=ca.crl"), ("crl", "--published=ca.crl"), ("crl", "--embed=ca.der"), ("crl", "--algorithm=ed25519"), ("schedule", "--signer=ca.sign"),
     ("key-id", "--signer=ca.sign"), ("script", "--key-id=00"), ("crl", "--clock"), ("at", "--strict"), ("crl", "--listen=[::1]"), ("at", "--listen=[::1]"),
