@@ -182,6 +182,24 @@ def each_list_has_its_rows(t):
 
 
 @test
+def lists_after_2038(t):
+    """The seconds since 1970 then have more than 31 bits. Requests are open, overdue, declined, decided in time and late, and ended."""
+    begun = read(b"2038-01-19T03:14:08Z")
+    at = lambda days, line: f"{text_of(begun + days * DAY)} {line}\n"
+    lines = at(0, "subscriber acme")
+    for order, end in enumerate((30, 30, 30, 30, 3), 1):
+        lines += at(0, "order 1 30") + at(0, f"register {order} {order:x} {text_of(begun)} {text_of(begun + end * DAY - 1)}")
+    lines += "".join(at(1, f"request {it:x} key-compromise") for it in range(1, 6))
+    lines += at(1, "revoke 1") + at(1, "decline 2") + at(1, "crl") + at(5, "revoke 3")
+    register = made(t, lines)
+    for now in (begun + 5 * DAY, begun + 400 * DAY):
+        for word, before in [*((it, None) for it in WORDS), ("ending", now + 60 * DAY)]:
+            rows = [in_fields(word, it) for it in rows_of(register, now, word, before)]
+            t.same(t.done(*asked(t, word, before, "--now", text_of(now))), as_csv(word, rows), f"{word} at {text_of(now)}")
+    t.same({it["state"] for it in rows_of(register, begun + 5 * DAY, "requests")}, {"open", "declined", "revoked", "expired"}, "states that occur")
+
+
+@test
 def other_programs_read_a_list(t):
     register = made(t, entered())
     told = t.done("list", "ca.db", "certificates", "--now", text_of(NOW))
