@@ -66,6 +66,21 @@ def commands_after_2038(t):
 
 
 @test
+def a_revocation_after_2038(t):
+    """No CRL lists it yet, so the next CRL is due a day after it."""
+    t.register()
+    t.clock("2038-01-20T00:00:00Z")
+    t.open()
+    lines = {
+        "subscriber acme": "subscriber 1", "order 1 30": "order 1", "register 1 05 2038-01-20T00:00:00Z 2038-02-10T00:00:00Z": "registered",
+        "crl": "crl 1 entries 0", "request 05 key-compromise": "request 1 due 2038-01-21T00:00:00Z", "revoke 1 05": "revoked",
+        "next-crl": "next-crl 2038-01-21T00:00:00Z", "status 05": "revoked 2038-01-20T00:00:00Z reason 1", "overdue": "overdue 0",
+    }
+    with t.control() as control:
+        t.same({it: control.ask(it) for it in lines}, lines)
+
+
+@test
 def an_end_of_line_with_a_cr_is_the_same(t):
     opened(t)
     control = t.control()
