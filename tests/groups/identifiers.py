@@ -294,6 +294,21 @@ def the_documents_statement_takes_the_column_apart(t, size):
 
 
 @test
+def a_register_with_forty_key_identifiers(t):
+    """Its column office.name is longer than the longest Name. The file is as if `crl` and `key-id` came in turn, but for the octets of the CRLs."""
+    t.register(lines="2026-01-01T00:00:00Z crl\n" * 40)
+    identifiers = b"".join(tlv(0x80, first.to_bytes(8, "big"), bytes([first]) * 64) for first in range(40, 0, -1))
+    t.sql("ca.db", "UPDATE office SET name = ?", bytes.fromhex(program.NAME) + identifiers)
+    t.same(t.done("script", "ca.db", given="2026-01-01T00:00:00Z crl\n"), "crl 41 entries 0\n")
+    t.same(identifier_in(t.desk("crl", "ca.db").out), bytes([40]) * 64, "the key identifier of the next CRL")
+    t.same(t.done("key-id", "ca.db", "0B0C"), "key-id set\n")
+    t.clock("2026-01-01T00:00:00Z")
+    desk = t.open()
+    t.same(t.control().ask("crl"), "crl 42 entries 0")
+    t.same(identifier_in(program.parted(desk.ask("GET", "/crl"))[2]), bytes.fromhex("0B0C"), "that of the CRL after it")
+
+
+@test
 def the_documents_worked_example(t):
     """The file has the octets of docs/RULES.md and docs/MODEL.md after each step of the example."""
     lines = block("The tables of a file", "300D", "RULES")
