@@ -50,6 +50,18 @@ def an_older_register_is_made_newer_by_the_first_command(t, version):
         t.same(t.desk("crl", "ca.db", "--number", number).out, records.crls[number - 1][2], f"CRL {number}")
 
 
+@each(VERSIONS, seconds=2)
+def one_without_a_crl_is_made_newer(t, version):
+    """Its revocations wait for CRL 1, which lists them all."""
+    records = registers.Records(50, 0)
+    registers.make(t.room / "ca.db", records, version)
+    before = registers.rows_of(t.room / "ca.db")
+    line, reply = counts_line(t, records)
+    t.same(t.done("script", "ca.db", given=line), reply, "the counts")
+    is_newer(t, records, before)
+    t.same(t.done("script", "ca.db", given=f"{moment_of(records.last)} crl\n"), f"crl 1 entries {len(records.revocations)}\n")
+
+
 @each(VERSIONS, seconds=3)
 def one_of_more_than_ten_thousand_revocations_is_made_newer(t, version):
     records = registers.Records(10_100, 1, every=1)
