@@ -125,6 +125,22 @@ def early_clients_that_cannot_be_disconnected_keep_the_desk_from_opening(t, erro
 
 
 @test
+def a_desk_that_gets_no_port_leaves_the_path_of_its_control_socket_as_it_is(t):
+    t.register()
+    with socket.socket() as other, socket.socket(socket.AF_UNIX) as stale:
+        other.bind(("127.0.0.1", 0))
+        other.listen()
+        for what in ("nothing", "a stale socket"):
+            ran = t.desk("open", "ca.db", "--port", other.getsockname()[1], "--control", "control", "--unsigned")
+            t.same((ran.status, ran.out, ran.err), (1, b"", b"F4 read\n"), f"a desk that finds {what} at the path")
+            if what == "nothing":
+                t.same((t.room / "control").exists(), False, "whether there is a socket")
+                stale.bind(str(t.room / "control"))
+                before = (t.room / "control").stat().st_ino
+    t.same((t.room / "control").stat().st_ino, before, "the inode of the stale socket")
+
+
+@test
 def a_link_to_a_socket_is_not_taken_over(t):
     t.register()
     t.open().end()
