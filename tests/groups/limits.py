@@ -1835,6 +1835,21 @@ def a_copy_has_one_name_before_its_folder_is_synced(t):
         t.same((names, ran.result().status), (["copy.db"], 0), "its names, and the status")
 
 
+@each({"a list": ["list", "ca.db", "certificates", "--now", "2026-01-04T00:00:00Z"], "a CRL": ["crl", "ca.db", "--number", "1"]}, seconds=2)
+def a_register_is_closed_before_its_text_is_printed(t, words):
+    """The text is longer than a pipe takes, and its reader waits. Meanwhile another program opens the register."""
+    registers.make(t.room / "ca.db", registers.Records(1_000, 2), 3)
+    t.sql("ca.db", "UPDATE crl SET der = zeroblob(1000000) WHERE number = 1")
+    it = subprocess.Popen([program.program(), *words], cwd=t.room, stdout=subprocess.PIPE, env=program.environment())
+    t.callback(it.kill)
+    with it.stdout:
+        first = it.stdout.read(1)
+        other = t.desk("script", "ca.db", given="2026-01-04T00:00:00Z status 05\n")
+        t.same((other.status, other.out, other.err), (0, b"unknown\n", b""), "the other program")
+        t.true(len(first + it.stdout.read()) > 80_000, "the text is cut off")
+    t.same(it.wait(program.LONGEST), 0, words[0])
+
+
 @each({"an audit": ["audit", "ca.db"], "a copy": ["copy", "ca.db", "copy.db"]})
 def a_register_is_locked_before_its_log_is_opened(t, words):
     """Otherwise another program could meanwhile copy the log into the file, and begin a new log."""
