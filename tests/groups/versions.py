@@ -129,6 +129,15 @@ def other_tables_than_its_versions_are_no_register(t, version):
 
 
 @test
+def a_database_of_thirty_other_tables_is_no_register(t):
+    for at in range(30):
+        t.sql("ca.db", f"CREATE TABLE t{at} (a INTEGER PRIMARY KEY, b TEXT UNIQUE)")
+    for words in (["script", "ca.db"], ["audit", "ca.db"], ["crl", "ca.db"]):
+        ran = t.desk(*words)
+        t.same((ran.status, ran.out, ran.err), (1, b"", b"not-a-register\n"), words[0])
+
+
+@test
 def versions_below_1_and_above_3(t):
     t.register()
     for version, told in ((0, "not-a-register"), (4, "new-version"), (2_147_483_647, "new-version")):
