@@ -499,6 +499,24 @@ def quick(t, desk):
         t.same(program.parted(desk.ask("GET", "/counts"))[0], 200)
 
 
+@test
+def each_crl_is_signed_once(t):
+    """The message that is signed before the line runs is that of the CRL, also after revocations."""
+    t.register(key=P256_KEY)
+    t.clock("2026-01-01T00:00:00Z")
+    signer = t.signer()
+    t.open("ca.db", *SIGNING)
+    ends = "2026-01-01T00:00:00Z 2026-12-31T00:00:00Z"
+    lines = {
+        "subscriber acme": "subscriber 1", "order 1 398": "order 1", f"register 1 05 {ends}": "registered", "crl": "crl 1 entries 0",
+        "request 05 key-compromise": "request 1 due 2026-01-02T00:00:00Z", "revoke 1": "revoked", "crl ": "crl 2 entries 1",
+        "crl  ": "crl 3 entries 1",
+    }
+    with t.control() as control:
+        t.same({it: control.ask(it.rstrip()) for it in lines}, lines)
+    t.same(len(signer.asked), 3, "messages to the signer")
+
+
 @test(seconds=3)
 def a_crl_delays_control_lines_and_no_http_request(t):
     held = Held(t)
