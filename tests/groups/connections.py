@@ -216,6 +216,21 @@ def the_last_descriptor_evicts_no_connection(t):
         t.same(parted(read_all(each))[0], 200, "a connection that is not the oldest")
 
 
+@test
+def the_last_descriptor_is_for_the_later_of_two_clients_that_come_together(t):
+    """The desk accepts the first one, who is silent. Then it has no descriptor, so it evicts the first one for the second."""
+    entered(t)
+    desk = Passing(t)
+    t.tool("prlimit", "--pid", desk.desk.process.pid, f"--nofile={desk.before + 1}:{desk.before + 1}")
+    desk.desk.process.send_signal(signal.SIGSTOP)
+    first, second = client(t, desk.desk, COUNTS[:9]), client(t, desk.desk, COUNTS)
+    desk.desk.process.send_signal(signal.SIGCONT)
+    second.settimeout(20)
+    t.same(parted(read_all(second))[0], 200, "the second client")
+    t.same(read_all(first), b"", "the response to the first client")
+    desk.loses(first, why="crowded")
+
+
 @test(seconds=3)
 def a_large_answer_is_sent_as_its_client_reads_it(t):
     desk = opened(t)
@@ -353,6 +368,18 @@ def what_follows_a_request_is_dropped_for_a_second(t):
     until(lambda: desk.files == desk.before + 2, "two connections, those of both clients")
     desk.advance(999)
     until(lambda: desk.files == desk.before + 1, "one connection, that of the second client")
+    desk.loses()
+
+
+@test
+def a_connection_that_only_drops_bytes_ends_with_its_client(t):
+    """The client closes its connection within the second. The elapsed time stands still."""
+    entered(t)
+    desk = Passing(t)
+    it = desk.comes(COUNTS + b"more")
+    t.same(parted(read_all(it))[0], 200, "its answer, after which the desk ends its side")
+    it.close()
+    until(lambda: desk.files == desk.before, "the desk to close the connection", seconds=10)
     desk.loses()
 
 
@@ -549,6 +576,19 @@ def clients_that_come_together_are_accepted_64_at_a_time(t):
     desk.process.send_signal(signal.SIGCONT)
     until(lambda: calls("accept") >= accepts + 600, "the desk to accept six hundred clients")
     t.true(calls("poll") - polls >= 8, f"{calls('poll') - polls} polls while six hundred clients were accepted")
+
+
+@test
+def clients_that_come_together_are_all_answered_though_nothing_else_happens(t):
+    """All have sent their requests. The desk answers 64 at once and closes their connections. No event then reports those who still wait."""
+    t.register()
+    desk = t.open()
+    desk.process.send_signal(signal.SIGSTOP)
+    clients = [client(t, desk, COUNTS) for _ in range(200)]
+    desk.process.send_signal(signal.SIGCONT)
+    for it in clients:
+        it.settimeout(20)
+        t.same(parted(read_all(it))[0], 200, "GET /counts")
 
 
 @test(seconds=2)
