@@ -114,15 +114,16 @@ def a_signature_is_requested_without_a_wait_for_another_event(t):
 
 @test(seconds=3)
 def nobody_else_waits(t):
+    """More clients wait than signatures are requested at once. Other clients, and lines at the control socket, are answered meanwhile."""
     held = Held(t)
     begun = authority.now() - 10
     begins, ends = program.moment_of(begun), program.moment_of(begun + 90 * authority.DAY)
     lines = ["subscriber acme", "order 1 398", f"register 1 05 {begins} {ends}"]
     t.register(key=P256_KEY, lines="".join(f"{begins} {it}\n" for it in lines))
-    desk = Passing(t, *SIGNING).desk
-    with ThreadPoolExecutor(4) as pool:
-        waits = [pool.submit(ocsp_answer, desk, 0x1100 + at) for at in range(4)]
-        t.true(held.signers.until(4), "fewer than four signatures are requested")
+    desk, count = Passing(t, *SIGNING).desk, AT_ONCE + 8
+    with ThreadPoolExecutor(count) as pool:
+        waits = [pool.submit(ocsp_answer, desk, 0x1100 + at) for at in range(count)]
+        t.true(held.signers.until(AT_ONCE), "fewer than 32 signatures are requested")
         quick(t, desk)
         with t.control() as control:
             with t.at_once("a query at the control socket"):
@@ -130,9 +131,9 @@ def nobody_else_waits(t):
             t.same(control.ask("request 05 key-compromise").split(" due ")[0], "request 1")
             with t.at_once("a revocation"):
                 t.same(control.ask("revoke 1"), "revoked")
-        t.same([it.done() for it in waits], [False] * 4, "which OCSP clients got an answer")
+        t.same([it.done() for it in waits], [False] * count, "which OCSP clients got an answer")
         held.release.set()
-        t.same([is_signed(it.result()) for it in waits], [True] * 4)
+        t.same([is_signed(it.result()) for it in waits], [True] * count)
 
 
 @test(seconds=3)
@@ -237,6 +238,24 @@ def the_oldest_client_that_waits_for_a_signature_makes_room(t):
     held.release.set()
     t.true(is_signed(program.parted(program.read_all(clients[1]))[2]), "the answer for the other client is not signed")
     desk.loses(clients[0], why="crowded")
+
+
+@test(seconds=2)
+def a_client_that_waits_for_a_signature_counts_as_unanswered(t):
+    """The desk has no free file descriptor. It evicts an older client, who has sent a part of a request, and not the one that waits."""
+    held = Held(t)
+    t.register(key=P256_KEY)
+    desk, body = Passing(t, *SIGNING), asked_for(0x1100)
+    older = desk.comes(b"GET /coun")
+    waits = desk.comes(b"POST /ocsp HTTP/1.1\r\nContent-Length: %d\r\n\r\n" % len(body) + body)
+    t.true(held.signers.until(1), "no signature is requested")
+    authority.until(lambda: desk.files == desk.before + 3, "the end of all other connections")
+    t.tool("prlimit", "--pid", desk.desk.process.pid, f"--nofile={desk.files}:{desk.files}")
+    t.same(program.parted(desk.desk.send(b"GET /counts HTTP/1.1\r\n\r\n", timeout=20))[0], 200, "GET /counts")
+    held.release.set()
+    t.true(is_signed(program.parted(program.read_all(waits))[2]), "the answer of the client that waited is not signed")
+    t.same(program.read_all(older), b"", "the response to the older client")
+    desk.loses(older, why="crowded")
 
 
 @test(seconds=2)
@@ -534,6 +553,27 @@ def a_crl_delays_control_lines_and_no_http_request(t):
         held.release.set()
         t.same((crl.result(), request.result().split(" due ")[0]), ("crl 1 entries 0", "request 1"))
     t.same(len(held.signers.asked), 1, "requested signatures")
+
+
+@test(seconds=2)
+def a_crl_delays_no_signature_of_an_answer(t):
+    """The signer holds the CRL's signature, and signs answers."""
+    release = threading.Event()
+    t.callback(release.set)
+    sign = lambda message: ANY_SIGNATURE if names(message, 0x1111) or release.wait(60 * program.PATIENCE) else None
+    signers = t.enter_context(Signers(t.room / "ca.sign", sign))
+    desk = opened(t)
+    with ThreadPoolExecutor(1) as pool, t.control() as control:
+        crl = pool.submit(control.ask, "crl")
+        try:
+            t.true(signers.until(1), "the CRL's signature is not requested")
+            for _ in range(3):
+                response = desk.ask("POST", "/ocsp", asked_for(0x1111), timeout=20)
+                t.true(is_signed(program.parted(response)[2]), "an answer is not signed")
+            t.same(crl.done(), False, "whether the CRL is issued")
+        finally:
+            release.set()
+        t.same(crl.result(), "crl 1 entries 0")
 
 
 @test(seconds=5)
