@@ -540,6 +540,25 @@ def the_oldest_connection_is_evicted_after_a_thousand_others_too(t):
             t.same(parted(read_all(it))[0], 200, "the answers to the other clients")
 
 
+@test(seconds=3)
+def a_thousand_lost_connections_free_their_slots(t):
+    """Each client waits for a signature, for which the signer has no room. The desk has 960 slots, but descriptors for ten clients: each new client
+    evicts the oldest one."""
+    t.register(key=P256_KEY)
+    request = b"POST /ocsp HTTP/1.1\r\nContent-Length: %d\r\n\r\n" % len(asks(1)) + asks(1)
+    with full_queue(t), contextlib.ExitStack() as open_ones:
+        desk, clients = Passing(t, *SIGNING), collections.deque()
+        t.tool("prlimit", "--pid", desk.desk.process.pid, f"--nofile={desk.before + 10}:{desk.before + 10}")
+        for number in range(1_000):
+            clients.append(open_ones.enter_context(desk.desk.connect(timeout=20)))
+            clients[-1].sendall(request)
+            if number >= 12:
+                with clients.popleft() as evicted:
+                    t.same(read_all(evicted), b"", f"the response to client {number - 12}")
+        t.same(parted(desk.desk.send(COUNTS, timeout=20))[0], 200, "the next client")
+        t.true(lost_by(desk.desk)["crowded"] > 960, "fewer connections were lost than there are slots")
+
+
 # File descriptors
 
 # How many HTTP connections a desk has at most.
@@ -637,14 +656,12 @@ def a_client_is_accepted_although_accept_failed_once(t, error, place):
     t.same((faults.counted(t.room / "count")["met"], desk.process.poll()), (1, None), "injected faults, and the exit status of the desk")
 
 
-@test(seconds=3)
-def a_client_that_is_gone_before_it_is_accepted_costs_nobody_a_connection(t):
-    """accept(2) fails with ECONNABORTED. No descriptor is needed then, as it would be after EMFILE."""
-    t.register()
+def beside_a_client(t, error):
+    """A desk with a client whose request is not whole, which gets this error when it accepts the next one; and the client."""
     calls = lambda kind: faults.counted(t.room / "count")[kind]
 
     def opened(control, fail):
-        """A desk with a client whose request is not whole, and the count of calls of accept(2) by then: one found the client, the next one nobody."""
+        """The desk, the client, and the count of calls of accept(2) by then: one found the client, the next one nobody."""
         desk = t.open("ca.db", "--control", control, faults=faults.environment(count=t.room / "count", fail=fail))
         # The desk polls for the second time after its calls of accept(2) at the start.
         authority.until(lambda: calls("poll") >= 2, "the desk to wait for clients")
@@ -654,13 +671,52 @@ def a_client_that_is_gone_before_it_is_accepted_costs_nobody_a_connection(t):
         authority.until(lambda: calls("accept") == before + 2 and program.is_read(client), "the desk to read a part of the request")
         return desk, client, before + 2
 
+    t.register()
     desk, _, count = opened("first", None)
     desk.end()
-    desk, client, _ = opened("second", f"accept:{count + 1}=ECONNABORTED")
+    return opened("second", f"accept:{count + 1}={error}")[:2]
+
+
+@test(seconds=3)
+def a_client_that_is_gone_before_it_is_accepted_costs_nobody_a_connection(t):
+    """accept(2) fails with ECONNABORTED. No descriptor is needed then, as it would be after EMFILE."""
+    desk, client = beside_a_client(t, "ECONNABORTED")
     t.same(parted(desk.send(COUNTS))[0], 200, "the next client")
-    t.same(calls("met"), 1, "injected faults")
+    t.same(faults.counted(t.room / "count")["met"], 1, "injected faults")
     client.sendall(COUNTS[9:])
     t.same(parted(read_all(client))[0], 200, "the first client")
+
+
+@test(seconds=3)
+def another_error_of_accept_evicts_a_client_and_does_not_end_the_desk(t):
+    desk, client = beside_a_client(t, "EINVAL")
+    t.same(parted(desk.send(COUNTS))[0], 200, "the next client")
+    t.same(read_all(client), b"", "the response to the first client")
+    t.same((faults.counted(t.room / "count")["met"], desk.process.poll()), (1, None), "injected faults, and the exit status of the desk")
+
+
+@each({"at the port": "port", "at the control socket": "control socket"}, seconds=3)
+def where_accept_fails_again_and_again(t, place):
+    """For a client at the port the desk ends, as it has no connection that it could close. A client at the control socket doesn't keep it busy."""
+    t.register()
+    waits = lambda count: authority.until(lambda: faults.counted(t.room / count)["poll"] >= 2, "the desk to wait for clients")
+    desk = t.open("ca.db", faults=faults.environment(count=t.room / "usual"))
+    waits("usual")
+    before = faults.counted(t.room / "usual")["accept"]
+    desk.end()
+    desk = t.open("ca.db", "--control", "second", faults=faults.environment(count=t.room / "count", fail=f"accept:{before + 1}+=EINVAL"))
+    waits("count")
+    if place == "port":
+        # The desk may end before the client knows that it is connected.
+        with contextlib.suppress(ConnectionResetError):
+            t.enter_context(desk.connect())
+        authority.until(lambda: desk.process.poll() is not None, "the end of the desk", seconds=20)
+        ran = desk.wait()
+        t.same((ran.status, ran.err), (1, b"F4 read\n"), "its status, and standard error")
+    else:
+        t.control("second")
+        authority.until(lambda: faults.counted(t.room / "count")["met"], "accept(2) to fail")
+        seldom_wakes_up(t, 1)
 
 
 @test(seconds=2)
@@ -701,6 +757,12 @@ def a_silent_client(t, desk):
     client = t.enter_context(desk.connect())
     client.sendall(COUNTS[:9])
     authority.until(lambda: program.is_read(client), "the desk to read it")
+
+
+def half_a_line(t, desk):
+    control = t.control()
+    control.stream.sendall(b"coun")
+    authority.until(lambda: program.is_read(control.stream), "the desk to read it")
 
 
 def a_client_that_closed_its_side(t, desk):
@@ -749,6 +811,7 @@ def descriptors_that_ran_out_for_a_time(t, desk):
 
 # How often the desk may wake up in a second.
 IDLE = {"nobody": (lambda t, desk: None, 1), "eight control connections": (eight_control_connections, 1), "a silent client": (a_silent_client, 8),
+        "half a line": (half_a_line, 1),
         "a client that closed its side": (a_client_that_closed_its_side, 8),
         "a line that waits for its signature": (a_line_that_waits_for_its_signature, 8),
         "a signer that had no room": (a_signer_that_had_no_room, 1),
@@ -1046,11 +1109,12 @@ def an_import_takes_few_reads(t):
 
 
 @test
-def a_script_takes_few_reads(t):
-    """Each one takes as much as the buffer has room for, some 8 KiB."""
-    ran, count = faults.run(t, ["script"], given=f"{DAY} counts\n" * 4_000, only="stdin")
+def a_script_takes_few_reads_and_writes(t):
+    """Each read takes as much as the buffer has room for, some 8 KiB. A reply takes one write."""
+    ran, count = faults.run(t, ["script"], given=f"{DAY} counts\n" * 4_000, only="stdin,stdout")
     t.same((ran.status, len(ran.lines)), (0, 4_000), "status, and replies")
     t.true(10 < count["read"] < 100, f"{count['read']} reads of 112 KB")
+    t.true(10 < count["write"] < 10_000, f"{count['write']} writes of 4,000 replies")
 
 
 @test(seconds=2)
