@@ -88,6 +88,20 @@ def an_end_of_line_with_a_cr_is_the_same(t):
     t.same([control.file.readline() for _ in range(3)], [b"good\n", b"E22 syntax\n", b"E22 syntax\n"], "replies: only one CR is dropped")
 
 
+@test
+def long_lines_that_come_at_once_are_all_answered(t):
+    """They fill the buffers of the socket. The desk reads up to 64 KiB at once, which end within a line."""
+    desk = opened(t)
+    control = t.control()
+    t.same(control.ask("counts"), "good 1 revoked 0 expired 0")
+    count, line = 200, b"x" * 999 + b"\n"
+    desk.process.send_signal(signal.SIGSTOP)
+    sent = control.stream.send(count * line, socket.MSG_DONTWAIT)
+    desk.process.send_signal(signal.SIGCONT)
+    control.stream.sendall((count * line)[sent:])
+    t.same([control.file.readline() for _ in range(count)], [b"E22 syntax\n"] * count, "the replies")
+
+
 @each({"as many as are held": (HELD, True), "one fewer": (HELD - 1, False)})
 def bytes_without_an_end_of_line(t, count, is_ended):
     opened(t)
