@@ -24,6 +24,14 @@ def a_script_in_pieces(t, size):
     faults.audited(t, "ca.db", (1, 1, 3), "in pieces")
 
 
+@test
+def the_longest_lines_of_a_script_come_in_pieces(t):
+    """Each has 8,192 bytes, and each read takes one byte."""
+    longest = "x" * 8_192
+    ran, _ = faults.run(t, ["script"], f"{longest}\n{DAY} counts\n{longest}\n", only="stdin", short=1)
+    t.same((ran.status, ran.lines), (0, ["E22 syntax", "good 0 revoked 0 expired 0", "E22 syntax"]))
+
+
 @each({"one byte": 1, "seven bytes": 7}, seconds=2)
 def jobs_in_pieces(t, size):
     ran, _ = faults.run(t, ["init", "ca.db", "--name", program.NAME, "--key", program.KEY], only=STREAMS, short=size)
