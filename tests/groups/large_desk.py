@@ -4,6 +4,7 @@ after many requests, connections, signatures and failures, and after years."""
 import base64
 import contextlib
 import json
+import os
 import re
 import resource
 import signal
@@ -699,14 +700,19 @@ def more_requests_than_65536_of_one_desk(t):
         "/metrics": "/metrics",
     }  # fmt: skip
     rounds, batch = 1_320, [COUNTS] * 39 + [post(asks(1))] * 5 + [f"GET {it} HTTP/1.1\r\n\r\n".encode() for it in others.values()]
+    older = None
     for at in range(rounds):
+        if at == rounds - 100:
+            # It keeps its connection, while those of thousands of later clients end.
+            older = t.enter_context(desk.connect())
+            older.sendall(COUNTS[:9])
         t.same(together(desk, batch), len(batch), f"answers of round {at}")
     found = metrics(t, desk)
     answers, count = of(found, "desk_http_responses_total"), rounds * len(batch)
     t.true(count > 65_536, f"only {count} requests")
     wanted = {"/counts": 39 * rounds, "/ocsp": 5 * rounds, **dict.fromkeys(others, rounds)}
     t.same(answers, {f'{{route="{route}",code="200"}}': number for route, number in wanted.items()}, "answers by route")
-    t.same((found["desk_connections_accepted_total"], found["desk_exchange_seconds_count"]), (count + 1, count + 1), "connections and exchanges")
+    t.same((found["desk_connections_accepted_total"], found["desk_exchange_seconds_count"]), (count + 2, count + 1), "connections and exchanges")
     t.same(of(found, "desk_signatures_total"), {'{of="crl"}': 1, '{of="ocsp"}': 5 * rounds}, "signatures")
     t.same({*of(found, "desk_connections_lost_total").values(), *of(found, "desk_ocsp_internal_errors_total").values()}, {0}, "losses and errors")
     t.same(len(signer.asked) + sum(map(len, signer.kept)), 5 * rounds + 1, "messages to the signer")
@@ -714,6 +720,17 @@ def more_requests_than_65536_of_one_desk(t):
     t.same((t.room / "ca.log").read_text().count("\n"), count + 2, "lines of the log")
     with t.control() as control:
         t.same((control.ask("counts"), control.ask("crl")), ("good 0 revoked 0 expired 0", "crl 2 entries 0"), "lines at the control socket")
+    # With no descriptor left for a third client, the desk evicts the older one, whose number has 16 bits.
+    newer = t.enter_context(desk.connect())
+    newer.sendall(COUNTS[:9])
+    authority.until(lambda: program.is_read(newer), "the desk to read it")
+    files = len(os.listdir(f"/proc/{desk.process.pid}/fd"))
+    t.tool("prlimit", "--pid", desk.process.pid, f"--nofile={files}:{files}")
+    t.same(parted(desk.send(COUNTS))[0], 200, "a third client")
+    older.settimeout(20)
+    t.same(read_all(older), b"", "the response to the older client")
+    newer.sendall(COUNTS[9:])
+    t.same(parted(read_all(newer))[0], 200, "the newer client")
 
 
 @test(seconds=5)
