@@ -341,6 +341,26 @@ def each_octet_before_the_signature_counts(t):
         t.same(audited(t), (1, "broken: crl 1: its bytes do not encode the CRL that the records give\n", "broken\n"), f"octet {at} is changed")
 
 
+BOUNDS = {
+    "the least of a policy": ("--days", 1, "--crl-life", 1, "--ocsp-life", 28_800, "--cap", 1),
+    "the most of a policy": ("--days", 398, "--crl-life", 863_999, "--ocsp-life", 863_999, "--cap", 1_000_000),
+}
+
+
+@each({name: (options,) for name, options in BOUNDS.items()})
+def a_policy_s_bounds_are_sound(t, options):
+    t.register(lines="2026-01-01T00:00:00Z subscriber acme\n2026-01-01T00:00:00Z crl\n", options=options)
+    t.same(audited(t), (0, sound(t), ""))
+
+
+@test
+def a_schedule_of_sixteen_steps_until_9999_is_sound(t):
+    t.register(lines=A_CRL)
+    steps = [f"{year}-01-01T00:00:00Z={days}" for days, year in enumerate((1970, *range(2026, 2166, 10), 9999), 1)]
+    t.same((len(steps), t.done("schedule", "ca.db", *steps)), (16, "schedule set\n"))
+    t.same(audited(t), (0, sound(t), ""))
+
+
 @each(DAMAGED)
 def a_broken_reference_or_check_is_damage(t, statements):
     made(t, FIRST_DAY)
