@@ -1,8 +1,10 @@
 """Copies of a closed and of an open register. The program makes a whole and sound copy, at a path where no file was, or none."""
 
+import contextlib
 import os
 import re
 import shutil
+import sqlite3
 import struct
 import threading
 from concurrent.futures import ThreadPoolExecutor
@@ -226,6 +228,21 @@ def no_right(t):
         os.chmod(t.room / name, 0o644)
     ran = t.as_nobody("copy", "ca.db", "copy.db", "--why")
     t.same((ran.returncode, ran.stdout, ran.stderr), (1, b"", b"F2 store\n  permission denied, or the file system is read-only\n"))
+
+
+@each({"512 bytes": 512, "2,048 bytes": 2_048})
+def a_register_whose_pages_have_another_size(t, size):
+    """SQLite changed it. The desk's own registers have pages of 4,096 bytes."""
+    t.register(lines=ENTERED)
+    with contextlib.closing(sqlite3.connect(t.room / "ca.db", isolation_level=None)) as other:
+        for statement in ("PRAGMA journal_mode = delete", f"PRAGMA page_size = {size}", "VACUUM", "PRAGMA journal_mode = wal"):
+            other.execute(statement).fetchall()
+        t.same(other.execute("PRAGMA page_size").fetchall(), [(size,)], "the page size")
+    t.same(t.done("audit", "ca.db"), SOUND)
+    copied(t, t.done("copy", "ca.db", "copy.db"))
+    t.same(t.desk("crl", "copy.db").out, t.desk("crl", "ca.db").out, "the CRL")
+    opens(t, "ca.db", "good 2 revoked 0 expired 0")
+    opens(t, "copy.db", "good 2 revoked 0 expired 0")
 
 
 @each({f"of version {version}": (version,) for version in (1, 2)})
