@@ -888,6 +888,94 @@ def a_desk_seldom_wakes_up_once_a_signer_without_room_has_had_its_ten_seconds(t)
         seldom_wakes_up(t, 1)
 
 
+# What a desk keeps of an exchange
+
+
+def descriptors(desk):
+    """How many descriptors it has open."""
+    return len(os.listdir(f"/proc/{desk.process.pid}/fd"))
+
+
+def kibibytes(desk):
+    """Its data: what it has allocated, and what it has freed and will use again."""
+    with open(f"/proc/{desk.process.pid}/status") as status:
+        return int(re.search(r"VmData:\s*(\d+) kB", status.read())[1])
+
+
+def many_lines(t, desk):
+    lines = ("counts", "why", "status 05", "order 9 1", "no command", "ocsp 00", "last")
+    with t.control() as control:
+        control.stream.sendall("".join(f"{it}\n" for it in lines).encode() * 30)
+        t.same([control.file.readline() != b"" for _ in range(210)], [True] * 210)
+
+
+def many_requests(t, desk):
+    for target in ("/counts", "/metrics", "/health", "/crl", "/ocsp/AA==", "/nowhere", "/status/05", "/list/orders", "/changes") * 5:
+        t.true(desk.ask("GET", target).startswith(b"HTTP/1.1 "), f"no answer to GET {target}")
+
+
+def many_signatures(t, desk):
+    for at in range(25):
+        t.true(ANY_SIGNATURE in desk.ask("POST", "/ocsp", asks(1)), f"answer {at} has no signature")
+
+
+def many_crls(t, desk):
+    with t.control() as control:
+        t.true(all(control.ask("crl").startswith("crl ") for _ in range(15)), "a CRL is not issued")
+
+
+def many_copies(t, desk):
+    with Control(t.room / "control") as control:
+        for _ in range(3):
+            t.has(control.ask("copy copy.db"), "copied ")
+            os.remove(t.room / "copy.db")
+
+
+def many_lost_clients(t, desk):
+    for _ in range(30):
+        with desk.connect() as client:
+            client.sendall(b"GET /co")
+        with Control(t.room / "control") as control:
+            control.stream.sendall(b"cou")
+
+
+EXCHANGES = {
+    "lines": many_lines, "requests": many_requests, "signatures": many_signatures, "CRLs": many_crls, "copies": many_copies, "lost clients": many_lost_clients,
+}  # fmt: skip
+
+
+@each(EXCHANGES, seconds=2)
+def an_open_desk_keeps_no_memory_and_no_descriptor_of_an_exchange(t, exchange):
+    t.register(key=P256_KEY)
+    t.enter_context(Signers(t.room / "ca.sign"))
+    desk = t.open("ca.db", *SIGNING, "--log-file", "ca.log")
+    before = descriptors(desk)
+    exchange(t, desk)
+    first = kibibytes(desk)
+    for _ in range(3):
+        exchange(t, desk)
+    # The memory allocator may take one more piece of 132 KiB.
+    t.true(kibibytes(desk) - first < 256, f"its data grew from {first} to {kibibytes(desk)} KiB")
+    authority.until(lambda: descriptors(desk) <= before, f"the desk to close all but {before} descriptors", seconds=10)
+
+
+@test(seconds=2)
+def a_script_keeps_no_memory_and_no_descriptor_of_a_line(t):
+    t.register(key=P256_KEY)
+    t.enter_context(Signers(t.room / "ca.sign"))
+    with faults.Lines(t, "ca.db", SIGNING) as script:
+
+        def runs_lines():
+            for line in ("crl", *(f"ocsp {asks(1).hex()}", "counts", "order 9 1") * 20):
+                t.true(script.ask(f"{DAY} {line}")[:2] in ("cr", "oc", "go", "E0"), line)
+            return kibibytes(script), descriptors(script)
+
+        first, before = runs_lines()
+        for _ in range(4):
+            last, now = runs_lines()
+        t.same((last - first < 256, now), (True, before), f"its data grew from {first} to {last} KiB; its descriptors")
+
+
 @test(seconds=5)
 def an_idle_desk_uses_no_processor_time(t):
     t.register()
@@ -2060,6 +2148,21 @@ def a_log_that_may_not_be_read_is_not_passed_over(t, words):
     t.same((t.room / "copy.db").exists(), False, "whether there is a copy")
 
 
+@each({"an audit": ["audit", "ca.db"], "a copy": ["copy", "ca.db", "copy.db"]})
+def a_journal_that_may_not_be_read_is_not_passed_over(t, words):
+    """The register may have half of a transaction, which only SQLite can undo by its journal."""
+    t.register()
+    t.sql("ca.db", "PRAGMA wal_checkpoint(TRUNCATE)")
+    os.chmod(t.room / "ca.db", 0o644)
+    (t.room / "ca.db-journal").write_bytes(hot_journal())
+    os.chmod(t.room / "ca.db-journal", 0)
+    t.as_nobody("--version")
+    os.chmod(t.room, 0o777)
+    ran = t.as_nobody(*words)
+    t.same((ran.returncode, ran.stdout, ran.stderr), (1, b"", b"F2 store\n"))
+    t.same((t.room / "copy.db").exists(), False, "whether there is a copy")
+
+
 @test
 def each_log_has_salts_of_its_own(t):
     """Without them, frames that an earlier log left behind could pass for those of a later one (SQLite's file format, 4.1)."""
@@ -2079,6 +2182,17 @@ def a_job_leaves_nothing_in_the_log(t):
     t.register(lines=f"{DAY} subscriber acme\n{DAY} crl\n")
     size = (t.room / "ca.db-wal").stat().st_size
     t.true(size < 4_096, f"the log has {size} bytes, which are a page and more")
+
+
+@test
+def a_job_with_another_signer_leaves_nothing_in_the_log(t):
+    """The job has made the register newer before it refuses the signer."""
+    registers.make(t.room / "ca.db", registers.Records(50, 4), 2)
+    ran = t.desk("script", "ca.db", "--signer", "ca.sign", "--algorithm", "ed25519")
+    t.same((ran.status, ran.out, ran.err), (1, b"", b"bad-signer\n"))
+    size = (t.room / "ca.db-wal").stat().st_size
+    t.true(size < 4_096, f"the log has {size} bytes, which are a page and more")
+    t.has(t.done("audit", "ca.db"), "sound, 50 certificates, ")
 
 
 @test(seconds=2)
