@@ -397,6 +397,20 @@ def only_the_named_socket_is_used(t, command):
     t.same((len(told.asked), [other.asked for other in others]), ({"script": 1, "serve": 1, "open": 2}[command], [[], []]))
 
 
+@test
+def a_signer_s_path_has_107_bytes(t):
+    """That is the longest path of a socket."""
+    path = "./" * 49 + "long.sign"
+    t.register(key=P256_KEY)
+    t.signer("long.sign")
+    words = ("--signer", path, "--algorithm", "ecdsa-sha256")
+    t.same((len(path), tried(t, ["crl"], words)), (107, ["crl 1 entries 0"]), "the path's length, and a script's reply")
+    t.clock(MOMENT)
+    desk = t.open("ca.db", *words)
+    t.same(t.control().ask("crl"), "crl 2 entries 0", "at the control socket")
+    t.true(ANY_SIGNATURE in desk.ask("POST", "/ocsp", bytes.fromhex(faults.OCSP_REQUEST)), "the OCSP answer is not signed")
+
+
 # The forms of signatures and keys
 
 # An ECDSA signature is the DER of two positive INTEGERs below 2^256 or 2^384 (RFC 5480 appendix A, X.690 8.3, 10.1). Each row has bytes, whether they
