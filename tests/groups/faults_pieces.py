@@ -140,6 +140,38 @@ def a_read_of_an_import_fails(t):
             t.same(faults.tables(t.room / "ca.db"), before, f"the tables after read {at}, where no row was entered")
 
 
+# A file that a job reads in place of standard input: the words of the job, and what the file has.
+NAMED = {
+    "rows to register": (["at", "control", "--import", "named"], f"1,05,{DAY},2026-01-10T00:00:00Z\n" * 2),
+    "rows to order and register": (["at", "control", "--import", "named", "--orders", 1, 10], f"05,{DAY},2026-01-10T00:00:00Z\n" * 2),
+    "rows to revoke": (["at", "control", "--revoke", "named"], "05,superseded\n" * 2),
+    "a log": (["replay", "control", "named"], f'{DAY} control "status 05" "unknown" 8 1\n' * 2),
+}
+
+
+@each(NAMED)
+def a_read_of_a_named_file_fails(t, words, text):
+    """The job does not take the failure for the end of the file."""
+    t.register(lines=f"{DAY} subscriber acme\n{DAY} order 1 398\n")
+    t.clock(DAY)
+    t.open()
+    (t.room / "named").write_text(text)
+    for at in (1, 2, 3):
+        ran = t.desk(*words, faults=faults.environment(only="named", short=16, fail=f"read:{at}", count=t.room / "count"))
+        t.same((ran.status, ran.err, faults.counted(t.room / "count")["met"]), (1, b"F4 read\n", 1), f"read {at}")
+
+
+@test
+def a_read_of_a_published_crl_fails(t):
+    t.register(lines=f"{DAY} crl\n")
+    (t.room / "named").write_bytes(t.desk("crl", "ca.db").out)
+    words = ["--port", program.free_port(), "--published", "named"]
+    for words in (["open", "ca.db", "--control", "control", "--unsigned", *words], ["serve", "ca.db", "--requests", 1, *words]):
+        for at in (1, 2, 3):
+            ran, count = faults.run(t, words, only="named", short=16, fail=f"read:{at}")
+            t.same((ran.status, ran.out, ran.err, count["met"]), (1, b"", b"F4 read\n", 1), f"{words[0]}, read {at}")
+
+
 @each({"fails": "", "fails from then on": "+", "moves nothing": "=0"}, seconds=6)
 def a_write_of_replies_fails(t, how):
     base = t.register("base.db")
