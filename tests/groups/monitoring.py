@@ -12,6 +12,7 @@ import urllib.request
 from concurrent.futures import ThreadPoolExecutor
 
 from lib import authority, faults, program
+from lib.passing import Passing
 from lib.program import ANY_SIGNATURE, Signers, parted
 from lib.trial import Failed, each, need, test
 from model import der
@@ -176,20 +177,37 @@ def answers_of_each_status_at_each_route(t):
     t.same(sum(of(metrics(t, desk), "desk_http_responses_total").values()), 6 * len(ROUTES) + 1, "answers in all, with the text before")
 
 
-@test
-def a_long_crl_is_read_for_the_metrics(t):
-    """The desk reads the latest CRL to find out whether it has a placeholder digest, in place of which a signer would issue a new one at once."""
+def with_long_crl(t, count):
+    """A register whose latest CRL has a signature of so many octets. The desk reads that CRL to find out whether it has a placeholder digest."""
     t.register(key=program.P256_KEY)
     t.signer()
     t.done("script", "ca.db", *SIGNING, given=f"{DAY} crl\n")
     [(crl,)] = t.sql("ca.db", "SELECT der FROM crl")
     part, algorithm, _ = authority.values_of(authority.inside(crl)[1])
-    t.sql("ca.db", "UPDATE crl SET der = ?", der.value(0x30, part[2], algorithm[2], der.value(0x03, bytes(2_000_000))))
+    t.sql("ca.db", "UPDATE crl SET der = ?", der.value(0x30, part[2], algorithm[2], der.value(0x03, bytes(count))))
     t.clock(DAY)
-    desk = t.open("ca.db", *SIGNING)
+    return t.open("ca.db", *SIGNING)
+
+
+@test
+def a_long_crl_is_read_for_the_metrics(t):
+    """The desk reads the latest CRL to find out whether it has a placeholder digest, in place of which a signer would issue a new one at once."""
+    desk = with_long_crl(t, 2_000_000)
     found = metrics(t, desk)
     t.same((found["desk_register_readable"], found["desk_crl_number"], found["desk_crl_due_timestamp_seconds"]), (1, 1, FIRST + 7 * 86_400))
     t.same(health(t, desk), (200, {}))
+
+
+@test(seconds=2)
+def the_latest_crl_is_read_once_for_the_metrics(t):
+    """After the first /metrics, the desk has memory for short answers only. It keeps whether that CRL has a placeholder digest."""
+    desk = with_long_crl(t, 40_000_000)
+    t.same(metrics(t, desk)["desk_register_readable"], 1)
+    (kilobytes,) = re.findall(r"^VmSize:\s+(\d+) kB$", open(f"/proc/{desk.process.pid}/status").read(), re.MULTILINE)
+    t.tool("prlimit", "--pid", desk.process.pid, f"--as={1_024 * int(kilobytes) + 8_000_000}")
+    for _ in range(2):
+        t.same(metrics(t, desk)["desk_register_readable"], 1, "later")
+        t.same(health(t, desk), (200, {}))
 
 
 @test
@@ -421,6 +439,74 @@ def it_changes_nothing(t):
         asked(t, desk, path)
     t.clock("2026-01-02T00:00:00Z")
     t.same(t.done("at", "control", given="order 1 90\n"), "order 1\n", "a command at an earlier moment than that of the two requests")
+
+
+# ---- what is seldom so
+
+# For each row: lines, the moment of the clock at which the desk is asked, and samples of /metrics at that moment.
+CERTIFICATE = ["subscriber acme", "order 1 30", f"register 1 05 {DAY} 2026-01-20T00:00:00Z"]
+SELDOM = {
+    "each certificate has ended": (
+        CERTIFICATE, "2026-01-21T00:00:00Z", {'desk_certificates{status="good"}': 0, 'desk_certificates{status="expired"}': 1}),
+    "two requests are overdue": (
+        [*CERTIFICATE, *["request 05 asked"] * 2], "2026-01-03T00:00:00Z", {"desk_requests_open": 2, "desk_requests_overdue": 2}),
+    "a table is full": (
+        ["subscriber acme", *["order 1 30"] * 3, *(f"register {it} 0{it} {DAY} 2026-01-20T00:00:00Z" for it in (1, 2, 3))], DAY,
+        {'desk_rows{table="certificates"}': 3, "desk_rows_cap": 3}),
+    "the seconds since 1970 have more than 32 bits": ([], 2**32 + 1, {"desk_clock_timestamp_seconds": 2**32 + 1}),
+}
+
+
+@each(SELDOM)
+def the_metrics_are_whole(t, lines, moment, wanted):
+    """None of this is a failure of the store."""
+    t.register(lines="".join(f"{DAY} {it}\n" for it in lines), options=("--cap", "3"))
+    t.clock(moment)
+    desk = t.open()
+    found = metrics(t, desk)
+    t.same({it: found.get(it) for it in (*wanted, "desk_register_readable")}, {**wanted, "desk_register_readable": 1})
+    t.same(health(t, desk)[1].get("store"), None, "since when the store fails")
+
+
+@test(seconds=2)
+def answers_that_take_more_than_ten_seconds(t):
+    """No signature comes in time, so each of seven OCSP clients gets its answer ten seconds and a millisecond after its request."""
+    release = threading.Event()
+    t.callback(release.set)
+    signers = t.enter_context(Signers(t.room / "ca.sign", lambda message: (release.wait(60), ANY_SIGNATURE)[1]))
+    t.register(key=program.P256_KEY)
+    desk = Passing(t, *SIGNING)
+    with ThreadPoolExecutor(7) as pool:
+        waits = [pool.submit(desk.desk.ask, "POST", "/ocsp", OCSP) for _ in range(7)]
+        t.true(signers.until(7), "fewer than seven signatures are requested")
+        # Two other clients are answered meanwhile.
+        desk.advance(10_001)
+        t.same({parted(it.result())[2] for it in waits}, {authority.INTERNAL}, "the answers")
+    found = metrics(t, desk.desk)
+    seconds = of(found, "desk_exchange_seconds")
+    t.same((seconds['_bucket{le="10"}'], seconds['_bucket{le="+Inf"}'], seconds["_sum"]), (2, 9, 70.007), "two buckets, and the sum of the seconds")
+    by_route = of(found, "desk_http_response_seconds")
+    t.same((by_route['_count{route="/ocsp"}'], by_route['_sum{route="/ocsp"}']), (7, 70.007), "answers of /ocsp, and their seconds")
+
+
+@test
+def a_scrape_beside_a_hundred_connections(t):
+    desk = opened(t)
+    with contextlib.ExitStack() as clients:
+        for _ in range(101):
+            clients.enter_context(desk.connect())
+        authority.until(lambda: metrics(t, desk)['desk_connections{at="port"}'] == 102, "all connections, and that of /metrics")
+
+
+@test
+def why_a_later_crl_is_due_at_once(t):
+    t.register(lines=f"{DAY} crl\n" * 2, key=program.P256_KEY)
+    t.signer()
+    t.clock(DAY)
+    t.open("ca.db", *SIGNING)
+    with t.control() as control:
+        why = "why CRL 2 has a placeholder digest: the next one is due at once"
+        t.same([control.ask(it) for it in ("next-crl", "why")], ["next-crl 2026-01-08T00:00:00Z", why])
 
 
 # ---- Prometheus
