@@ -150,6 +150,16 @@ def the_log_has_the_requests_and_the_times_of_lines_that_came_together(t):
     t.same(told, wanted, "the bytes, the microseconds and the request of each line in the log")
 
 
+@test
+def why_explains_a_line_that_came_together_with_others(t):
+    t.register(lines=f"{DAY} subscriber acme\n{DAY} order 1 30\n")
+    t.clock(DAY)
+    desk = t.open()
+    with t.control() as control:
+        replies = send_together(desk, control, ["subscriber other", f"register 1 05 {DAY} {END}", "why"])
+    t.same(replies, ["subscriber 2", "E12 too-long", "why notAfter at most 2026-01-30T23:59:59Z"])
+
+
 @test(seconds=2)
 def none_has_happened_if_the_commit_fails(t):
     t.register()
