@@ -75,6 +75,16 @@ def an_accepted_clock_lasts_for_30_days_and_until_the_desk_is_closed(t):
 
 
 @test
+def a_moment_that_is_still_to_come_may_be_accepted(t):
+    opened(t)
+    t.clock(moment_of(FIRST + 2 * MONTH))
+    with t.control() as control:
+        t.same(control.ask("order 1 30"), BAD)
+        t.same(control.ask(f"accept-clock {moment_of(FIRST + 3 * MONTH)}"), "clock accepted")
+        t.same(control.ask("order 1 30"), "order 3")
+
+
+@test
 def desk_at_ends_with_status_3(t):
     opened(t)
     t.clock(moment_of(FIRST + MONTH + 1))
