@@ -78,6 +78,13 @@ def a_revocation_after_2038(t):
     }
     with t.control() as control:
         t.same({it: control.ask(it) for it in lines}, lines)
+def why_names_a_moment_after_2050(t):
+    t.register(lines=f"{DAY} subscriber acme\n{DAY} order 1 30\n")
+    t.clock(DAY)
+    t.open()
+    with t.control() as control:
+        t.same(control.ask("register 1 05 2050-01-01T00:00:00Z 2050-01-31T00:00:00Z"), "E12 too-long")
+        t.same(control.ask("why"), "why notAfter at most 2050-01-30T23:59:59Z")
 
 
 @test
