@@ -78,6 +78,9 @@ def a_revocation_after_2038(t):
     }
     with t.control() as control:
         t.same({it: control.ask(it) for it in lines}, lines)
+
+
+@test
 def why_names_a_moment_after_2050(t):
     t.register(lines=f"{DAY} subscriber acme\n{DAY} order 1 30\n")
     t.clock(DAY)

@@ -3,7 +3,7 @@
 import json
 import re
 
-from lib.program import parted
+from lib.program import Control, parted
 from lib.trial import each, test
 
 DAY = "2026-01-01T00:00:00Z"
@@ -94,6 +94,17 @@ def what_is_shown_is_a_row_of_its_list(t):
         t.same(shown(t, word), json.loads(parted(desk.ask("GET", f"/list/{list_word}"))[2])["rows"][at], word)
     t.same((shown(t, "02")["status"], shown(t, "request 2")["serial"], shown(t, "subscriber acme")), ("revoked", serial(3), {"subscriber": 1, "name": "acme"}))
     t.same([shown(t, f"request {number}")["state"] for number in (1, 2, 3)], ["revoked", "open", "declined"], "the state of each request")
+
+
+@test
+def a_subscriber_with_a_name_of_64_bytes_is_shown(t):
+    """A label has 64 bytes at most."""
+    name = "a" * 64
+    t.register(lines=f"{DAY} subscriber {name}\n")
+    t.clock(DAY)
+    t.open()
+    with Control(t.room / "control", timeout=10) as control:
+        t.same(json.loads(control.ask(f"show subscriber {name}")), {"subscriber": 1, "name": name})
 
 
 @test
