@@ -9,7 +9,7 @@ The exit status is 1 if an edit is not refused, does not apply or was not tried,
 a temporary copy of the crates as they stand in the working tree. `rt must-fail` reuses the proofs that `rt check` kept, so check the crate first.
 
 Run --some after an `rt ci` that passed on the same files: rt takes all proofs from that run. The sample has up to four edits of one crate
-that builds within 250 seconds (tools/build-times.txt): rt proves it once more, and tries each edit over that. Only you try those of others.
+that builds within 500 seconds (tools/build-times.txt): rt proves it once more, and tries each edit over that. Only you try those of others.
 """
 import hashlib
 import re
@@ -24,7 +24,7 @@ RT = shutil.which("rt") or "/opt/rattle/bin/rt"
 # rt tries only the edits of the first folder.
 GATE, OTHERS = "must-fail", "edits"
 MOST, MOST_AT_GATE, MOST_CRATES_AT_GATE = 120, 16, 3
-MOST_IN_SAMPLE, SECONDS_OF_SMALL_CRATE = 4, 250
+MOST_IN_SAMPLE, SECONDS_OF_SMALL_CRATE = 4, 500
 NAME = re.compile(r"[a-z0-9_]+__[a-z0-9_]+\.edit")
 REFUSED = re.compile(r"rt: must-fail (\w+/\w+\.edit): refused")
 

@@ -200,7 +200,7 @@ exit "$STATUS"
 def edits_are_tried(t, accepted, status, wanted):
     """An edit that rt does not report as refused fails the trial, and so does rt."""
     need("git")
-    files = {"crates.txt": "reg_a:\nreg_b:\n", "tools/build-times.txt": "reg_a 250\nreg_b 251\n"}
+    files = {"crates.txt": "reg_a:\nreg_b:\n", "tools/build-times.txt": "reg_a 500\nreg_b 501\n"}
     files |= {f"crates/reg_{crate}/src/a.rt": SOURCE for crate in "ab"}
     files |= {f"crates/reg_a/edits/a__{it}.edit": edit("one(", "two(") for it in ("one", "two", "three", "four", "five")}
     files |= {f"crates/reg_b/edits/b__{it}.edit": edit("one(", "two(") for it in ("one", "two")}
