@@ -16,6 +16,7 @@ import subprocess
 import sys
 import time
 from concurrent.futures import ThreadPoolExecutor
+from itertools import takewhile
 from pathlib import Path
 
 from groups.limits import full_queue
@@ -152,6 +153,13 @@ def with_wrong_libcrypto():
     return ["env", f"LD_PRELOAD={wrong_libcrypto()}"]
 
 
+def preloaded(t, name, text, *variables):
+    """Words before those of the signer, so that it loads this C code first."""
+    (t.room / f"{name}.c").write_text(text)
+    t.tool("cc", "-shared", "-fPIC", "-O2", "-o", f"{name}.so", f"{name}.c", "-ldl")
+    return ["env", f"LD_PRELOAD={t.room / name}.so", *variables]
+
+
 @each(ALGORITHMS, seconds=2)
 def signatures_that_don_t_verify(t, algorithm):
     """With --only-ours the signer notices them at its start, and fails."""
@@ -160,6 +168,41 @@ def signatures_that_don_t_verify(t, algorithm):
     t.same((ran.returncode, ran.stdout), (1, b""), "status and output")
     t.has(ran.stderr, f"{NAME}{it.key}: its signature does not verify by the certificate".encode())
     t.same(t.tool(*with_wrong_libcrypto(), native.signer(), it.key), f"{algorithm}\n".encode(), "without a certificate")
+
+
+# Loaded before the signer (LD_PRELOAD), this changes the signatures that libcrypto makes with a nonce that was drawn ahead.
+WRONG = """
+#define _GNU_SOURCE
+#include <dlfcn.h>
+#include <openssl/ec.h>
+
+typedef int Sign(int, const unsigned char *, int, unsigned char *, unsigned *, const BIGNUM *, const BIGNUM *, EC_KEY *);
+
+int ECDSA_sign_ex(int type, const unsigned char *digest, int size, unsigned char *signature, unsigned *length, const BIGNUM *inverse, const BIGNUM *r,
+                  EC_KEY *key) {
+    int is_signed = ((Sign *)dlsym(RTLD_NEXT, "ECDSA_sign_ex"))(type, digest, size, signature, length, inverse, r, key);
+    if (is_signed == 1 && inverse)
+        signature[*length - 1] ^= 1;
+    return is_signed;
+}
+"""
+
+
+@test(seconds=2)
+def a_signature_with_a_nonce_that_was_drawn_ahead_is_verified_too(t):
+    """With --only-ours, a client gets no signature that does not verify."""
+    it = Authority(t)
+    process = started(t, "--only-ours", it.pem, it.key, before=preloaded(t, "wrong", WRONG))
+    message = ours(filter_module().issuer_of(it.pem))[0]
+
+    def is_refused():
+        signed = signature(t.room / "ca.sign", message)
+        if signed:
+            verifies(t, it, message, signed)
+        return not signed
+
+    authority.until(is_refused, "a signature with a nonce that was drawn ahead")
+    t.same(ended(process), (0, [f"{NAME}refused to sign {len(message)} bytes: its signature does not verify by the certificate"]), "standard error")
 
 
 @test(seconds=2)
@@ -1024,6 +1067,118 @@ def an_idle_connection_makes_room(t):
     t.same(ended(process), (0, []), "standard error")
 
 
+@test(seconds=2)
+def a_connection_is_idle_from_its_last_answer_on(t):
+    """A message begins, and ends after another client's message was answered. With 256 open connections and another client, the signer closes the
+    one that has been idle for longest: that of the other client."""
+    it = Authority(t)
+    process = started(t, "--persistent", it.key)
+    slow, quick, message = persistent(t), persistent(t), frame(b"a message")
+    slow.sendall(message[:5])
+    authority.until(lambda: program.is_read(slow), "the signer to read the beginning of the message")
+    t.true(asked(quick, b"a message"), "the client whose message comes whole gets no signature")
+    slow.sendall(message[5:])
+    t.true(answer(slow), "the client whose message comes in parts gets no signature")
+    for _ in range(255):
+        persistent(t)
+    authority.until(lambda: select.select([slow, quick], [], [], 0)[0], "the end of a connection")
+    t.same([bool(asked(client, b"a message")) for client in (slow, quick)], [True, False], "whether each connection is open")
+    t.same(ended(process), (0, []), "standard error")
+
+
+# Loaded before the signer (LD_PRELOAD), this appends to the file TURNS each call by which the signer reads from a client (r) or answers it (s), with
+# the number of its descriptor. A client with a long message has always sent more: a call that has room for it waits for a second.
+TURNS = """
+#define _GNU_SOURCE
+#include <dlfcn.h>
+#include <errno.h>
+#include <poll.h>
+#include <stdio.h>
+#include <stdlib.h>
+#include <sys/socket.h>
+
+static ssize_t noted(char what, int client, ssize_t octets) {
+    int error = errno;
+    FILE *turns = fopen(getenv("TURNS"), "a");
+    fprintf(turns, "%c %d %zd\\n", what, client, octets);
+    fclose(turns);
+    errno = error;
+    return octets;
+}
+
+ssize_t recv(int from, void *octets, size_t room, int flags) {
+    ssize_t (*real)(int, void *, size_t, int) = dlsym(RTLD_NEXT, "recv");
+    if (room > 32768)
+        poll(&(struct pollfd){from, POLLIN, 0}, 1, 1000);
+    return noted('r', from, real(from, octets, room, flags));
+}
+
+ssize_t send(int to, const void *octets, size_t length, int flags) {
+    ssize_t (*real)(int, const void *, size_t, int) = dlsym(RTLD_NEXT, "send");
+    return noted('s', to, real(to, octets, length, flags));
+}
+"""
+
+
+def turns(t, what):
+    """The clients that the signer read from ("r") or sent to ("s"), each time with how many octets."""
+    lines = (line.split() for line in (t.room / "turns").read_text().splitlines())
+    return [(client, int(octets)) for kind, client, octets in lines if kind == what]
+
+
+@test(seconds=2)
+def two_hundred_messages_of_one_client_hold_up_nobody(t):
+    """They come in one write while the signer is stopped, and so do two other clients. The signer accepts the second of these once it has answered
+    each of the first two clients once."""
+    it = Authority(t)
+    process = started(t, "--persistent", it.key, before=preloaded(t, "turns", TURNS, f"TURNS={t.room / 'turns'}"))
+    many = persistent(t)
+    t.true(asked(many, b""), "no signature")
+    process.send_signal(signal.SIGSTOP)
+    many.sendall(200 * frame(b""))
+    others = [t.enter_context(connected(t.room / "ca.sign")) for _ in range(2)]
+    for client in others:
+        client.sendall(b"a message")
+        client.shutdown(socket.SHUT_WR)
+    process.send_signal(signal.SIGCONT)
+    for client in others:
+        verifies(t, it, b"a message", announced(t, program.read_all(client)))
+    t.true(all(answer(many) for _ in range(200)), "a message of the first client is not signed")
+    first, *sent = (client for client, _ in turns(t, "s"))
+    t.same((len(sent), sent.count(first)), (202, 200), "answers after the first one, and those to the first client")
+    last = max(at for at, number in enumerate(sent) if number != first)
+    t.true(last < 20, f"the last client gets answer {last + 2}")
+    t.same(ended(process), (0, []), "standard error")
+
+
+@test(seconds=2)
+def a_long_message_takes_turns_with_others(t):
+    """A client has always sent more of its 8 MiB. The signer reads from another client, whose message came with the beginning of the long one, after
+    a part of it."""
+    it = Authority(t)
+    process = started(t, it.key, before=preloaded(t, "turns", TURNS, f"TURNS={t.room / 'turns'}"))
+    other, long = (t.enter_context(connected(t.room / "ca.sign")) for _ in range(2))
+    for client in (other, long):
+        client.sendall(b"a")
+        authority.until(lambda: program.is_read(client), "the signer to read the beginning")
+    process.send_signal(signal.SIGSTOP)
+    before = turns(t, "r")
+    other.sendall(b" message")
+    other.shutdown(socket.SHUT_WR)
+    long.sendall(bytes(65_536))
+    with ThreadPoolExecutor(1) as pool:
+        rest = pool.submit(long.sendall, bytes(8 << 20))
+        process.send_signal(signal.SIGCONT)
+        verifies(t, it, b"a message", program.read_all(other))
+        rest.result()
+    long.shutdown(socket.SHUT_WR)
+    t.true(program.read_all(long), "the long message is not signed")
+    reads = turns(t, "r")[len(before):]
+    octets = sum(octets for client, octets in takewhile(lambda it: it[0] != before[0][0], reads))
+    t.true(octets < 4 << 20, f"the other client's message is read after {octets} octets of the long one")
+    t.same(ended(process), (0, []), "standard error")
+
+
 @test(seconds=3)
 def connections_are_spread_over_the_processes(t):
     """While one of two processes is stopped, the other one serves all clients. Once it goes on, it gets the next ones, until both have as many.
@@ -1533,6 +1688,27 @@ def its_memory_is_locked_and_never_dumped(t):
 
 
 @test(seconds=2)
+def its_memory_is_locked_before_it_reads_the_passphrase(t):
+    """The passphrase comes through a pipe, for which the signer waits."""
+    it, pipe, writers = Authority(t), t.room / "passphrase", []
+    os.mkfifo(pipe)
+    words = [native.signer(), "--passphrase-file", pipe, it.key, "ca.sign"]
+    process = subprocess.Popen(words, cwd=t.room, stdout=subprocess.DEVNULL, stderr=subprocess.DEVNULL)
+    t.callback(authority.end, process)
+
+    def is_opened():
+        try:
+            writers.append(os.open(pipe, os.O_WRONLY | os.O_NONBLOCK))
+        except OSError:
+            pass
+        return writers
+
+    authority.until(is_opened, "the signer to open the pipe")
+    t.true(int(status_of(process.pid)["VmLck"].split()[0]) > 0, "its memory is not locked")
+    os.close(writers[0])
+
+
+@test(seconds=2)
 def it_is_built_for_an_attacker(t):
     """The program that holds the key is loaded anywhere in memory, its tables of functions can't be written, its stack is no code and has canaries, and
     the C library checks the sizes of what it writes."""
@@ -1578,6 +1754,34 @@ def another_user(t):
     t.same((ran.returncode, ran.stderr, (t.room / "other.sign").exists()), (1, b"desk-signer: no user no-such-user\n", False), "a name that no user has")
 
 
+# Loaded before the signer (LD_PRELOAD), this has setuid(2) allow core dumps.
+ALLOWS = """
+#define _GNU_SOURCE
+#include <dlfcn.h>
+#include <sys/prctl.h>
+#include <unistd.h>
+
+int setuid(uid_t user) {
+    int (*real)(uid_t) = dlsym(RTLD_NEXT, "setuid"), status = real(user);
+    prctl(PR_SET_DUMPABLE, 1);
+    return status;
+}
+"""
+
+
+@test(seconds=2)
+def another_user_on_a_machine_whose_setuid_allows_dumps(t):
+    """So does setuid(2) if fs.suid_dumpable is 1 (proc(5)). The signer forbids dumps again, also in its other processes."""
+    if os.geteuid():
+        raise Skipped("only root can start a signer that becomes another user")
+    it = Authority(t)
+    t.room.chmod(0o755)
+    process = started(t, "--user", "nobody", "--processes", 2, it.key, before=preloaded(t, "allows", ALLOWS))
+    for number in (process.pid, *native.children(process)):
+        t.true(status_of(number)["Uid"].split()[0] != "0", "it is root")
+        t.same(Path(f"/proc/{number}/mem").stat().st_uid, 0, "the owner of /proc/NUMBER/mem, which is root if dumps are forbidden (proc(5))")
+
+
 @test(seconds=3)
 def memory_that_can_t_be_locked(t):
     need("setpriv")
@@ -1599,6 +1803,9 @@ def memory_that_can_t_be_locked(t):
     # The limit of systemd and of Debian's kernel.
     usual = ["bash", "-c", 'ulimit -l 8192; exec "$@"', "-", *as_nobody, copy]
     authority.started(t, [*usual, "--only-ours", it.pem, it.key, "usual.sign"], t.room / "usual.sign")
+    # A long message is no secret. The 16 MiB of memory that it takes are not locked.
+    authority.started(t, [*usual, it.key, "long.sign"], t.room / "long.sign")
+    t.true(signature(t.room / "long.sign", bytes(5 << 20)) != b"", "a message of 5 MiB gets no signature")
 
 
 # Tokens
