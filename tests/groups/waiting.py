@@ -242,7 +242,7 @@ def the_oldest_client_that_waits_for_a_signature_makes_room(t):
 
 @test(seconds=2)
 def a_client_that_waits_for_a_signature_counts_as_unanswered(t):
-    """The desk has no free file descriptor. It evicts an older client, who has sent a part of a request, and not the one that waits."""
+    """The desk has no free file descriptor. It evicts the client that sent only a part of its request. The client that waits keeps its connection."""
     held = Held(t)
     t.register(key=P256_KEY)
     desk, body = Passing(t, *SIGNING), asked_for(0x1100)
