@@ -123,7 +123,10 @@ def is_forwarder(it):
     body = re.sub(r"\s+", " ", it.body.strip()[1:-1]).strip()
     body = re.sub(r"^Ok\((.*)\?\)$", r"\1", body).removesuffix(";").removesuffix(".map_err(|_| Memory)")
     call = re.fullmatch(r"[\w.:<>, '&()*]*?\b\w+(?:::<[^()]*>)?\(([^()]*)\)", body)
-    return bool(call) and all(re.fullmatch(r"(&mut |&|\*)?(self(\.\w+)*|\w+(\.\w+)*(\.as_(str|slice|bytes)\(\))?)?", part.strip()) for part in call[1].split(",")) and not body[0].isupper()
+    if not call or body[0].isupper() or "&&" in body:
+        return False
+    argument = r"(&mut |&|\*)?(self(\.\w+)*|\w+(\.\w+)*(\.as_(str|slice|bytes)\(\))?)?"
+    return all(re.fullmatch(argument, part.strip()) for part in call[1].split(","))
 
 
 def main(words):
