@@ -3,4 +3,5 @@ pub mod FieldLemmas
 pub mod FrameLemmas
 pub mod HeadLemmas
 pub mod LawLemmas
+pub mod ResponseLemmas
 pub mod Written

@@ -4,4 +4,5 @@ pub mod Collected
 pub mod Frame
 pub mod Head
 pub mod Response
+pub mod ResponseStart
 pub mod Laws

@@ -3,6 +3,7 @@
 ghost use Rattle.std.specs.Prelude.{◌≡◌, ◌++◌, ◌∷◌, [], ℕ, List, codes, length, map, All};
 ghost use Rattle.httparse.specs.Spans.{header_bytes, IsHeaderWithin};
 ghost use Rattle.reg_http_head.specs.Head.{size_by, values_of, HasFieldValues};
+ghost use Rattle.reg_http_head.specs.ResponseStart.{length_of};
 
 use crate::status;
 use httparse::spans::{HeaderSpan, Span};
@@ -66,5 +67,20 @@ pub(crate) fn post_size(head: &[u8], fields: &[HeaderSpan]) -> Result<u64, u16>
             Some(size) if size > LONGEST_BODY => Err(status::PAYLOAD_TOO_LARGE),
             Some(size) => Ok(size),
         },
+    }
+}
+
+/// The length in bytes of the body of a response, if its fields state it: by one Content-Length, and no Transfer-Encoding.
+pub(crate) fn stated_length(head: &[u8], fields: &[HeaderSpan]) -> Option<u64>
+    requires { All (IsHeaderWithin (length head.now)) fields.now }
+    ensures { result ≡ length_of (map (header_bytes head.now) fields.now) }
+{
+    match values_of(head, fields, b"transfer-encoding") {
+        Values::Absent => {}
+        _ => return None,
+    }
+    match values_of(head, fields, b"content-length") {
+        Values::One(text) => read_number(text.of(head)),
+        _ => None,
     }
 }

@@ -14,7 +14,7 @@ use std::alloc::Global;
 use std::str;
 
 /// The most fields of a head. Their positions are kept in an array of this length, so nothing is allocated for them.
-const MOST_FIELDS: usize = 64;
+pub(crate) const MOST_FIELDS: usize = 64;
 
 /// A head that was read: the positions of its parts in it, and the length in bytes of its body (at most 65,536; 0 if the method is not POST).
 #[derive(Clone, Copy)]

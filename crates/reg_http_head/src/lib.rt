@@ -8,6 +8,7 @@ mod head;
 pub mod laws;
 mod request;
 mod response;
+mod response_head;
 mod scan_state;
 pub mod status;
 
@@ -15,3 +16,4 @@ pub use answer::Answer;
 pub use collected::Collected;
 pub use request::{Request, RequestRef, read_request};
 pub use response::{RESPONSE_HEAD_ROOM, memory_fault, put, put_answer, write_answer};
+pub use response_head::{ResponseHead, ResponseStart, read_response_start};
