@@ -1,9 +1,10 @@
 -- A text that is told in two writes, a port that is told whole or not, and one that is not bound.
-use Rattle.std.proofs.Common.{◌≡◌, ◌⊎◌, ℕ, List, [], ◌∷◌, ◌++◌, Option, Result, Ok, Err, OnErr, OnOk, refl, sym, subst, ap, inl, inr}
+use Rattle.std.proofs.Common.{◌≡◌, ◌⊎◌, ℕ, List, [], ◌∷◌, ◌++◌, Option, Result, Ok, Err, OnErr, OnOk, refl, sym, subst, ap, ◌∙◌, inl, inr}
 use Rattle.std.specs.Io.KnownBytes.{Appends}
 use Rattle.std.proofs.KnownBytes.{Appends-trans}
 use Rattle.reg_io.proofs.PublicLaws.{front_of_first, front_of_second}
 use Rattle.reg_desk_cli.specs.declared.failure.Failure.{Failure}
+use Rattle.reg_desk_server.specs.Exchange.{Input, requests_in}
 use Rattle.reg_desk_jobs.specs.Ends.{PrintsText}
 use Rattle.reg_core.specs.declared.refusal.Fault.TheVariants as fault
 use Rattle.reg_desk_cli.specs.declared.failure.Failure.TheVariants as failure
@@ -38,6 +39,16 @@ memory_answer port requests Early old new why said =
 pub unbound : (why : Failure) → (why ≡ failure.Fault fault.Read) ⊎ (why ≡ failure.Fault fault.Memory) → Unbound [] (Err why)
 unbound why (inl read) = (refl, inl (ap (λ (w : Failure). Err w) read))
 unbound why (inr memory) = (refl, inr (ap (λ (w : Failure). Err w) memory))
+
+-- the same of other inputs with as many requests, of a handler that does not end the loop
+pub served_by : (port requests : ℕ) (Early : Type 0) (inputs others : List Input) (out out' : Option (List ℕ)) (result : Result (Unit {0}) Failure)
+    → requests_in others ≡ requests_in inputs → (inputs ≡ [] → others ≡ []) → Served port requests (Early ⊎ ⊥) inputs out out' result
+    → Served port requests Early others out out' result
+served_by port requests Early inputs others out out' (Ok done) count none served = (count ∙ served.0, served.1)
+served_by port requests Early inputs others out out' (Err (failure.Fault fault.Read)) count none served =
+    (λ same. served.0 (sym count ∙ same), elim served.1 [ inl early ↦ early | inr bad ↦ absurd bad ], served.2)
+served_by port requests Early inputs others out out' (Err (failure.Fault fault.Write)) count none served = (none served.0, served.1)
+served_by port requests Early inputs others out out' (Err other) count none served = absurd served
 
 -- a loop that did not complete ended early
 pub ended_early : {T E : Type 0} {Complete Early : Type 0} (result : Result T E) → OnOk result Complete → OnErr result Early → (Complete → ⊥) → Early

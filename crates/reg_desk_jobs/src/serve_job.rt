@@ -2,7 +2,7 @@
 
 ghost use Rattle.std.specs.Prelude.{◌≡◌, ◌⊎◌, ◌++◌, ◌∷◌, [], List, None, Err, OnOk, IfErr, IsTrue, IsFalse, decimal, is_some, option_copied};
 ghost use Rattle.reg_office_api.specs.Calls.{LeadsIn, LooksIn};
-ghost use Rattle.reg_desk_server.specs.Exchange.{Input, Outcome, Handles};
+ghost use Rattle.reg_desk_server.specs.Exchange.{Input, Outcome, HandlesOrWorks};
 ghost use Rattle.reg_desk_server.specs.Failures.{EndsEarly};
 ghost use Rattle.reg_desk_jobs.specs.Ends.{PrintsText, ServeAt};
 ghost use Rattle.reg_desk_cli.specs.declared.failure.Failure.{Failure as Failing};
@@ -225,8 +225,8 @@ fn run_event_loop<H: Handler, W: Write>(
     writer: &mut W,
 ) -> Result<(), Failure>
     ensures { (inputs : List Input) × (outcomes : List (Outcome H.Ticket))
-        × Answered (Handles H.answers H.answers_lines H.defers) handler.old inputs outcomes handler.new
-        × Served port requests (EndsEarly H.failed H.waited) inputs
+        × Answered (HandlesOrWorks H.answers H.answers_lines H.defers H.works) handler.old inputs outcomes handler.new
+        × Served port requests (EndsEarly H.failed H.waited ⊎ H.ends_loop handler.new) inputs
         (W.contents writer.old) (W.contents writer.new) result }
 {
     match print_port(writer, port) {
@@ -234,7 +234,7 @@ fn run_event_loop<H: Handler, W: Write>(
         Err(why) => return Err(why),
     }
     let mut answered = 0;
-    // The event loop stops early if the clock or the sockets fail.
+    // The event loop stops early if the clock or the sockets fail, or if the handler ends it.
     let _ = event_loop.serve_all(handler, &mut answered, requests);
     if answered != requests {
         return Err(Failure::Fault(Fault::Read));

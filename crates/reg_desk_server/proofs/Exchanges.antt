@@ -4,8 +4,9 @@ use Rattle.reg_io.proofs.PublicLaws.{answered_append}
 use Rattle.std.specs.Prelude.{Result, Ok, Err, OnOk, OnErr, take}
 use Rattle.reg_desk_server.specs.ControlLines.{DefersFirstLine, AnswersFirstLines, AnswersUpTo, AnswersDeferred}
 use Rattle.reg_desk_server.specs.LineEnds.{EndsLine, FirstLineEnds}
-use Rattle.reg_desk_server.specs.Exchange.{Input, request, lines, Outcome, said, later, requests_in, Handles, Exchanged}
-use Rattle.reg_desk_server.specs.Handling.{Handled}
+use Rattle.reg_desk_server.specs.Exchange.{Input, request, lines, work, Outcome, said, pending, later, requests_in, Handles, HandlesOrWorks, Exchanged}
+use Rattle.reg_desk_server.specs.Handling.{Handled, HandledAndWorked}
+use Rattle.reg_io.specs.RunsOfAnswers.{Answered}
 use Rattle.reg_desk_server.specs.Buffers.{unsent_of}
 use Rattle.reg_desk_server.specs.declared.control_connection.ControlConnection.{ControlConnection}
 use Rattle.reg_desk_server.specs.declared.handler.Handler.{Ghosts}
@@ -15,17 +16,36 @@ pub asked_in_append : (first rest : List Input) → requests_in (first ++ rest) 
 asked_in_append [] rest = omega arith
 asked_in_append (request bytes ∷ first) rest = omega (arith, asked_in_append first rest)
 asked_in_append (lines bytes ∷ first) rest = asked_in_append first rest
+asked_in_append (work ∷ first) rest = asked_in_append first rest
 
--- nothing was exchanged
-pub exchanged_none : {S T : Type 0} (answers : S → List ℕ → Outcome T → S → Type 0) (answers_lines : S → List ℕ → List ℕ → S → Type 0)
-    (defers : S → List ℕ → S → Type 0) (s t : S) (answered answered' : ℕ) → t ≡ s → answered' ≡ answered → Exchanged answers answers_lines defers s t answered answered'
-exchanged_none answers answers_lines defers s t answered answered' same count =
-    record { inputs = []; outcomes = []; run = same; counted = omega (arith, count) }
+-- a run whose steps are other ones too
+answered_more : {S Q A : Type 0} (answers other : S → Q → A → S → Type 0) → ((s : S) (q : Q) (a : A) (t : S) → answers s q a t → other s q a t) → (s t : S)
+    (asked : List Q) (given : List A) → Answered answers s asked given t → Answered other s asked given t
+answered_more answers other more s t [] [] run = run
+answered_more answers other more s t [] (a ∷ given) run = absurd run
+answered_more answers other more s t (q ∷ asked) [] run = absurd run
+answered_more answers other more s t (q ∷ asked) (a ∷ given) run =
+    (run.0, more s q a run.0 run.1, answered_more answers other more run.0 t asked given run.2)
+
+module _ {S T : Type 0} (handles : S → Input → Outcome T → S → Type 0) where
+  -- nothing was exchanged
+  pub exchanged_none : (s t : S) (answered answered' : ℕ) → t ≡ s → answered' ≡ answered → Exchanged handles s t answered answered'
+  exchanged_none s t answered answered' same count = record { inputs = []; outcomes = []; run = same; counted = omega (arith, count) }
+
+  -- some were exchanged, and then others
+  pub exchanged_then : (s m t : S) (answered answered' answered'' : ℕ) → Exchanged handles s m answered answered' → Exchanged handles m t answered' answered''
+      → Exchanged handles s t answered answered''
+  exchanged_then s m t answered answered' answered'' first rest = record {
+    inputs = first.inputs ++ rest.inputs;
+    outcomes = first.outcomes ++ rest.outcomes;
+    run = answered_append handles s m t first.inputs first.outcomes rest.inputs rest.outcomes first.run rest.run;
+    counted = omega (arith, first.counted, rest.counted, asked_in_append first.inputs rest.inputs);
+  }
 
 module _ {S T L : Type 0} (g : Ghosts S T L) where
   -- nothing was exchanged
   pub handled_none : (s t : S) (answered answered' : ℕ) → t ≡ s → answered' ≡ answered → Handled g s t answered answered'
-  handled_none = exchanged_none g.answers g.answers_lines g.defers
+  handled_none = exchanged_none (Handles g.answers g.answers_lines g.defers)
 
   -- a request was answered
   pub handled_request : (s t : S) (answered answered' : ℕ) (bytes : List ℕ) (outcome : Outcome T) → g.answers s bytes outcome t → answered' ≡ answered + 1
@@ -49,12 +69,34 @@ module _ {S T L : Type 0} (g : Ghosts S T L) where
   -- some were exchanged, and then others
   pub handled_then : (s m t : S) (answered answered' answered'' : ℕ) → Handled g s m answered answered' → Handled g m t answered' answered''
       → Handled g s t answered answered''
-  handled_then s m t answered answered' answered'' first rest = record {
-    inputs = first.inputs ++ rest.inputs;
-    outcomes = first.outcomes ++ rest.outcomes;
-    run = answered_append (Handles g.answers g.answers_lines g.defers) s m t first.inputs first.outcomes rest.inputs rest.outcomes first.run rest.run;
-    counted = omega (arith, first.counted, rest.counted, asked_in_append first.inputs rest.inputs);
-  }
+  handled_then = exchanged_then (Handles g.answers g.answers_lines g.defers)
+
+  -- nothing was exchanged, and the handler did not work
+  pub worked_none : (s t : S) (answered answered' : ℕ) → t ≡ s → answered' ≡ answered → HandledAndWorked g s t answered answered'
+  worked_none = exchanged_none (HandlesOrWorks g.answers g.answers_lines g.defers g.works)
+
+  -- the handler then worked
+  pub worked_then : (s m t : S) (answered answered' : ℕ) → HandledAndWorked g s m answered answered' → g.works m t → HandledAndWorked g s t answered answered'
+  worked_then s m t answered answered' first step =
+      exchanged_then (HandlesOrWorks g.answers g.answers_lines g.defers g.works) s m t answered answered' answered' first
+      (record { inputs = work ∷ []; outcomes = later ∷ []; run = (t, step, refl); counted = omega arith })
+
+  handles_more : (s : S) (input : Input) (outcome : Outcome T) (t : S) → Handles g.answers g.answers_lines g.defers s input outcome t
+      → HandlesOrWorks g.answers g.answers_lines g.defers g.works s input outcome t
+  handles_more s (request bytes) outcome t step = step
+  handles_more s (lines bytes) outcome t step = step
+  handles_more s work outcome t step = absurd step
+
+  -- requests and lines were then answered
+  pub worked_then_handled : (s m t : S) (answered answered' answered'' : ℕ) → HandledAndWorked g s m answered answered' → Handled g m t answered' answered''
+      → HandledAndWorked g s t answered answered''
+  worked_then_handled s m t answered answered' answered'' first rest =
+      exchanged_then (HandlesOrWorks g.answers g.answers_lines g.defers g.works) s m t answered answered' answered'' first (record {
+        inputs = rest.inputs;
+        outcomes = rest.outcomes;
+        run = answered_more _ _ handles_more m t rest.inputs rest.outcomes rest.run;
+        counted = rest.counted;
+      })
 
   -- the first lines were answered, or none was
   pub handled_answering : {P : Type 0} (Ends : List ℕ → ℕ → Type 0) (s t : S) (answered : ℕ) (old new : ControlConnection P)

@@ -1,8 +1,8 @@
 //! The event loop: it polls the listeners and connections, and has the handler answer HTTP requests and control lines.
 
-ghost use Rattle.std.specs.Prelude.{◌≡◌, ◌≤◌, ◌<◌, ◌+◌, ℕ, OnErr, OnOk};
+ghost use Rattle.std.specs.Prelude.{◌≡◌, ◌≤◌, ◌<◌, ◌+◌, ◌⊎◌, ℕ, OnErr, OnOk};
 ghost use Rattle.reg_desk_server.specs.Failures.{EndsEarly};
-ghost use Rattle.reg_desk_server.specs.Handling.{Handled};
+ghost use Rattle.reg_desk_server.specs.Handling.{Handled, HandledAndWorked};
 
 use crate::acceptor::Acceptor;
 use crate::control_connections::ControlConnections;
@@ -59,9 +59,10 @@ impl<H: Handler> EventLoop<H> {
         })
     }
 
-    /// Answers HTTP requests until their count `answered` is `limit`, and control lines meanwhile. Each HTTP connection has one request, which the
-    /// handler gets once: when it is whole, when nothing more of it can come, when its time is up, or when its connection is evicted. If its answer
-    /// needs a signature, the loop requests that, and only this client waits. [`EventLoopFault`] if the system failed, or after 2^64 - 1 iterations.
+    /// Answers HTTP requests until their count `answered` is `limit`, and control lines meanwhile. Each accepted HTTP connection is one request.
+    /// The handler gets it once: when it is whole, nothing more of it comes, its time is up, or its connection is evicted. If its answer needs a
+    /// signature, the loop requests that, and only this client waits. In each iteration, the handler works before anything is answered.
+    /// [`EventLoopFault`] if the system failed, if the handler ends the loop, or after 2^64 - 1 iterations.
     #[tactic(auto, using(crate::proofs::Exchanges::exchanged_none))]
     pub fn serve_all(
         &mut self,
@@ -70,18 +71,20 @@ impl<H: Handler> EventLoop<H> {
         limit: u64,
     ) -> Result<(), EventLoopFault>
         requires { answered.old ≤ limit }
-        ensures exchanged { Handled H.Handler handler.old handler.new answered.old answered.new }
+        ensures exchanged { HandledAndWorked H.Handler handler.old handler.new answered.old answered.new }
         ensures all { OnOk result (answered.new ≡ limit) }
-        ensures early { OnErr result (EndsEarly H.failed H.waited) }
+        ensures early { OnErr result (EndsEarly H.failed H.waited ⊎ H.ends_loop handler.new) }
     {
+        let mut until_work = 0;
         for _ in 0..u64::MAX {
             if *answered == limit {
                 return Ok(());
             }
-            let now = self.poll(handler, limit)?;
+            let now = self.poll(handler, limit, until_work)?;
             self.shared.lost.report(handler);
             handler.keep_counts(self.connections());
             self.finish_all(handler, now);
+            until_work = handler.work(self.shared.poller.registry(), now)?;
             self.control
                 .answer_all_lines(&mut self.shared, handler, now)?;
             let outcome = self.answer_all(handler, answered, limit, now);
@@ -102,7 +105,7 @@ impl<H: Handler> EventLoop<H> {
             if self.http.slots.reserved() == 0 {
                 return Ok(());
             }
-            let now = self.poll(handler, limit)?;
+            let now = self.poll(handler, limit, u64::MAX)?;
             self.finish_all(handler, now);
             self.request_all(handler, now);
             self.http.close_due(&mut self.shared);
@@ -120,12 +123,15 @@ impl<H: Handler> EventLoop<H> {
         }
     }
 
-    /// Waits for events, then reads, writes and accepts, and ends connections whose time is up. Returns the handler's clock (`now`), in milliseconds.
-    fn poll(&mut self, handler: &H, limit: u64) -> Result<u64, EventLoopFault>
+    /// Waits for events, at most `until_work` milliseconds, then reads, writes and accepts, and ends connections whose time is up. Returns the
+    /// handler's clock (`now`), in milliseconds.
+    fn poll(&mut self, handler: &H, limit: u64, until_work: u64) -> Result<u64, EventLoopFault>
         ensures ok { OnOk result ((count : ℕ) → H.waited count → H.waited (count + 1)) }
         ensures fails { OnErr result H.failed }
     {
-        let longest = self.longest_wait(limit);
+        let longest = self
+            .longest_wait(limit)
+            .min(Duration::from_millis(until_work));
         self.shared.poller.poll(handler, longest)?;
         let now = handler.millis()?;
         for index in 0..self.shared.poller.tokens.len() {
@@ -176,10 +182,10 @@ impl<H: Handler> EventLoop<H> {
             if let Some(waiting) = &mut self.control.waiting {
                 waiting.advance(&self.shared.poller);
             }
-        } else {
-            let slot = token.saturating_sub(FIRST_HTTP);
+        } else if let Some(slot) = token.checked_sub(FIRST_HTTP) {
             self.http.advance(slot, &mut self.shared, now);
         }
+        // The token is `HANDLER`: the handler works in each iteration.
     }
 
     fn answer_all(

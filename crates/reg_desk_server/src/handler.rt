@@ -1,7 +1,7 @@
 //! The trait `Handler`, by which the event loop has HTTP requests and control lines answered, and the types of its arguments and results.
 
 use mio::net::{TcpListener, TcpStream};
-use mio::{Events, Poll};
+use mio::{Events, Poll, Registry};
 use reg_crl_signer::SignatureRequest;
 use reg_http_head::Collected;
 use reg_io::ReadyOrUnsigned;
@@ -51,7 +51,7 @@ pub struct LineReplies {
 /// Answers requests and lines in turn. While a request awaits a signature, others are answered. While a line awaits one, no other line is answered.
 /// Only `Desk` (reg_desk_service) implements it. The loop's contracts hold whatever the relations below (`ghost`) mean in an implementation.
 pub trait Handler {
-    ghost use Rattle.std.specs.Prelude.{◌≡◌, ◌+◌, ℕ, List, take, IsTrue, IfErr, IfOk, OnErr, OnOk, MatchOption};
+    ghost use Rattle.std.specs.Prelude.{◌≡◌, ◌+◌, ◌⊎◌, ℕ, List, take, IsTrue, IfErr, IfOk, OnErr, OnOk, MatchOption};
     ghost use Rattle.reg_http_head.specs.Bytes.{collected_bytes};
     ghost use Rattle.reg_desk_server.specs.LineEnds.{EndsLine, IsLine, IsWholeLines};
     ghost use Rattle.reg_desk_server.specs.Exchange.{Outcome};
@@ -74,6 +74,12 @@ pub trait Handler {
 
     // Relates the handler, the ticket of an answer that was left to be signed, and the whole text of this answer.
     ghost finishes: { Self → Self.Ticket → List ℕ → Type 0 };
+
+    // The handler before and after work of its own.
+    ghost works: { Self → Self → Type 0 };
+
+    // The handler, in this state, ended the loop.
+    ghost ends_loop: { Self → Type 0 };
 
     ghost has_control: { Self → Type 0 };
 
@@ -167,6 +173,12 @@ pub trait Handler {
             (λ text. answers_lines self.old line.now text.items self.new)) }
         ensures err { OnErr result ((self.new ≡ self.old) × (last_reason.new ≡ last_reason.old)) }
         ensures fails { OnErr result failed };
+
+    /// Does work of its own, without blocking, once in each iteration of `serve_all` before anything is answered. `now` is in milliseconds of the
+    /// handler's clock. Returns the most milliseconds until it is called again. [`EventLoopFault`] if the loop is to end.
+    fn work(&mut self, registry: &Registry, now: u64) -> Result<u64, EventLoopFault>
+        ensures works { works self.old self.new }
+        ensures fails { OnErr result (failed ⊎ ends_loop self.new) };
 
     /// Receives the report of a connection's fault. `client` is its address; `None` at the control socket.
     fn report_lost(&self, client: Option<SocketAddr>, why: ConnectionFault);

@@ -9,6 +9,7 @@ mod handler;
 mod http_connection;
 mod http_connections;
 pub mod laws;
+mod leader_stream;
 mod poller;
 mod request_bytes;
 mod shared;
@@ -25,5 +26,6 @@ pub use handler::{
 };
 pub use http_connection::{HttpConnection, NextStep};
 pub use http_connections::MOST_HTTP_CONNECTIONS;
+pub use leader_stream::LeaderStream;
 pub use poller::as_would_block;
 pub use stream::ClientStream;

@@ -6,7 +6,7 @@ ghost use Rattle.reg_desk_server.specs.Failures.{IsOutOfDescriptors};
 
 use crate::handler::{EventLoopFault, Handler};
 use mio::event::Source;
-use mio::{Events, Interest, Poll, Token};
+use mio::{Events, Interest, Poll, Registry, Token};
 use std::alloc::AllocGlobal;
 use std::io;
 use std::io::ErrorKind;
@@ -24,6 +24,7 @@ const ENFILE: i32 = 23;
 pub(crate) const MOST_SIGNATURES: usize = 32;
 
 /// Tokens name sockets. `FIRST_..` is the first of several, such as 8 control connections. `LINE_SIGNER`: a control line's connection to the signer.
+/// `HANDLER`: the connection of the handler itself.
 pub(crate) const HTTP_LISTENER: usize = 0;
 
 pub(crate) const CONTROL_LISTENER: usize = 1;
@@ -34,7 +35,9 @@ pub(crate) const FIRST_SIGNATURE: usize = 10;
 
 pub(crate) const LINE_SIGNER: usize = FIRST_SIGNATURE + MOST_SIGNATURES;
 
-pub(crate) const FIRST_HTTP: usize = LINE_SIGNER + 1;
+pub(crate) const HANDLER: usize = LINE_SIGNER + 1;
+
+pub(crate) const FIRST_HTTP: usize = HANDLER + 1;
 
 /// Polls the registered sockets. `tokens` are those of the sockets that the last poll found ready, at most `MOST_EVENTS`; a later poll finds others.
 #[derive(Drop)]
@@ -57,6 +60,10 @@ impl Poller {
             events,
             tokens,
         })
+    }
+
+    pub(crate) fn registry(&self) -> &Registry {
+        self.poll.registry()
     }
 
     pub(crate) fn register<S: Source>(

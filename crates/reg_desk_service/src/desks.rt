@@ -10,7 +10,7 @@ use crate::http_exchanges::answer_http;
 use crate::machine::Machine;
 use crate::unsigned_responses::{Unsigned, finish_http};
 use mio::net::{TcpListener, TcpStream};
-use mio::{Events, Poll};
+use mio::{Events, Poll, Registry};
 use reg_crl_signer::{Backoff, SignatureRequest};
 use reg_desk_cli::{ResponderChoice, SignerAddress};
 use reg_desk_metrics::{ConnectionTotals, Tally};
@@ -83,6 +83,11 @@ impl<'a, 'w, M: Machine> Handler for Desk<'a, 'w, M> {
 
     ghost finishes = { λ s. FinishesUnsigned
         (AnsweredByOcspSigner M.signer_answered s.signer.now s.responder.now) };
+
+    // a desk does no work of its own
+    ghost works = { λ s t. t ≡ s };
+
+    ghost ends_loop = { λ desk. ⊥ };
 
     ghost has_control = { λ desk. IsTrue desk.is_open };
 
@@ -268,6 +273,10 @@ impl<'a, 'w, M: Machine> Handler for Desk<'a, 'w, M> {
             ))),
             None => Ok(None),
         }
+    }
+
+    fn work(&mut self, registry: &Registry, now: u64) -> Result<u64, EventLoopFault> {
+        Ok(u64::MAX)
     }
 
     fn report_lost(&self, client: Option<SocketAddr>, why: ConnectionFault) {

@@ -20,25 +20,30 @@ returns-in-Err g c = (
 
 pub returns : goal.returns
 returns g c =
-    let ran = c.run_event_loop-ending.ensures in (
-      ran.0,
-      ran.1,
-      desk_moves
-          (λ desk. g.M.Office.Office.is_clean desk.office)
-          (λ signers desk records. g.M.Office.Office.stands signers desk.office records)
-          (λ desk. desk.is_open)
-          (λ desk. desk.admission)
-          g.M.Office.Office.signs
-          g.M.Machine.signer_answered
-          (answer_socket c.args.signer.now c.args.responder.now)
-          g.M.Machine.clock_reached
-          (is_some c.args.control_path)
-          _
-          c.run_event_loop-ending.new.handler
-          ran.0
-          ran.1
-          c.is_some.ensures
-          c.new-admission.ensures
-          ran.2,
-      inr (c.in-Ok.ensures.ok, ran.3),
-    )
+    let ran = c.run_event_loop-ending.ensures in
+    let (inputs, outcomes, moved, served) =
+    desk_moves
+    (λ desk. g.M.Office.Office.is_clean desk.office)
+    (λ signers desk records. g.M.Office.Office.stands signers desk.office records)
+    (λ desk. desk.is_open)
+    (λ desk. desk.admission)
+    g.M.Office.Office.signs
+    g.M.Machine.signer_answered
+    (answer_socket c.args.signer.now c.args.responder.now)
+    g.M.Machine.clock_reached
+    (is_some c.args.control_path)
+    _
+    c.run_event_loop-ending.new.handler
+    ran.0
+    ran.1
+    c.is_some.ensures
+    c.new-admission.ensures
+    ran.2
+    _
+    _
+    _
+    _
+    _
+    c.run_event_loop-ending.result
+    ran.3 in
+    (inputs, outcomes, moved, inr (c.in-Ok.ensures.ok, served))
