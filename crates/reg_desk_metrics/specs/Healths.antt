@@ -103,10 +103,13 @@ unfoldable pub status_member : Bool → List ℕ
 status_member is_well =
     cond is_well (codes ",\"status\":\"ok\",\"store\":") (codes ",\"status\":\"failing\",\"store\":")
 
--- the body; if all is well: `{"clock":null,"crl":null,"crl_signer":null,"ocsp_signer":null,"rows":null,"status":"ok","store":null}`
-unfoldable pub health_text : Health → List ℕ
-health_text health =
+-- the members, without the closing brace
+unfoldable pub health_members : Health → Bool → List ℕ
+health_members health well =
     codes "{\"clock\":" ++ since_text health.clock ++ crl_text health.is_crl_due_at_once health.crl
     ++ signers_text health.crl_signer health.ocsp_signer
-    ++ member (codes ",\"rows\":") health.rows ++ status_member (is_well health) ++ since_text health.store
-    ++ 125 ∷ []
+    ++ member (codes ",\"rows\":") health.rows ++ status_member well ++ since_text health.store
+
+-- the body; if all is well: `{"clock":null,"crl":null,"crl_signer":null,"ocsp_signer":null,"rows":null,"status":"ok","store":null}`
+unfoldable pub health_text : Health → List ℕ
+health_text health = health_members health (is_well health) ++ 125 ∷ []

@@ -1,4 +1,5 @@
 pub mod Ahead
+pub mod Followers
 pub mod Healths
 pub mod Metrics
 pub mod Samples

@@ -1,7 +1,7 @@
 //! The health of an open register, for `GET /health`: what fails, and since when.
 
 ghost use Rattle.std.specs.Prelude.{◌≡◌, ◌++◌, IfOk, OnOk};
-ghost use Rattle.reg_desk_metrics.specs.Healths.{clock_failing_since as clock_spec, crl_since as crl_since_spec, crl_text as crl_spec, is_crl_due_at_once as due_at_once, health_of, health_text, is_none as is_without, is_filling as fills, is_well as all_well, if_past as past_spec, member, rows_since as rows_spec, signers_text, since_text, status_member, store_since_at as store_spec};
+ghost use Rattle.reg_desk_metrics.specs.Healths.{clock_failing_since as clock_spec, crl_since as crl_since_spec, crl_text as crl_spec, is_crl_due_at_once as due_at_once, health_members, health_of, health_text, is_none as is_without, is_filling as fills, is_well as all_well, if_past as past_spec, member, rows_since as rows_spec, signers_text, since_text, status_member, store_since_at as store_spec};
 
 use crate::ahead::is_ahead;
 use crate::numbers::NumbersResult;
@@ -61,15 +61,24 @@ impl Health {
     pub fn text(&self, alloc: Global) -> Result<Vec<u8>, AllocError>
         ensures { IfOk result (λ text. text.items ≡ health_text self.now) }
     {
-        let mut text = Vec::from_slice(alloc, b"{\"clock\":")?;
-        put_since(&mut text, self.clock)?;
-        put_crl(&mut text, self.is_crl_due_at_once, self.crl)?;
-        put_signers(&mut text, self.crl_signer, self.ocsp_signer)?;
-        put_member(&mut text, b",\"rows\":", self.rows)?;
-        put_status(&mut text, self.is_well())?;
-        put_since(&mut text, self.store)?;
+        let mut text = Vec::new(alloc);
+        self.put_members(&mut text, self.is_well())?;
         text.push(b'}')?;
         Ok(text)
+    }
+
+    /// Appends the opening brace and the members. `is_well` decides `status`.
+    #[tactic(auto, unfolding(crate::specs::Healths::health_members))]
+    pub(crate) fn put_members(&self, text: &mut Vec<u8>, is_well: bool) -> Result<(), AllocError>
+        ensures { OnOk result (text.new.items ≡ text.old.items ++ health_members self.now is_well) }
+    {
+        text.extend_from_slice(b"{\"clock\":")?;
+        put_since(text, self.clock)?;
+        put_crl(text, self.is_crl_due_at_once, self.crl)?;
+        put_signers(text, self.crl_signer, self.ocsp_signer)?;
+        put_member(text, b",\"rows\":", self.rows)?;
+        put_status(text, is_well)?;
+        put_since(text, self.store)
     }
 }
 

@@ -2,6 +2,7 @@
 #![tactic(auto)]
 
 mod ahead;
+mod follower_status;
 mod health;
 mod metrics_text;
 mod numbers;
@@ -11,6 +12,7 @@ mod signature_outcomes;
 mod tally;
 
 pub use ahead::is_ahead;
+pub use follower_status::{FeedFailure, FollowerStatus};
 pub use health::Health;
 pub use metrics_text::metrics;
 pub use numbers::{ConnectionTotals, CrlSigning, Numbers, NumbersResult, ReadCrl, Requests};

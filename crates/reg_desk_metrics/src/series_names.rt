@@ -147,3 +147,30 @@ pub(crate) const OCSP_ERRORS_BY_SIGNER: &str =
     "# HELP desk_ocsp_internal_errors_total OCSP responses over HTTP that were internalError, by what failed.\n# TYPE desk_ocsp_internal_errors_total counter\ndesk_ocsp_internal_errors_total{cause=\"signer\"} ";
 
 pub(crate) const OCSP_ERRORS_BY_STORE: &str = "desk_ocsp_internal_errors_total{cause=\"store\"} ";
+
+pub(crate) const FOLLOWER_CURRENT: &str =
+    "# HELP desk_follower_current 1 if the follower answers: it reached its leader within the lag.\n# TYPE desk_follower_current gauge\ndesk_follower_current ";
+
+pub(crate) const FOLLOWER_LAG: &str =
+    "# HELP desk_follower_lag_seconds Seconds since the follower asked for the changes that it entered last.\n# TYPE desk_follower_lag_seconds gauge\ndesk_follower_lag_seconds ";
+
+pub(crate) const FOLLOWER_SUBSCRIBER_ROWS: &str =
+    "# HELP desk_follower_rows Rows of the leader that the follower has, by table.\n# TYPE desk_follower_rows gauge\ndesk_follower_rows{table=\"subscribers\"} ";
+
+pub(crate) const FOLLOWER_ORDER_ROWS: &str = "desk_follower_rows{table=\"orders\"} ";
+
+pub(crate) const FOLLOWER_CERTIFICATE_ROWS: &str = "desk_follower_rows{table=\"certificates\"} ";
+
+pub(crate) const FOLLOWER_REQUEST_ROWS: &str = "desk_follower_rows{table=\"requests\"} ";
+
+pub(crate) const FOLLOWER_REVOCATION_ROWS: &str = "desk_follower_rows{table=\"revocations\"} ";
+
+pub(crate) const FOLLOWER_CRL_ROWS: &str = "desk_follower_rows{table=\"crls\"} ";
+
+pub(crate) const PAGES_ENTERED: &str =
+    "# HELP desk_follower_pages_total Pages of the leader's changes feed, by result.\n# TYPE desk_follower_pages_total counter\ndesk_follower_pages_total{result=\"entered\"} ";
+
+pub(crate) const PAGES_REFUSED: &str = "desk_follower_pages_total{result=\"refused\"} ";
+
+pub(crate) const FOLLOWER_DIVERGED: &str =
+    "# HELP desk_follower_diverged 1 if the leader lacks a record that the follower has.\n# TYPE desk_follower_diverged gauge\ndesk_follower_diverged ";
