@@ -15,7 +15,7 @@ _desk() {
     value=$(sed -n "s/^ *\(-., \)\?$previous <\([A-Z=]*\)>.*/\2/p" <<<"$help")
     case $previous:$value in
     --*:MOMENT) mapfile -t COMPREPLY < <(compgen -W "$(date -u +%Y-%m-%dT%H:%M:%SZ)" -- "$cur") ;;
-    --*:FILE | --*:SOCKET | --*:CERT | --*:CRL | --*:PATH) mapfile -t COMPREPLY < <(compgen -f -- "$cur") ;;
+    --*:FILE | --*:SOCKET | --*:CERT | --*:CRL | --*:PATH | --from:ADDRESS) mapfile -t COMPREPLY < <(compgen -f -- "$cur") ;;
     --*algorithm:*) mapfile -t COMPREPLY < <(compgen -W "$(sed -n "s/^ *$previous <[A-Z]*> .*: //p" <<<"$help" | sed 's/,\| or / /g')" -- "$cur") ;;
     --*:?*) COMPREPLY=() ;;
     *)

@@ -12,6 +12,7 @@ from model import der
 ISSUER = ("--name", NAME, "--key", KEY)
 SERVE, OPEN = ("serve", "none.db"), ("open", "none.db", "--control", "S")
 UNSIGNED = (*OPEN, "--unsigned")
+FOLLOW = ("follow", "none.db", "--unsigned")
 SCHEDULE, FIRST_STEP = ("schedule", "none.db"), "1970-01-01T00:00:00Z=398"
 # Error messages, or their beginnings.
 BOTH = "give both --signer and --algorithm, or neither; an algorithm is ecdsa-sha256, ecdsa-sha384, rsa-sha256 or ed25519"
@@ -69,6 +70,8 @@ UNKNOWN = {
     "open with requests": (*UNSIGNED, "--port", "80", "--requests", "1"),
     "unsigned with a value": (*OPEN, "--port", "80", "--unsigned=true"),
     "unsigned twice": (*UNSIGNED, "--port", "80", "--unsigned"),
+    "follow without a leader": (*FOLLOW, "--port", "80"),
+    "follow without a port": (*FOLLOW, "--from", "127.0.0.1:80"),
     "at without a socket": ("at",),
     "at with two sockets": ("at", "S", "F"),
     "schedule without a step": SCHEDULE,
@@ -120,6 +123,8 @@ VALUES = [
     *[((*SERVE, "--requests=1"), "--port", it, RANGE) for it in ("0", "65536", "http", "0000000000000000080", "")],
     *[((*SERVE, "--port=80"), "--requests", it, RANGE) for it in ("0", "1000001", "999999999999999999", "0000000000000000001", "")],
     *[(UNSIGNED, "--port", it, RANGE) for it in ("0", "65536", "http", "")],
+    *[((*FOLLOW, "--port=80"), "--from", it, "an address is 127.0.0.1:PORT") for it in ("127.0.0.1:0", "127.0.0.1:65536", "127.0.0.1:x", "127.0.0.1:")],
+    *[((*FOLLOW, "--port=80", "--from=S"), "--lag", it, RANGE) for it in ("0", "86401", "1s", "")],
     *[(("import", "none.db"), "--now", it, MOMENT) for it in ("yesterday", "2026-01-01", "2026-02-29T00:00:00Z", "")],
     *[(("list", "none.db", "crls"), "--now", it, MOMENT) for it in ("today", "2026-01-01T00:00:00", "")],
     *[(("list", "none.db", "ending"), "--before", it, MOMENT) for it in ("2026-02-30T00:00:00Z", "0", "")],
@@ -182,11 +187,15 @@ def a_socket_and_a_known_algorithm_are_given_both_or_neither(t, words, named):
 def open_is_told_of_a_signer_or_that_there_is_none(t, *words):
     told = refused(t, *words, "--port=80")
     t.same(told.splitlines()[0], f"error: {ONE_OF_BOTH}", "the error, which names both ways to open")
+    # The same options of `follow` have the same rule.
+    words = ("follow", "none.db", "--from=127.0.0.1:80", *words[2:])
+    told = refused(t, *words, "--port=80")
+    t.same(told.splitlines()[0], f"error: follow{ONE_OF_BOTH.removeprefix('open')}", "the error of follow")
 
 
 @each({it or "nothing": (it,) for it in ("0.0.0.0", "::", "[::]", "::1", "127.0.0.2", "localhost", "192.0.2.1", "[::1]:80", "")})
 def what_is_no_loopback_address_is_refused_by_name(t, address):
-    for words in ((*SERVE, "--requests=1"), UNSIGNED):
+    for words in ((*SERVE, "--requests=1"), UNSIGNED, (*FOLLOW, "--from=S")):
         told = refused(t, *words, "--port=80", f"--listen={address}").splitlines()[0]
         t.has(told, f"error: invalid value '{address}' for '--listen': the desk listens only on the loopback interface, at 127.0.0.1 or [::1]")
 
@@ -211,7 +220,7 @@ def the_older_name_of_control_is_hidden(t):
     "with the CA's certificate beside it": ((*RESPONDER, "--embed=ca.der"), "'ed25519' for '--responder-algorithm'"),
 })
 def a_responder_is_told_whole(t, words, named):
-    for command in (SERVED, (*OPEN, "--port=80"), (*UNSIGNED, "--port=80")):
+    for command in (SERVED, (*OPEN, "--port=80"), (*UNSIGNED, "--port=80"), (*FOLLOW, "--port=80", "--from=S")):
         t.has(refused(t, *command, *words), f"{named}: {TOGETHER}")
 
 
@@ -288,8 +297,8 @@ def the_version_is_printed(t, word):
 
 # The words of a help command, and parts of its output.
 HELPED = {
-    "--help": ("init", "script", "import", "crl", "serve", "open", "at", "replay", "schedule", "key-id", "list", "copy", "audit", "--why", "-V, --version"),
-    "-h": ("init", "script", "import", "crl", "serve", "open", "at", "replay", "schedule", "key-id", "list", "copy", "audit"),
+    "--help": ("init", "script", "import", "crl", "serve", "open", "follow", "at", "replay", "schedule", "key-id", "list", "copy", "audit", "--why", "-V, --version"),
+    "-h": ("init", "script", "import", "crl", "serve", "open", "follow", "at", "replay", "schedule", "key-id", "list", "copy", "audit"),
     "init --help": ("<FILE>", "--name <HEX>", "--key <HEX>", "--key-id <HEX>", "--days <N>", "--crl-life <N>", "--ocsp-life <N>", "--cap <N>", "--why"),
     "init -h": ("<FILE>", "--name <HEX>"),
     "script --help": ("[FILE]", "--signer <SOCKET>", "--algorithm <NAME>", "--clock", "--strict", "--why", "desk script ca.db"),
@@ -297,6 +306,7 @@ HELPED = {
     "crl --help": ("<FILE>", "--number <N>", "--why"),
     "serve --help": ("<FILE>", "--port <N>", "--listen <ADDRESS>", "--requests <N>", "--signer <SOCKET>", "--algorithm <NAME>", *RESPONDER_HELP, "--published <CRL>", "--log", "--log-file <PATH>", "--why"),
     "open --help": ("<FILE>", "--port <N>", "--listen <ADDRESS>", "--control <SOCKET>", "--signer <SOCKET>", "--algorithm <NAME>", "--unsigned", *RESPONDER_HELP, "--published <CRL>", "--log", "--log-file <PATH>", "--why"),
+    "follow --help": ("<FILE>", "--from <ADDRESS>", "--port <N>", "--listen <ADDRESS>", "--control <SOCKET>", "--lag <SECONDS>", "--signer <SOCKET>", "--algorithm <NAME>", "--unsigned", *RESPONDER_HELP, "--log", "--log-file <PATH>", "--why"),
     "at --help": ("<SOCKET>", "--import <FILE>", "--orders <SUBSCRIBER> <DAYS>", "--revoke <FILE>", "--why", "desk at ca.control"),
     "replay --help": ("<SOCKET>", "<LOG>", "--why", "desk replay ca.control ca.log"),
     "schedule F --help": ("<FILE>", "<MOMENT=DAYS>...", "--why"),

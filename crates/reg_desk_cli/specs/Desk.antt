@@ -97,6 +97,18 @@ open_app = with_rules (new_app (codes "open"))
     ∷ takes_value (codes "published") ∷ flag (codes "log") ∷ takes_value (codes "log-file")
     ∷ flag (codes "why") ∷ [])
 
+-- `follow FILE --from ADDRESS --port N [--listen ADDRESS] [--control SOCKET] [--lag SECONDS] [--signer SOCKET --algorithm NAME] [--unsigned]
+-- [--responder CERT --responder-signer SOCKET --responder-algorithm NAME | --embed CERT] [--log] [--log-file PATH] [--why]`
+abbrev pub follow_app : App
+follow_app = with_rules (new_app (codes "follow"))
+    (must (codes "file") ∷ needs (codes "from") ∷ needs (codes "port") ∷ takes_value (codes "listen")
+    ∷ takes_value (codes "control") ∷ takes_value (codes "lag")
+    ∷ takes_value (codes "signer") ∷ takes_value (codes "algorithm") ∷ flag (codes "unsigned")
+    ∷ takes_value (codes "responder") ∷ takes_value (codes "responder-signer")
+    ∷ takes_value (codes "responder-algorithm") ∷ takes_value (codes "embed")
+    ∷ flag (codes "log") ∷ takes_value (codes "log-file")
+    ∷ flag (codes "why") ∷ [])
+
 -- `at SOCKET [--import FILE [--orders SUBSCRIBER DAYS] | --revoke FILE] [--why]`
 abbrev pub at_app : App
 at_app = with_rules (new_app (codes "at"))
@@ -162,7 +174,8 @@ abbrev pub first_command_apps : List App
 first_command_apps = init_app ∷ script_app ∷ import_app ∷ crl_app ∷ serve_app ∷ open_app ∷ []
 
 abbrev pub other_command_apps : List App
-other_command_apps = at_app ∷ replay_app ∷ schedule_app ∷ key_id_app ∷ list_app ∷ copy_app ∷ audit_app ∷ []
+other_command_apps =
+    follow_app ∷ at_app ∷ replay_app ∷ schedule_app ∷ key_id_app ∷ list_app ∷ copy_app ∷ audit_app ∷ []
 
 -- `desk [--why] COMMAND ..`
 abbrev pub desk_app : App

@@ -25,6 +25,11 @@ failure_line failure.RefusedNoLineEnd = codes "refused\nno-line-end"
 failure_line failure.Broken = codes "broken"
 failure_line failure.NotACrl = codes "not-a-crl"
 failure_line failure.LacksPublished = codes "behind-crl"
+failure_line failure.Diverged = codes "diverged"
+failure_line failure.BrokenFeed = codes "broken-feed"
+failure_line failure.TooFarBehind = codes "too-far-behind"
+failure_line failure.IsFollower = codes "follower"
+failure_line failure.Behind = codes "behind"
 
 -- the exit status: 0 if the job is done; 3 for `Refused`, `NoLineEnd` and `RefusedNoLineEnd`; else 1
 abbrev pub exit_status : {T : Type 0} → Result T Failure → ℕ
@@ -45,6 +50,11 @@ exit_status (Err failure.BadResponder) = 1
 exit_status (Err failure.Broken) = 1
 exit_status (Err failure.NotACrl) = 1
 exit_status (Err failure.LacksPublished) = 1
+exit_status (Err failure.Diverged) = 1
+exit_status (Err failure.BrokenFeed) = 1
+exit_status (Err failure.TooFarBehind) = 1
+exit_status (Err failure.IsFollower) = 1
+exit_status (Err failure.Behind) = 1
 
 -- the failure of a job whose register can't be created, opened or changed
 abbrev pub store_failure : StoreFault → Failure

@@ -1,5 +1,5 @@
 -- The meaning of the words of a command line.
-use Rattle.std.specs.Prelude.{◌≡◌, ◌≢◌, ◌⊎◌, ◌||◌, ℕ, Bool, true, false, List, [], codes, bytes_eq, if◌then◌else◌, Option, Some, None, option_map, option_and_then}
+use Rattle.std.specs.Prelude.{◌≡◌, ◌≢◌, ◌⊎◌, ◌||◌, ℕ, Bool, true, false, List, [], take, drop, codes, bytes_eq, if◌then◌else◌, Option, Some, None, option_map, option_and_then}
 use Rattle.std.specs.Option.{option_map_or}
 use Rattle.clap.specs.Words.{IsAmong, Row, Text, all_of, fault_of, first_of, matches_of, subcommand_of}
 use Rattle.clap.specs.declared.error.kind.ErrorKind.{ErrorKind}
@@ -24,7 +24,9 @@ use Rattle.reg_desk_cli.specs.declared.job.Endpoint.{Endpoint}
 use Rattle.reg_desk_cli.specs.declared.job.Loopback.{Loopback}
 use Rattle.reg_desk_cli.specs.declared.job.Loopback.TheVariants.{V4, V6}
 use Rattle.reg_desk_cli.specs.declared.job.Job.{Job}
-use Rattle.reg_desk_cli.specs.declared.job.Job.TheVariants.{Init, Script, Lines, Import, Crl, Serve, Open, At, EachRow, Replay, Schedule, KeyId, Listing, Copy, Audit}
+use Rattle.reg_desk_cli.specs.declared.job.Job.TheVariants.{Init, Script, Lines, Import, Crl, Serve, Open, Follow, At, EachRow, Replay, Schedule, KeyId, Listing, Copy, Audit}
+use Rattle.reg_desk_cli.specs.declared.job.LeaderAddress.{LeaderAddress}
+use Rattle.reg_desk_cli.specs.declared.job.LeaderAddress.TheVariants.{Port, Socket}
 use Rattle.reg_desk_cli.specs.declared.job.SignerAddress.{SignerAddress}
 use Rattle.reg_desk_cli.specs.declared.job.Invocation.{Invocation}
 use Rattle.reg_desk_cli.specs.declared.job.OrderTerms.{OrderTerms}
@@ -230,6 +232,39 @@ open_of rows = do
     published = first_of (codes "published") rows;
   }))
 
+-- the address of a leader: `127.0.0.1:PORT` with a port of 1 to 65535, or the path of a Unix socket
+abbrev pub leader_of : Text → Option LeaderAddress
+leader_of text =
+    if bytes_eq (take 10 text) (codes "127.0.0.1:")
+    then option_map Port (option_and_then (within 1 65535) (number_of (drop 10 text)))
+    else Some (Socket text)
+
+-- the address of `--from`
+abbrev pub leader_in : List Row → Option LeaderAddress
+leader_in rows = option_and_then leader_of (first_of (codes "from") rows)
+
+-- the seconds of `--lag`, 1 to 86,400; 60 if it is not given
+abbrev pub lag_in : List Row → Option ℕ
+lag_in rows = option_and_then (within 1 86400) (value_or_default 60 (codes "lag") rows)
+
+unfoldable pub follow_of : List Row → Option Job
+follow_of rows = do
+  file ← first_of (codes "file") rows
+  leader ← leader_in rows
+  endpoint ← endpoint_in rows
+  lag ← lag_in rows
+  responder ← responder_in rows
+  signer ← signer_or_unsigned responder rows
+  Some (Follow (record {
+    file = file;
+    leader = leader;
+    endpoint = endpoint;
+    control = first_of (codes "control") rows;
+    signer = signer;
+    responder = responder;
+    lag = lag;
+  }))
+
 -- the terms of the orders; `Some None` if `--orders` is not given, `None` if its values are not two numbers
 abbrev pub order_terms_given : List Row → Option (Option OrderTerms)
 order_terms_given rows =
@@ -332,6 +367,7 @@ unfoldable pub serving_job_in : Text → List Row → Option Job
 serving_job_in name rows =
     if bytes_eq name (codes "serve") then serve_of rows
     else if bytes_eq name (codes "open") then open_of rows
+    else if bytes_eq name (codes "follow") then follow_of rows
     else if bytes_eq name (codes "at") then at_of rows
     else if bytes_eq name (codes "replay") then replay_of rows
     else other_job_in name rows

@@ -3,17 +3,17 @@
 ghost use Rattle.std.specs.Prelude.{◌≡◌, codes, IfOk};
 ghost use Rattle.reg_desk_cli.specs.Jobs.{endpoint_in, import_moment, one_moment};
 ghost use Rattle.clap.specs.Words.{found_of, rows_of};
-ghost use Rattle.reg_desk_cli.specs.Jobs.{job_in, serving_job_in, other_job_in, init_of, script_by, script_of, import_of, crl_job, number_in, serve_of, open_of, at_by, at_of, replay_of, schedule_of, key_id_of, filter_for, form_in, list_of, copy_of, audit_of};
+ghost use Rattle.reg_desk_cli.specs.Jobs.{job_in, serving_job_in, other_job_in, init_of, script_by, script_of, import_of, crl_job, number_in, serve_of, open_of, follow_of, at_by, at_of, replay_of, schedule_of, key_id_of, filter_for, form_in, list_of, copy_of, audit_of};
 
 use crate::argument::Argument;
 use crate::job::{
-    Endpoint, ImportJob, Job, LineScript, ListJob, NewRegister, OpenJob, OrderTerms, RowTask,
-    ScriptOptions, ServeJob, SignerAddress,
+    Endpoint, FollowJob, ImportJob, Job, LineScript, ListJob, NewRegister, OpenJob, OrderTerms,
+    RowTask, ScriptOptions, ServeJob, SignerAddress,
 };
 use crate::option_values::{
-    argument_of, filter_option, is_set, loopback, moment_option, number_option, number_or,
-    number_within, order_terms_option, responder, script_options_of, signer_option,
-    signer_or_unsigned, steps, text_of,
+    argument_of, filter_option, is_set, lag_option, leader_option, loopback, moment_option,
+    number_option, number_or, number_within, order_terms_option, responder, script_options_of,
+    signer_option, signer_or_unsigned, steps, text_of,
 };
 use crate::wrong::{LAST_PORT, MOST_REQUESTS};
 use clap::ArgMatches;
@@ -66,6 +66,8 @@ fn read_socket_job<'a>(
         Ok(read_serve(given))
     } else if name == "open" {
         Ok(read_open(given))
+    } else if name == "follow" {
+        Ok(read_follow(given))
     } else if name == "at" {
         Ok(read_at(given))
     } else if name == "replay" {
@@ -228,6 +230,27 @@ fn read_open<'a>(given: &ArgMatches<'a>) -> Option<Job<'a>>
         signer,
         responder: ocsp_responder,
         published: argument_of(given, "published"),
+    }))
+}
+
+#[tactic(auto, unfolding(crate::specs::Jobs::follow_of))]
+fn read_follow<'a>(given: &ArgMatches<'a>) -> Option<Job<'a>>
+    ensures { result ≡ follow_of (rows_of (found_of given.now)) }
+{
+    let file = argument_of(given, "file")?;
+    let leader = leader_option(given)?;
+    let endpoint = endpoint_of(given)?;
+    let lag = lag_option(given)?;
+    let ocsp_responder = responder(given)?;
+    let signer = signer_or_unsigned(given, &ocsp_responder)?;
+    Some(Job::Follow(FollowJob {
+        file,
+        leader,
+        endpoint,
+        control: argument_of(given, "control"),
+        signer,
+        responder: ocsp_responder,
+        lag,
     }))
 }
 

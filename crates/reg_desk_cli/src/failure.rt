@@ -39,6 +39,16 @@ pub enum Failure {
     NotACrl,
     /// The register's latest CRL has a lower number than the CRL given by `--published`, or a serial number that the latter lists is not revoked.
     LacksPublished,
+    /// The leader lacks a record that its follower has.
+    Diverged,
+    /// A page of the leader's changes feed can't be read, or breaks a rule of the register.
+    BrokenFeed,
+    /// The leader has more changes than its follower keeps in memory.
+    TooFarBehind,
+    /// A command at the control socket of a follower.
+    IsFollower,
+    /// A query at the control socket of a follower that has not reached its leader within the lag.
+    Behind,
 }
 
 impl Failure {
@@ -64,6 +74,11 @@ impl Failure {
             Failure::Broken => label(b"broken"),
             Failure::NotACrl => label(b"not-a-crl"),
             Failure::LacksPublished => label(b"behind-crl"),
+            Failure::Diverged => label(b"diverged"),
+            Failure::BrokenFeed => label(b"broken-feed"),
+            Failure::TooFarBehind => label(b"too-far-behind"),
+            Failure::IsFollower => label(b"follower"),
+            Failure::Behind => label(b"behind"),
         }
     }
 }

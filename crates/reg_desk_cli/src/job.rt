@@ -115,6 +115,30 @@ pub struct OpenJob<'a> {
     pub published: Option<Argument<'a>>,
 }
 
+/// Where a follower reaches the HTTP port of its leader, the open desk that it follows.
+#[derive(Drop)]
+pub enum LeaderAddress<'a> {
+    /// The port of 127.0.0.1, 1 to 65,535.
+    Port(u16),
+    /// The path of a Unix socket that leads to the leader's port.
+    Socket(Argument<'a>),
+}
+
+/// A copy of the register of another desk, which is kept up to date and served.
+#[derive(Drop)]
+pub struct FollowJob<'a> {
+    pub file: Argument<'a>,
+    pub leader: LeaderAddress<'a>,
+    pub endpoint: Endpoint,
+    /// The path of the control socket, if there is one.
+    pub control: Option<Argument<'a>>,
+    /// The signer of OCSP responses, if the responder is the issuer. No CRL is signed.
+    pub signer: Option<SignerAddress<'a>>,
+    pub responder: ResponderChoice<'a>,
+    /// For how many seconds the desk answers after the leader was last reached, 1 to 86,400.
+    pub lag: u64,
+}
+
 /// Writes a list of a register's rows to standard output, as CSV with a header or as one JSON object for each line. `from` names the list: it is
 /// the cursor before the list's first row. `moment` is the moment for which the list is made (`None` for that of the machine's clock).
 #[derive(Drop)]
@@ -158,6 +182,7 @@ pub enum Job<'a> {
     },
     Serve(ServeJob<'a>),
     Open(OpenJob<'a>),
+    Follow(FollowJob<'a>),
     /// Sends the lines of standard input to a control socket. If `rows` is given, sends the rows of that CSV file instead, as `register` lines.
     At {
         control_path: Argument<'a>,
@@ -202,7 +227,7 @@ pub struct Invocation<'a> {
     pub job: Job<'a>,
     /// Whether one more line tells a failure's cause, if known; or, if a refused registration (E08, E09, E12) ended a strict run, why it was refused.
     pub is_explained: bool,
-    /// Where `serve` and `open` log each exchange: on standard error, in the file at this path, in both, or nowhere.
+    /// Where `serve`, `open` and `follow` log each exchange: on standard error, in the file at this path, in both, or nowhere.
     pub has_log: bool,
     pub log_file: Option<Argument<'a>>,
 }

@@ -20,8 +20,9 @@ pub use checks::{
 pub use desk::VERSION;
 pub use failure::{Failure, status_of};
 pub use job::{
-    Endpoint, ImportJob, Invocation, Job, LineScript, ListJob, Loopback, NewRegister, OpenJob,
-    OrderTerms, ResponderChoice, RowTask, ScriptOptions, ServeJob, SignerAddress, Usage,
+    Endpoint, FollowJob, ImportJob, Invocation, Job, LeaderAddress, LineScript, ListJob, Loopback,
+    NewRegister, OpenJob, OrderTerms, ResponderChoice, RowTask, ScriptOptions, ServeJob,
+    SignerAddress, Usage,
 };
 pub use option_values::read_step;
 pub use reading_words::{not_utf8_usage, read_words};

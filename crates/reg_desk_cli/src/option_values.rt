@@ -3,17 +3,24 @@
 
 ghost use Rattle.std.specs.Prelude.{◌≡◌, ◌≤◌, ◌==◌, IfOk, IfSome, List, ℕ, map, option_and_then, option_map, position};
 ghost use Rattle.reg_core.specs.Calendar.{moment_of};
+ghost use Rattle.reg_core.specs.Number.{number_of};
 ghost use Rattle.clap.specs.Words.{all_of, first_of, found_of, rows_of};
-ghost use Rattle.reg_desk_cli.specs.Jobs.{responder_in, responder_by, given, value_or_default, chosen, filter_in, has_own_key, signer_by_options, signer_or_unsigned, signer_in, has_flag, label_given, loopback_in, loopback_named, moment_given, number_in, order_terms_given, prefix_given, script_options_in};
+ghost use Rattle.reg_desk_cli.specs.Jobs.{responder_in, responder_by, given, value_or_default, chosen, filter_in, has_own_key, signer_by_options, signer_or_unsigned, signer_in, has_flag, label_given, lag_in, leader_in, leader_of, loopback_in, loopback_named, moment_given, number_in, order_terms_given, prefix_given, script_options_in};
 ghost use Rattle.reg_desk_cli.specs.WordValues.{order_terms_of, step_of, step_from, steps_of, within};
 
 use crate::argument::{Argument, Steps};
-use crate::job::{Loopback, OrderTerms, ResponderChoice, ScriptOptions, SignerAddress};
+use crate::job::{
+    LeaderAddress, Loopback, OrderTerms, ResponderChoice, ScriptOptions, SignerAddress,
+};
+use crate::wrong::{LAST_PORT, LONGEST_LAG};
 use clap::ArgMatches;
 use reg_core::{Label, Moment, read_number};
 use reg_core_lists::{Filter, read_prefix};
 use reg_crl_signer::Algorithm;
 use std::alloc::{AllocError, Global};
+
+/// For how many seconds a follower answers by default after the leader was last reached.
+const DEFAULT_LAG: u64 = 60;
 
 /// The value that [`text_of`] gives, as an [`Argument`]: a word as it was typed, such as a path.
 pub(crate) fn argument_of<'a>(matches: &ArgMatches<'a>, id: &str) -> Option<Argument<'a>>
@@ -102,6 +109,35 @@ pub(crate) fn loopback(matches: &ArgMatches<'_>) -> Option<Loopback>
         Some(text) => read_loopback(text),
         None => Some(Loopback::V4),
     }
+}
+
+/// The address of `--from`: `127.0.0.1:PORT`, or the path of a Unix socket; `None` for a port that is not 1 to 65,535.
+pub(crate) fn leader_option<'a>(matches: &ArgMatches<'a>) -> Option<LeaderAddress<'a>>
+    ensures { result ≡ leader_in (rows_of (found_of matches.now)) }
+{
+    leader_of(text_of(matches, "from")?)
+}
+
+fn leader_of<'a>(text: &'a str) -> Option<LeaderAddress<'a>>
+    ensures { result ≡ leader_of text.entry.now }
+{
+    match text.as_bytes().strip_prefix(b"127.0.0.1:") {
+        Some(port) => Some(LeaderAddress::Port(read_port(port)?)),
+        None => Some(LeaderAddress::Socket(Argument::of(text))),
+    }
+}
+
+fn read_port(text: &[u8]) -> Option<u16>
+    ensures { result ≡ option_and_then (within 1 65535) (number_of text.now) }
+{
+    Some(bounded(read_number(text)?, 1, LAST_PORT)? as u16)
+}
+
+/// The seconds of `--lag`, or 60 if it is not given; `None` for a number that is not 1 to 86,400.
+pub(crate) fn lag_option(matches: &ArgMatches<'_>) -> Option<u64>
+    ensures { result ≡ lag_in (rows_of (found_of matches.now)) }
+{
+    bounded(number_or(matches, "lag", DEFAULT_LAG)?, 1, LONGEST_LAG)
 }
 
 fn read_loopback(text: &str) -> Option<Loopback>

@@ -110,6 +110,23 @@ const CONTROL: &str =
 const PUBLISHED: &str =
     "A published CRL in DER: if its number is above that of the register's latest CRL, or if it lists serial numbers that aren't revoked, nothing is served, and standard output has a line for the CRL's number and for each such serial number that the register lacks";
 
+const FOLLOW_FILE: &str = "The file of the copy; it is created if it is missing";
+
+const LEADER: &str =
+    "The open desk to follow: 127.0.0.1:PORT, or the path of a Unix socket that leads to its port";
+
+const FOLLOW_CONTROL: &str =
+    "The Unix socket at which the desk takes queries, but no commands; it is created with mode 0600 [default: none]";
+
+const LAG: &str =
+    "For how many seconds to answer after the leader was last reached, 1 to 86400 [default: 60]";
+
+const FOLLOW_SIGNER: &str =
+    "The Unix socket of the signer with the issuer's key, for OCSP answers; needs --algorithm; leave it out only with --unsigned, or with --responder";
+
+const FOLLOW_UNSIGNED: &str =
+    "Instead of --signer: OCSP answers get a placeholder digest instead of a signature, which no client accepts; not with --responder";
+
 const AT_CONTROL: &str =
     "The control socket of an open desk: the path that it was given by --control";
 
@@ -266,6 +283,29 @@ pub(crate) const FIRST_COMMANDS: &[CommandEntry] = &[
 ];
 
 pub(crate) const OTHER_COMMANDS: &[CommandEntry] = &[
+    CommandEntry {
+        name: "follow",
+        about: "Keep a copy of an open desk's register up to date, and answer OCSP, CRLs and status over HTTP on the loopback interface; it takes no commands.",
+        example: "Example:\n  desk follow copy.db --from 127.0.0.1:8080 --port 8081 --responder r.der --responder-signer r.sign --responder-algorithm ecdsa-sha256\n\nThe file is created if it is missing. Exit status 1 with the line diverged if the leader lacks a record of the copy.",
+        parts: &[
+            Part::RequiredArgument("file", "FILE", FOLLOW_FILE),
+            Part::RequiredOption("from", "ADDRESS", LEADER),
+            Part::RequiredOption("port", "N", PORT),
+            Part::OptionalOption("listen", "ADDRESS", LISTEN),
+            Part::OptionalOption("control", "SOCKET", FOLLOW_CONTROL),
+            Part::OptionalOption("lag", "SECONDS", LAG),
+            Part::OptionalOption("signer", "SOCKET", FOLLOW_SIGNER),
+            Part::OptionalOption("algorithm", "NAME", ALGORITHM),
+            Part::Flag("unsigned", FOLLOW_UNSIGNED),
+            Part::OptionalOption("responder", "CERT", RESPONDER),
+            Part::OptionalOption("responder-signer", "SOCKET", RESPONDER_SIGNER),
+            Part::OptionalOption("responder-algorithm", "NAME", RESPONDER_ALGORITHM),
+            Part::OptionalOption("embed", "CERT", EMBED),
+            Part::Flag("log", LOG),
+            Part::OptionalOption("log-file", "PATH", LOG_FILE),
+            Part::Flag("why", CAUSE),
+        ],
+    },
     CommandEntry {
         name: "at",
         about: "Send the lines of standard input to an open desk, and write one reply line for each; a line has no moment.",

@@ -2,8 +2,8 @@
 //! each other. clap's id of an option is its long name without `--`.
 
 use crate::option_values::{
-    label_option, loopback, moment, number_within, prefix_option, read_step, responder,
-    signer_option, text_of,
+    label_option, leader_option, loopback, moment, number_within, prefix_option, read_step,
+    responder, signer_option, text_of,
 };
 use clap::ArgMatches;
 use reg_core::read_number;
@@ -13,11 +13,14 @@ pub(crate) const LAST_PORT: u64 = 65_535;
 
 pub(crate) const MOST_REQUESTS: u64 = 1_000_000;
 
+/// A day.
+pub(crate) const LONGEST_LAG: u64 = 86_400;
+
 /// The greatest number that [`read_number`] reads: eighteen nines.
 const MOST: u64 = 999_999_999_999_999_999;
 
 /// The options whose value is a number: the id and the name of each, and the least and greatest number. `policy_of` checks a policy's bounds later.
-const NUMBERS: [(&str, &str, u64, u64); 7] = [
+const NUMBERS: [(&str, &str, u64, u64); 8] = [
     ("days", "--days", 0, MOST),
     ("crl-life", "--crl-life", 0, MOST),
     ("ocsp-life", "--ocsp-life", 0, MOST),
@@ -25,6 +28,7 @@ const NUMBERS: [(&str, &str, u64, u64); 7] = [
     ("number", "--number", 0, MOST),
     ("port", "--port", 1, LAST_PORT),
     ("requests", "--requests", 1, MOST_REQUESTS),
+    ("lag", "--lag", 1, LONGEST_LAG),
 ];
 
 const MOMENTS: [(&str, &str); 4] = [
@@ -49,6 +53,9 @@ const IMPORT_WANTED: &str = "import needs --now MOMENT or --clock, and not both"
 const LOOPBACK_WANTED: &str =
     "the desk listens only on the loopback interface, at 127.0.0.1 or [::1]; a web server in front of it serves other addresses";
 
+const LEADER_WANTED: &str =
+    "an address is 127.0.0.1:PORT with a port of 1 to 65535, or the path of a Unix socket";
+
 const STEP_WANTED: &str = "a step is written as 2026-01-01T00:00:00Z=200";
 
 const SIGNER_WANTED: &str =
@@ -70,6 +77,9 @@ const AT_WANTED: &str = "at takes --import or --revoke, and not both; --orders n
 
 const OPEN_WANTED: &str =
     "open needs --signer SOCKET with --algorithm NAME, or --unsigned for a placeholder digest instead of signatures, and not both; with --responder, --signer may be left out, and --unsigned is refused";
+
+const FOLLOW_WANTED: &str =
+    "follow needs --signer SOCKET with --algorithm NAME, or --unsigned for a placeholder digest instead of signatures, and not both; with --responder, --signer may be left out, and --unsigned is refused";
 
 /// A wrong value, its option, and the rule for such values (`wanted`).
 #[derive(Clone, Copy)]
@@ -102,6 +112,7 @@ pub(crate) fn wrong_text(alloc: Global, matches: &ArgMatches<'_>) -> Option<Stri
 fn combination_wanted(matches: &ArgMatches<'_>) -> &'static str {
     match matches.subcommand() {
         Some((name, _)) if name == "open" => OPEN_WANTED,
+        Some((name, _)) if name == "follow" => FOLLOW_WANTED,
         Some((name, _)) if name == "import" => IMPORT_WANTED,
         Some((name, _)) if name == "list" => LIST_WANTED,
         Some((name, _)) if name == "at" => AT_WANTED,
@@ -112,11 +123,11 @@ fn combination_wanted(matches: &ArgMatches<'_>) -> &'static str {
 /// The first wrong value of the given command, in the order of these checks; `None` if they find none. The functions of `option_values.rt` that the
 /// checks call return `None` for a wrong value, and most of them `Some` if the option is not given.
 fn first_wrong<'a>(matches: &ArgMatches<'a>) -> Option<Wrong<'a>> {
-    let (_, given) = matches.subcommand()?;
+    let (name, given) = matches.subcommand()?;
     if let Some(wrong) = wrong_number(given) {
         return Some(wrong);
     }
-    if let Some(wrong) = wrong_moment(given) {
+    if let Some(wrong) = wrong_from(name, given) {
         return Some(wrong);
     }
     if let Some(wrong) = wrong_address(given) {
@@ -146,6 +157,23 @@ fn wrong_number<'a>(given: &ArgMatches<'a>) -> Option<Wrong<'a>> {
         }
     }
     None
+}
+
+/// A wrong leader of `follow`, whose `--from` is an address; a wrong moment of another command.
+fn wrong_from<'a>(name: &str, given: &ArgMatches<'a>) -> Option<Wrong<'a>> {
+    if name == "follow" {
+        wrong_leader(given)
+    } else {
+        wrong_moment(given)
+    }
+}
+
+fn wrong_leader<'a>(given: &ArgMatches<'a>) -> Option<Wrong<'a>> {
+    if leader_option(given).is_some() {
+        return None;
+    }
+    let value = text_of(given, "from")?;
+    Some(Wrong::of("--from", value, LEADER_WANTED))
 }
 
 fn wrong_moment<'a>(given: &ArgMatches<'a>) -> Option<Wrong<'a>> {
