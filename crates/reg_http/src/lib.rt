@@ -20,5 +20,5 @@ pub use exchange::{Exchange, UnsignedResponse, begun_exchange, text_buffer};
 pub use lists::answer_list;
 pub use reg_http_head::Answer;
 pub use route::Route;
-pub use routes::{begin, only_get, refuse, report_fault, serial_of};
+pub use routes::{begin, only_get, refuse, report_fault, serial_of, try_later};
 pub use serve::serve_one;

@@ -1,6 +1,6 @@
 //! Answers one request, by its route.
 
-ghost use Rattle.std.specs.Prelude.{◌≡◌, IfOk, OnErr, codes};
+ghost use Rattle.std.specs.Prelude.{◌≡◌, IfOk, Ok, OnErr, codes};
 ghost use Rattle.reg_office_api.specs.CallSteps.{Runs, Asks, AnswersOcsp, GivesCrl};
 ghost use Rattle.reg_office_api.specs.Drafts.{Drafts};
 ghost use Rattle.reg_office_api.specs.Calls.{LeadsIn};
@@ -9,19 +9,21 @@ ghost use Rattle.reg_http_head.specs.Response.{shown};
 ghost use Rattle.reg_http.specs.Added.{AddsARequestAtMost};
 ghost use Rattle.reg_http.specs.Answers.{BeginsIn, BeginsTo, RespondsIn, RespondsTo};
 ghost use Rattle.reg_http.specs.RoutedRequests.{asked, requested_serial};
-ghost use Rattle.reg_http.specs.Bodies.{http_refusal, method_not_allowed as only_response};
+ghost use Rattle.reg_http.specs.Bodies.{http_refusal, method_not_allowed as only_response, ocsp_reply};
 ghost use Rattle.reg_http.specs.Meanings.{request_of_call};
+ghost use Rattle.reg_ocsp.specs.Response.{refusal_response};
+ghost use Rattle.reg_ocsp.specs.declared.response.RefusalStatus.TheVariants.{TryLater};
 ghost use Rattle.reg_http.specs.AnswerEffects.{fault_effects, plain, answer_effects};
 
 use crate::answered::{HttpAnswer, answer_of_fault, begun_answer, ocsp_answer};
-use crate::bodies::{json_buffer, method_not_allowed, refusal};
+use crate::bodies::{OCSP_RESPONSE, der, json_buffer, method_not_allowed, refusal};
 use crate::meaning::{Call, Meaning, meaning_of};
 use crate::respond::respond;
 use http::Method;
 use reg_core::{Fault, Ground, Memory, Moment, Serial};
 use reg_http_head::Answer;
 use reg_io::ReadyOrUnsigned;
-use reg_ocsp::Draft;
+use reg_ocsp::{Draft, RefusalStatus};
 use reg_office_api::Office;
 use std::alloc::Global;
 
@@ -134,4 +136,14 @@ pub fn only_get(alloc: Global) -> Result<HttpAnswer, Memory>
     ensures { IfOk result (λ answered. answer_effects answered ≡ plain (only_response (codes "GET"))) }
 {
     Ok(HttpAnswer::plain(method_not_allowed(json_buffer(alloc)?, "GET")))
+}
+
+/// The answer to an OCSP request that can't be answered now: tryLater (RFC 6960 2.3), without a call of the office. [`Memory`] if out of memory.
+pub fn try_later(alloc: Global) -> Result<HttpAnswer, Memory>
+    ensures { IfOk result (λ answered. answer_effects answered ≡ plain (ocsp_reply (Ok (refusal_response TryLater)))) }
+{
+    match Vec::from_slice(alloc, &reg_ocsp::refusal(RefusalStatus::TryLater)) {
+        Ok(bytes) => Ok(HttpAnswer::plain(der(OCSP_RESPONSE, bytes))),
+        Err(_) => Err(Memory),
+    }
 }
