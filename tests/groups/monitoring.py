@@ -519,7 +519,7 @@ def promtool_takes_the_metrics_and_the_alerts(t):
     t.done("at", "control", given="".join(f"{it}\n" for it in [*LINES, "crl"]))
     desk.ask("GET", "/crl")
     t.same(t.tool("promtool", "check", "metrics", given=asked(t, desk, "/metrics")[2]), b"", "what promtool finds wrong with /metrics")
-    t.has(t.tool("promtool", "check", "rules", ALERTS).decode(), "SUCCESS: 11 rules found")
+    t.has(t.tool("promtool", "check", "rules", ALERTS).decode(), "SUCCESS: 13 rules found")
 
 
 RULES = """
@@ -532,6 +532,11 @@ CASES = {
     "all is well": (["desk_requests_overdue{job='desk'} 0x60", "up{job='desk'} 1x60", "desk_clock_behind_seconds 0x60", "desk_signer_failing_since_timestamp_seconds{of='crl'} 0x60",
                      "desk_clock_timestamp_seconds 0+60x60", "desk_crl_due_timestamp_seconds 604800x60"], []),
     "nobody answers": (["up{job='desk'} 0x60"], ["DeskAway"]),
+    "a follower that reaches its leader": (
+        ["desk_follower_current 1x60", "desk_follower_diverged 0x60", "desk_follower_pages_total{result='entered'} 1+9x60", "desk_follower_pages_total{result='refused'} 2x60"], []),
+    "a follower that is behind": (["desk_follower_current 0x60", "desk_follower_diverged 0x60"], ["DeskFollowerBehind"]),
+    "a follower that has diverged": (["desk_follower_current 1x60", "desk_follower_diverged 1x60"], ["DeskFollowerRefuses"]),
+    "a leader whose pages are refused": (["desk_follower_current 1x60", "desk_follower_pages_total{result='refused'} 1+9x60"], ["DeskFollowerRefuses"]),
     "a CRL that is late": (["desk_clock_timestamp_seconds 0+60x60", "desk_crl_due_timestamp_seconds -7200x60"], ["DeskCrlLate"]),
     "a CRL that is due": (["desk_clock_timestamp_seconds 0+60x60", "desk_crl_due_timestamp_seconds -3600x60"], []),
     "a signer that fails": (["desk_signer_failing_since_timestamp_seconds{of='ocsp'} 5x60"], ["DeskSignerFailing"]),
@@ -607,6 +612,8 @@ SAID = {
     "DeskDiskFilling": ("page", [f"node_filesystem_{it}_bytes{{mountpoint='/var'}} {value}x60" for it, value in (("avail", 9), ("size", 100))],
                         "mountpoint: /var", "9% of the disk at /var is left"),
     "DeskClock": ("page", ["desk_clock_behind_seconds{} 100x60"], "", "the desk's clock is wrong by 1m 40s"),
+    "DeskFollowerBehind": ("page", ["desk_follower_current{} 0x60"], "", "the follower answers nothing, because it does not reach its leader"),
+    "DeskFollowerRefuses": ("page", ["desk_follower_diverged{} 1x60"], "", "the follower refuses what its leader sends"),
 }
 
 
