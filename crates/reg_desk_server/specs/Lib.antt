@@ -7,3 +7,4 @@ pub mod LineEnds
 pub mod Buffers
 pub mod Outcomes
 pub mod Stages
+pub mod FeedExchanges

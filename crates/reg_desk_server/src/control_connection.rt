@@ -271,7 +271,11 @@ impl<S: ClientStream> ControlConnection<S> {
 }
 
 /// Reads once into `read_buffer`, which all connections share, and appends what came to `buffer`.
-fn gather<R: Read>(reader: &mut R, buffer: &mut Vec<u8>, read_buffer: &mut [u8]) -> Received
+pub(crate) fn gather<R: Read>(
+    reader: &mut R,
+    buffer: &mut Vec<u8>,
+    read_buffer: &mut [u8],
+) -> Received
     ensures receives { Receives (R.remaining reader.old) (R.remaining reader.new)
         buffer.old.items buffer.new.items result }
     ensures waits { result ≡ Received.Blocked → buffer.new.items ≡ buffer.old.items }

@@ -5,6 +5,7 @@ mod acceptor;
 mod control_connection;
 mod control_connections;
 mod event_loop;
+mod feed_exchange;
 mod handler;
 mod http_connection;
 mod http_connections;
@@ -21,6 +22,7 @@ mod waiting_line;
 
 pub use control_connection::{ControlConnection, line_end};
 pub use event_loop::EventLoop;
+pub use feed_exchange::{FeedExchange, FeedProgress};
 pub use handler::{
     ConnectionCounts, ConnectionFault, Deferred, EventLoopFault, Handler, LineReplies,
 };

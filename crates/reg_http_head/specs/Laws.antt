@@ -2,7 +2,10 @@
 use Rattle.std.specs.Prelude.{◌≡◌, ℕ, List, Some}
 use Rattle.http.specs.StatusCode.{reason_phrase}
 use Rattle.reg_http_head.specs.Frame.{AsksFor}
+use Rattle.httparse.specs.Grammar.{ResponseHead}
 use Rattle.reg_http_head.specs.Response.{Response, phrase, IsText}
+use Rattle.reg_http_head.specs.ResponseStart.{BeginsWith}
+use Rattle.reg_http_head.specs.declared.response_head.ResponseHead.{ResponseHead as HeadRead}
 
 -- the phrase of each of these status codes, which are all of the desk's but 429, is that of the crate `http`
 abbrev pub ArePhrases : Type 0
@@ -19,6 +22,12 @@ IsOneRequest =
     (took method target body method' target' body' : List ℕ)
     → AsksFor took method target body → AsksFor took method' target' body'
     → (method ≡ method') × (target ≡ target') × (body ≡ body')
+
+-- the same bytes never begin with two different accepted heads of responses
+abbrev pub IsOneResponseHead : Type 0
+IsOneResponseHead =
+    (bytes : List ℕ) (it other : HeadRead) (h k : ResponseHead) → BeginsWith bytes it h
+    → BeginsWith bytes other k → it ≡ other
 
 -- two texts of the same response at the same moment are equal
 abbrev pub IsOneText : Type 0
