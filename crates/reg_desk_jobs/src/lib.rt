@@ -4,6 +4,8 @@
 mod at_job;
 mod control_socket;
 mod copy_job;
+mod fill_job;
+mod follow_job;
 mod jobs;
 mod lines_job;
 mod list_job;
@@ -17,6 +19,7 @@ mod serve_job;
 
 pub use at_job::{at, at_rows, exchange_lines};
 pub use copy_job::copy;
+pub use follow_job::follow;
 pub use jobs::{audit, crl, import_rows, init, key_identifier, schedule, script};
 pub use lines_job::script_by_lines;
 pub use list_job::list;

@@ -170,7 +170,7 @@ fn serve_desk<'a, 'w, M: Machine, W: Write>(
     (desk.office, ending)
 }
 
-fn event_loop_at<H: Handler, M: Machine>(
+pub(crate) fn event_loop_at<H: Handler, M: Machine>(
     rt: &HostRuntime,
     machine: &M,
     endpoint: Endpoint,
@@ -217,7 +217,7 @@ fn event_loop_over<H: Handler>(
     }
 }
 
-fn run_event_loop<H: Handler, W: Write>(
+pub(crate) fn run_event_loop<H: Handler, W: Write>(
     mut event_loop: EventLoop<H>,
     handler: &mut H,
     port: u16,

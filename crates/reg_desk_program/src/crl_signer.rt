@@ -189,6 +189,27 @@ pub(crate) fn key_signer(
     }
 }
 
+/// Replaces a signer that signs nothing and has no key, of the register in these tables, by one that signs nothing and has the issuer's key with this
+/// algorithm. Nothing changes if the signer is another one, if the key doesn't fit the algorithm, or at a fault.
+pub(crate) fn expect_algorithm<C: Alter>(
+    host: &Host<'_>,
+    tables: &mut Tables<C>,
+    signer: &mut FileSigner,
+    algorithm: Algorithm,
+) {
+    match signer {
+        RegisterSigner::NoSigner(_, _) => {}
+        _ => return,
+    }
+    let Ok(issuer) = tables.issuer() else {
+        return;
+    };
+    // No socket can be at the empty path.
+    if let Ok(expected) = key_signer(&host.rt, "", algorithm, issuer.key()) {
+        *signer = expected;
+    }
+}
+
 fn latest_crl<C: Alter>(tables: &mut Tables<C>) -> Result<Option<Vec<u8>>, DatabaseFault>
     ensures found { (records : Records) → Shows C.Store tables.old records → SoundRows records
         → HasCleanDisk (state C.Store tables.new)

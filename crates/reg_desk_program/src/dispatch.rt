@@ -6,8 +6,8 @@ use crate::memory::script_in_memory;
 use reg_core::{Cause, policy_cause_of};
 use reg_desk_cli::{Failure, Job, status_of};
 use reg_desk_jobs::{
-    at, at_rows, audit, copy, crl, each_row, import_rows, init, key_identifier, list, replay,
-    report_exit, schedule, script, script_by_lines, serve, serve_open,
+    at, at_rows, audit, copy, crl, each_row, follow, import_rows, init, key_identifier, list,
+    replay, report_exit, schedule, script, script_by_lines, serve, serve_open,
 };
 use reg_desk_service::{Machine, Reason};
 use reg_io::{Sink, Source};
@@ -100,6 +100,7 @@ fn run<M: Machine, R: Source, W: Sink>(
         Job::Crl { file, number } => crl(alloc, machine, file.as_str(), *number, writer),
         Job::Serve(serve_job) => serve(rt, machine, serve_job, reader, writer),
         Job::Open(open_job) => serve_open(rt, machine, open_job, reader, writer),
+        Job::Follow(follow_job) => follow(rt, machine, follow_job, writer),
         Job::At {
             control_path,
             rows: None,

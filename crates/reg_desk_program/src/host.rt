@@ -10,6 +10,7 @@ ghost use Rattle.reg_desk_program.specs.Calls.{Unspecified, is_claimed};
 ghost use Rattle.reg_desk_program.specs.Files.{failure_of};
 ghost use Rattle.reg_crl_signer.specs.SignatureRequest.{IsSignatureRequest};
 
+use crate::crl_signer::expect_algorithm;
 use crate::file_audit::audit_over;
 use crate::file_office::{FileOffice, FileSigner};
 use crate::ocsp_responder::{delegate_responder, issuer_responder};
@@ -19,14 +20,14 @@ use mio::{Events, Poll};
 use reg_audit_rows::AuditResult;
 use reg_core::{Cause, Fault, Memory, Policy, io_cause_of, port_cause_of};
 use reg_crl::{DigestSeal, Signer};
-use reg_crl_signer::{PresetSignature, RegisterSigner, SignatureRequest};
+use reg_crl_signer::{Algorithm, PresetSignature, RegisterSigner, SignatureRequest};
 use reg_der::Issuer;
-use reg_desk_cli::{Failure, ResponderChoice};
+use reg_desk_cli::{Failure, LeaderAddress, ResponderChoice};
 use reg_desk_files::{
     ClaimFault, FileFault, Overlay, ReadAt, ReadFailure, ReadFile, SourceFiles, check_database,
     claim_file, copy_closed, copy_open, open_file, open_sources, read_at, remove_file,
 };
-use reg_desk_server::as_would_block;
+use reg_desk_server::{LeaderStream, as_would_block};
 use reg_desk_service::{
     CopyFault, CrlSignerChoice, FailureCause, Location, Machine, SignatureKind,
 };
@@ -384,6 +385,19 @@ impl<'a> Machine for SystemHost<'a> {
         }
     }
 
+    fn connect_to_leader(&self, leader: &LeaderAddress<'_>) -> io::Result<LeaderStream> {
+        match leader {
+            LeaderAddress::Port(port) => {
+                let address = SocketAddr::from(([127, 0, 0, 1], *port));
+                Ok(LeaderStream::Tcp(TcpStream::connect(&self.rt, address)?))
+            }
+            LeaderAddress::Socket(path) => Ok(LeaderStream::Unix(NonblockingStream::connect(
+                &self.rt,
+                path.as_str(),
+            )?)),
+        }
+    }
+
     fn request_signature(
         &self,
         path: &str,
@@ -424,6 +438,15 @@ impl<'a> Machine for SystemHost<'a> {
             &mut office.office.responder,
             kind,
             preset_signature,
+        );
+    }
+
+    fn expect_crls(&self, office: &mut FileOffice, algorithm: Algorithm) {
+        expect_algorithm(
+            self,
+            &mut office.office.store,
+            &mut office.office.signer,
+            algorithm,
         );
     }
 

@@ -128,6 +128,7 @@ pub(crate) fn register_path_of<'a>(job: &Job<'a>) -> Option<&'a str> {
         Job::Crl { file, .. } => Some(file.as_str()),
         Job::Serve(serve_job) => Some(serve_job.file.as_str()),
         Job::Open(open_job) => Some(open_job.file.as_str()),
+        Job::Follow(follow_job) => Some(follow_job.file.as_str()),
         Job::Schedule { file, .. } => Some(file.as_str()),
         Job::KeyId { file, .. } => Some(file.as_str()),
         Job::Listing(list_job) => Some(list_job.file.as_str()),

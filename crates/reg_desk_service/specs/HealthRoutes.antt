@@ -171,6 +171,12 @@ abbrev pub ByGet : List ℕ → (AnswerEffects → Type 0) → AnswerEffects →
 ByGet method Says it =
     MatchBool (bytes_eq method (codes "GET")) (Says it) (it ≡ plain (method_not_allowed (codes "GET")))
 
+-- the health at a moment, from the register's numbers, some tally, and the moment that the operator accepted
+abbrev pub IsHealthAt : Option ℕ → ℕ → Records → HealthOf → Type 0
+IsHealthAt accepted now records health =
+    (tally : Tally) × (found : Result Numbers Fault) × HasFound tally records now found
+    × ((tally' : Tally) × (health ≡ health_of now found tally' accepted))
+
 -- the health: from the register's numbers at a moment, some tally, and the moment that the operator accepted
 abbrev pub AnswersHealth : Option ℕ → ℕ → Records → AnswerEffects → Type 0
 AnswersHealth accepted now records it =

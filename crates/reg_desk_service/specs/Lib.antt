@@ -8,6 +8,7 @@ pub mod CommandBatches
 pub mod ControlWords
 pub mod LineSignatures
 pub mod Exchanges
+pub mod Following
 pub mod SignerAnswers
 pub mod FinishedResponses
 pub mod Log

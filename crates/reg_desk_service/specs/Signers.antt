@@ -1,11 +1,12 @@
 -- The signers with which a register is opened.
-use Rattle.std.specs.Prelude.{◌≡◌, ◌⊎◌, ℕ, List, Option, Some, None, IfSome, MatchOption, option_map}
+use Rattle.std.specs.Prelude.{◌≡◌, ◌⊎◌, ℕ, List, [], Option, Some, None, IfSome, MatchOption, option_map}
 use Rattle.reg_office_api.specs.Signers.{Responder, OfficeSigners, signs_both}
 use Rattle.reg_core.specs.Crls.{latest}
 use Rattle.reg_core.specs.Records.{Crl, Records}
 use Rattle.reg_crl.specs.Signing.{Identity}
 use Rattle.reg_ocsp.specs.Certificate.{IsCertificateOf}
 use Rattle.reg_crl_signer.specs.Algorithms.{key_identifier_of}
+use Rattle.reg_crl_signer.specs.declared.algorithm.Algorithm.{Algorithm}
 use Rattle.reg_crl_signer.specs.KeyOrDigestSignatures.{digest}
 use Rattle.reg_crl_signer.specs.Forms.{identity_of}
 use Rattle.reg_crl_signer.specs.Signed.{IsCrlWithAlgorithm}
@@ -37,6 +38,15 @@ issuer_responds = Issuer None
 -- the signers for a job that signs nothing
 abbrev pub unsigned : Signing
 unsigned = (NoSigner, issuer_responds)
+
+-- the signer of CRLs of a register that only takes CRLs from elsewhere: no socket can be at the empty path
+abbrev pub unreachable_signer : Option Algorithm → CrlSignerChoice
+unreachable_signer None = Digest
+unreachable_signer (Some algorithm) = KeyAt (record { socket = []; algorithm = algorithm })
+
+-- the signers for a job that enters CRLs with this algorithm, or with a placeholder digest, and signs nothing
+abbrev pub entering : Option Algorithm → Signing
+entering algorithm = (unreachable_signer algorithm, issuer_responds)
 
 -- a certificate for OCSP responses is given
 abbrev pub HasCertificate : ResponderChoice → Type 0

@@ -138,6 +138,7 @@ impl<'a, 'w, M: Machine> Handler for Desk<'a, 'w, M> {
             &mut self.office,
             self.machine,
             self.is_open,
+            None,
             &mut tally,
             &mut self.admission,
             self.connection_totals.get(),

@@ -11,7 +11,7 @@ ghost use Rattle.reg_office_api.specs.LookUps.{IsOfStore};
 ghost use Rattle.reg_http.specs.AnswerEffects.{plain, answer_effects};
 ghost use Rattle.reg_crl.specs.Signing.{sha1_algorithm};
 ghost use Rattle.reg_crl_signer.specs.Signed.{IsCrlWithAlgorithm};
-ghost use Rattle.reg_desk_service.specs.HealthRoutes.{ByGet, Has, HasDue, HasFound, HasOverdue, HasRequests, IsCounted, IsLatestRead, IsCrlRead, IsReadAt, IsRecounted, IsUnsigned, KeepsRead, Recounts, AnswersHealth, AnswersMetrics, IsDueUnsigned};
+ghost use Rattle.reg_desk_service.specs.HealthRoutes.{ByGet, Has, HasDue, HasFound, HasOverdue, HasRequests, IsCounted, IsHealthAt, IsLatestRead, IsCrlRead, IsReadAt, IsRecounted, IsUnsigned, KeepsRead, Recounts, AnswersHealth, AnswersMetrics, IsDueUnsigned};
 ghost use Rattle.reg_desk_service.specs.HealthRoutes.{due_after, health_response, health_status as status_spec, overdue_count, metrics_response, signing_by};
 ghost use Rattle.reg_desk_cli.specs.declared.desk.TheConstants.{VERSION};
 ghost use Rattle.reg_desk_metrics.specs.Metrics.{metrics_text};
@@ -71,8 +71,24 @@ fn health_at<M: Machine>(
         office.old office.new }
     ensures recounted { IsRecounted tally.old tally.new }
 {
+    let health = read_health::<M>(alloc, office, now, tally, accepted);
+    health_answer(alloc, &health)
+}
+
+/// The health at `now`.
+pub(crate) fn read_health<M: Machine>(
+    alloc: Global,
+    office: &mut M::Office,
+    now: Moment,
+    tally: &mut Tally,
+    accepted: Option<Moment>,
+) -> Health
+    ensures moves { LooksIn M.Office.Office (λ records. IsHealthAt accepted now records result)
+        office.old office.new }
+    ensures recounted { IsRecounted tally.old tally.new }
+{
     let found = found_at::<M>(alloc, office, now, tally);
-    health_answer(alloc, &Health::of(now, &found, tally, accepted))
+    Health::of(now, &found, tally, accepted)
 }
 
 /// Answers `/metrics` at `now` with 200; 405 if not GET. Counts open requests for revocation anew unless the last count is less than a minute old.
@@ -374,7 +390,7 @@ fn health_answer(alloc: Global, health: &Health) -> Result<HttpAnswer, Memory>
     }
 }
 
-fn status_of(is_well: bool) -> u16
+pub(crate) fn status_of(is_well: bool) -> u16
     ensures { result ≡ status_spec is_well }
 {
     if is_well {

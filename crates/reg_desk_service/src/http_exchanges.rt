@@ -22,12 +22,13 @@ ghost use Rattle.reg_io.specs.declared.begun.ReadyOrUnsigned.{ReadyOrUnsigned as
 
 use crate::admission::{Admission, begin_admitted};
 use crate::exchange_log::log_exchange;
+use crate::follower_routes::begin_following;
 use crate::health_routes::{answer_health, answer_metrics};
 use crate::machine::Machine;
 use crate::unsigned_responses::{Unsigned, unsigned_of};
 use http::Method;
 use reg_core::{Fault, Memory, Moment};
-use reg_desk_metrics::{ConnectionTotals, Tally};
+use reg_desk_metrics::{ConnectionTotals, FollowerStatus, Tally};
 use reg_http::{
     Exchange, HttpAnswer, Route, UnsignedResponse, answer_changes, answer_list, begin,
     begun_exchange, refuse, text_buffer,
@@ -69,11 +70,13 @@ fn dispatch_of(is_open: bool, route: Route) -> Dispatch
 
 /// Answers at `now` the bytes that came on a connection, counts the exchange in `tally`, and logs it if there is a log. If the response needs a
 /// signature, `finish_http` counts and logs it later instead. `connection_totals`: for `/metrics`. `admission`: for the limits of `/requests`.
+/// `follower`: the state of a follower; `None` for another desk.
 pub(crate) fn answer_http<M: Machine>(
     alloc: Global,
     office: &mut M::Office,
     machine: &M,
     is_open: bool,
+    follower: Option<FollowerStatus>,
     tally: &mut Tally,
     admission: &mut Admission,
     connection_totals: ConnectionTotals,
@@ -95,6 +98,7 @@ pub(crate) fn answer_http<M: Machine>(
         alloc,
         office,
         is_open,
+        follower,
         tally,
         admission,
         connection_totals,
@@ -128,6 +132,7 @@ fn exchange_at<M: Machine>(
     alloc: Global,
     office: &mut M::Office,
     is_open: bool,
+    follower: Option<FollowerStatus>,
     tally: &mut Tally,
     admission: &mut Admission,
     connection_totals: ConnectionTotals,
@@ -154,19 +159,34 @@ fn exchange_at<M: Machine>(
             },
         ) => {
             let route = Route::of(target);
-            let begun = begin_at::<M>(
-                alloc,
-                office,
-                is_open,
-                tally,
-                admission,
-                connection_totals,
-                now,
-                route,
-                &method,
-                target,
-                body,
-            );
+            let begun = match follower {
+                Some(status) => begin_following::<M>(
+                    alloc,
+                    office,
+                    &status,
+                    tally,
+                    admission,
+                    connection_totals,
+                    now,
+                    route,
+                    &method,
+                    target,
+                    body,
+                ),
+                None => begin_at::<M>(
+                    alloc,
+                    office,
+                    is_open,
+                    tally,
+                    admission,
+                    connection_totals,
+                    now,
+                    route,
+                    &method,
+                    target,
+                    body,
+                ),
+            };
             begun_exchange(route, room, begun, now)
         }
         Ok(RequestRef::Refused(status)) => {
@@ -191,7 +211,9 @@ fn empty(alloc: Global, request: &Collected) -> Exchange
     Exchange::empty(alloc, route, SignatureOutcome::NotRequested)
 }
 
-fn ready(answered: Result<HttpAnswer, Memory>) -> Result<ReadyOrUnsigned<HttpAnswer, Draft>, Memory>
+pub(crate) fn ready(
+    answered: Result<HttpAnswer, Memory>,
+) -> Result<ReadyOrUnsigned<HttpAnswer, Draft>, Memory>
     ensures { result ≡ ready_of answered }
 {
     match answered {
@@ -201,7 +223,7 @@ fn ready(answered: Result<HttpAnswer, Memory>) -> Result<ReadyOrUnsigned<HttpAns
 }
 
 /// Answers at `now` a request at a route, or leaves a response to be signed. `admission.accepted`: the moment in the last line `accept-clock`.
-fn begin_at<M: Machine>(
+pub(crate) fn begin_at<M: Machine>(
     alloc: Global,
     office: &mut M::Office,
     is_open: bool,

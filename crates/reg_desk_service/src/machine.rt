@@ -9,9 +9,10 @@ use mio::net::{TcpListener, TcpStream, UnixListener};
 use mio::{Events, Poll};
 use reg_audit_rows::AuditResult;
 use reg_core::{Cause, Fault, Memory, Moment, Policy};
-use reg_crl_signer::{PresetSignature, SignatureRequest};
+use reg_crl_signer::{Algorithm, PresetSignature, SignatureRequest};
 use reg_der::Issuer;
-use reg_desk_cli::{Failure, ResponderChoice};
+use reg_desk_cli::{Failure, LeaderAddress, ResponderChoice};
+use reg_desk_server::LeaderStream;
 use reg_office_api::Office;
 use std::alloc::Global;
 use std::fs::File;
@@ -35,6 +36,7 @@ pub trait Machine {
     ghost use Rattle.reg_desk_cli.specs.declared.failure.Failure.{Failure as Failing};
     ghost use Rattle.reg_audit_rows.specs.declared.audit_result.AuditResult.{AuditResult as AuditResults};
     ghost use Rattle.reg_desk_service.specs.Clocks.{IsClockMoment};
+    ghost use Rattle.reg_desk_service.specs.Following.{ExpectsCrls};
     ghost use Rattle.reg_desk_service.specs.SignerAnswers.{AnsweredAtSomePath};
     ghost use Rattle.reg_desk_service.specs.RegisterFailures.{IsCreateFailure, IsOpenFailure, IsReadFailure};
     ghost use Rattle.reg_desk_service.specs.Signers.{HasCertificate};
@@ -278,6 +280,9 @@ pub trait Machine {
     fn connect_to_socket(&self, path: &str) -> io::Result<UnixStream>
         ensures { OnOk result (socket_connected path.now) };
 
+    /// Connects to another desk, without blocking.
+    fn connect_to_leader(&self, leader: &LeaderAddress<'_>) -> io::Result<LeaderStream>;
+
     /// Asks the signer at the socket at a path to sign a message, without blocking. `kept`: an earlier request, whose connection may be used again.
     /// `WouldBlock` if the socket has no room for one more connection, or no file descriptor is left.
     fn request_signature(
@@ -312,6 +317,11 @@ pub trait Machine {
             IfSome known.answer (λ answer.
             AnsweredAtSomePath signer_answered known.message.items answer.items)) }
         ensures { KeepsIn Self.Office.Office office.old office.new };
+
+    /// Lets an office that has no signer of CRLs (`CrlSignerChoice::NoSigner`) enter CRLs of another register that have this algorithm, if it has
+    /// no signed CRL yet. It still signs none. Nothing changes if it has a signer, or if the issuer's key doesn't fit the algorithm.
+    fn expect_crls(&self, office: &mut Self::Office, algorithm: Algorithm)
+        ensures { ExpectsCrls Self.Office.Office office.old office.new };
 
     /// Whether exchanges and faults of connections are logged.
     fn has_log(&self) -> bool;

@@ -6,12 +6,13 @@ ghost use Rattle.reg_core.specs.Records.{no_records};
 ghost use Rattle.reg_desk_service.specs.RegisterFailures.{IsCreateFailure, IsOpenFailure};
 ghost use Rattle.reg_desk_service.specs.RegisterUses.{exit_of};
 ghost use Rattle.reg_desk_service.specs.Registers.{Audits, Created, Opened, Unaudited, NotCreated, Unopened};
-ghost use Rattle.reg_desk_service.specs.Signers.{signing_with, unsigned};
+ghost use Rattle.reg_desk_service.specs.Signers.{entering, signing_with, unsigned};
 
 use crate::crl_signer::CrlSignerChoice;
 use crate::machine::Machine;
 use reg_audit_rows::AuditResult;
 use reg_core::{Fault, Policy};
+use reg_crl_signer::Algorithm;
 use reg_der::Issuer;
 use reg_desk_cli::{Failure, ResponderChoice, SignerAddress};
 
@@ -45,6 +46,26 @@ pub fn open_signed<M: Machine>(
         path,
         &CrlSignerChoice::of(signer, responder),
         responder,
+    )
+}
+
+/// Opens the register at a path for a job that enters CRLs of another register and signs nothing. These CRLs have this algorithm; for `None`, a
+/// placeholder digest. Errors: `BadSigner` if the issuer's key doesn't fit the algorithm; those of [`open_unsigned`].
+pub fn open_to_fill<M: Machine>(
+    machine: &mut M,
+    path: &str,
+    algorithm: Option<Algorithm>,
+) -> Result<M::Office, Failure>
+    ensures ok { IfOk result (λ office. Opened M.Machine machine.old path.now (entering algorithm) office machine.new) }
+    ensures err { IfErr result (λ why. Unopened M.Machine machine.old path.now (entering algorithm) why machine.new) }
+    ensures faults { IfErr result IsOpenFailure }
+{
+    let issuer_signs = ResponderChoice::Issuer { certificate: None };
+    open_by(
+        machine,
+        path,
+        &CrlSignerChoice::unreachable(algorithm),
+        &issuer_signs,
     )
 }
 

@@ -1,0 +1,288 @@
+//! Fills a new file with the register of another desk: first another file beside it, which is then copied.
+
+use mio::{Events, Poll};
+use reg_core::Fault;
+use reg_core_lists::{Positions, ReceivedPage, read_feed_page};
+use reg_der::{Issuer, IssuerFault};
+use reg_desk_cli::{Failure, FollowJob, LeaderAddress};
+use reg_desk_metrics::FeedFailure;
+use reg_desk_server::{FeedExchange, FeedProgress, LeaderStream};
+use reg_desk_service::{
+    Machine, algorithm_in, changes_request, create_register, open_to_fill, report,
+};
+use reg_office_api::{FollowFault, Office};
+use std::alloc::Global;
+use std::time::Duration;
+
+/// The suffix of the name of the file that is filled first.
+const FILLED_SUFFIX: &str = ".fill";
+
+/// The suffixes of the files that a stop while a file is filled may leave: the one that is filled, its log without it, and an unfinished copy.
+const LEFT_SUFFIXES: [&str; 3] = [FILLED_SUFFIX, ".fill-wal", ".part"];
+
+/// How many milliseconds pass after a failure before the leader is asked again.
+const RETRY_MILLIS: u64 = 1_000;
+
+/// The status code of a response with a page; and of one to positions that the leader does not know (RFC 9110 15.3.1, 15.5.10).
+const OK: u16 = 200;
+
+const DIVERGED: u16 = 409;
+
+/// The most events of one poll: only one connection is polled.
+const MOST_EVENTS: usize = 8;
+
+/// Creates a file at a path with the register of the leader. All its pages are kept in memory first. Another file, whose name ends with `.fill`, then
+/// gets their rows in one transaction; it is copied, and removed. While the leader can't be reached, it is asked once a second. Errors: `BrokenFeed` if a page can't be read or breaks a rule; `BadSigner` if the issuer's key doesn't fit the
+/// algorithm of the first CRL; `Memory`; `Store`; `Read` if the clock or the sockets fail.
+pub(crate) fn fill<M: Machine>(
+    rt: &HostRuntime,
+    machine: &mut M,
+    job: &FollowJob<'_>,
+) -> Result<(), Failure> {
+    let alloc = rt.alloc();
+    let path = path_with(alloc, job.file.as_str(), FILLED_SUFFIX)?;
+    let mut fetcher = Fetcher::new(rt)?;
+    let pages = fetcher.fetch_all::<M>(alloc, &*machine, &job.leader)?;
+    let copied = match fill_file::<M>(alloc, machine, path.as_str(), &pages) {
+        Ok(()) => machine.copy(path.as_str(), job.file.as_str()),
+        Err(why) => Err(why),
+    };
+    machine.remove(path.as_str());
+    match copied {
+        Ok(_) => Ok(()),
+        Err(why) => Err(why),
+    }
+}
+
+/// Removes what a run that was stopped while it filled the file at a path has left beside it.
+pub(crate) fn remove_leftovers<M: Machine>(
+    alloc: Global,
+    machine: &mut M,
+    file: &str,
+) -> Result<(), Failure> {
+    for suffix in LEFT_SUFFIXES {
+        let path = path_with(alloc, file, suffix)?;
+        machine.remove(path.as_str());
+    }
+    Ok(())
+}
+
+fn path_with(alloc: Global, file: &str, suffix: &str) -> Result<String, Failure> {
+    let mut path = String::new(alloc);
+    if path.push_str(file).is_err() || path.push_str(suffix).is_err() {
+        return Err(Failure::Fault(Fault::Memory));
+    }
+    Ok(path)
+}
+
+/// Creates a register at a path, and enters all pages. Its signer of CRLs signs nothing, and has the algorithm of the first CRL.
+fn fill_file<M: Machine>(
+    alloc: Global,
+    machine: &mut M,
+    path: &str,
+    pages: &[ReceivedPage],
+) -> Result<(), Failure> {
+    let Some(page) = pages.last() else {
+        return Err(Failure::BrokenFeed);
+    };
+    create_empty::<M>(alloc, machine, path, page)?;
+    let mut office = open_to_fill(machine, path, algorithm_in(pages))?;
+    let entered = enter_all::<M>(alloc, &*machine, &mut office, pages);
+    machine.close(path, office);
+    entered
+}
+
+/// Creates a register without records, of the issuer and the policy of a page.
+fn create_empty<M: Machine>(
+    alloc: Global,
+    machine: &mut M,
+    path: &str,
+    page: &ReceivedPage,
+) -> Result<(), Failure> {
+    let issuer = match Issuer::of_stored(alloc, &page.head.stored_name, &page.head.key) {
+        Ok(issuer) => issuer,
+        Err(IssuerFault::Memory) => return Err(Failure::Fault(Fault::Memory)),
+        Err(_) => return Err(Failure::BrokenFeed),
+    };
+    match machine.claim(path) {
+        Ok(_) => {}
+        Err(_) => return Err(Failure::Fault(Fault::Memory)),
+    }
+    let office = create_register(machine, path, issuer, page.head.policy)?;
+    machine.close(path, office);
+    Ok(())
+}
+
+fn enter_all<M: Machine>(
+    alloc: Global,
+    machine: &M,
+    office: &mut M::Office,
+    pages: &[ReceivedPage],
+) -> Result<(), Failure> {
+    let own = match office.positions(alloc) {
+        Ok(positions) => positions,
+        Err(fault) => return Err(Failure::Fault(fault)),
+    };
+    match office.follow(alloc, &own, pages) {
+        Ok(_) => Ok(()),
+        Err(FollowFault::Broken(broken)) => {
+            report::<M>(alloc, machine, &FeedFailure::Broken(broken));
+            Err(Failure::BrokenFeed)
+        }
+        Err(FollowFault::Memory) => Err(Failure::Fault(Fault::Memory)),
+        Err(FollowFault::Store) => Err(Failure::Fault(Fault::Store)),
+    }
+}
+
+/// Fetches pages, one after another, over a poller of its own.
+#[derive(Drop)]
+struct Fetcher {
+    poll: Poll,
+    events: Events,
+    failure: Option<FeedFailure>,
+}
+
+impl Fetcher {
+    fn new(rt: &HostRuntime) -> Result<Fetcher, Failure> {
+        let Ok(poll) = Poll::new(rt) else {
+            return Err(Failure::Fault(Fault::Read));
+        };
+        let Ok(events) = Events::with_capacity(rt.alloc(), MOST_EVENTS) else {
+            return Err(Failure::Fault(Fault::Memory));
+        };
+        Ok(Fetcher {
+            poll,
+            events,
+            failure: None,
+        })
+    }
+
+    /// All pages of the feed, from its first row to its end. If the leader no longer knows the positions of a page that it sent, as after it was
+    /// replaced, all are fetched anew.
+    fn fetch_all<M: Machine>(
+        &mut self,
+        alloc: Global,
+        machine: &M,
+        leader: &LeaderAddress<'_>,
+    ) -> Result<Vec<ReceivedPage>, Failure> {
+        let mut pages = Vec::new(alloc);
+        let mut after: Option<Positions> = None;
+        for _ in 0..u64::MAX {
+            match self.fetch::<M>(alloc, machine, leader, &after)? {
+                Some(page) => {
+                    let ends = page.ends;
+                    let reached = Some(page.positions);
+                    if !ends && reached == after {
+                        return Err(Failure::BrokenFeed);
+                    }
+                    after = reached;
+                    if pages.push(page).is_err() {
+                        return Err(Failure::Fault(Fault::Memory));
+                    }
+                    if ends {
+                        return Ok(pages);
+                    }
+                }
+                None => {
+                    pages.clear();
+                    after = None;
+                    self.pause::<M>(machine, RETRY_MILLIS)?;
+                }
+            }
+        }
+        Err(Failure::Fault(Fault::Read))
+    }
+
+    /// The page after some positions; `None` if the leader does not know them. While it can't be reached or does not answer with a page, it is asked
+    /// again, once a second.
+    fn fetch<M: Machine>(
+        &mut self,
+        alloc: Global,
+        machine: &M,
+        leader: &LeaderAddress<'_>,
+        after: &Option<Positions>,
+    ) -> Result<Option<ReceivedPage>, Failure> {
+        for _ in 0..u64::MAX {
+            let failure = match self.fetch_once::<M>(alloc, machine, leader, after)? {
+                Ok(page) => return Ok(Some(page)),
+                Err(failure) => failure,
+            };
+            match failure {
+                FeedFailure::Status(DIVERGED) => return Ok(None),
+                FeedFailure::Memory => return Err(Failure::Fault(Fault::Memory)),
+                FeedFailure::OtherVersion | FeedFailure::Malformed => {
+                    report::<M>(alloc, machine, &failure);
+                    return Err(Failure::BrokenFeed);
+                }
+                _ => {
+                    if self.failure != Some(failure) {
+                        self.failure = Some(failure);
+                        report::<M>(alloc, machine, &failure);
+                    }
+                    self.pause::<M>(machine, RETRY_MILLIS)?;
+                }
+            }
+        }
+        Err(Failure::Fault(Fault::Read))
+    }
+
+    fn fetch_once<M: Machine>(
+        &mut self,
+        alloc: Global,
+        machine: &M,
+        leader: &LeaderAddress<'_>,
+        after: &Option<Positions>,
+    ) -> Result<Result<ReceivedPage, FeedFailure>, Failure> {
+        let Ok(mut stream) = machine.connect_to_leader(leader) else {
+            return Ok(Err(FeedFailure::Unreachable));
+        };
+        if stream.register(self.poll.registry()).is_err() {
+            return Ok(Err(FeedFailure::Unreachable));
+        }
+        let Ok(request) = changes_request(alloc, after) else {
+            return Err(Failure::Fault(Fault::Memory));
+        };
+        let mut exchange: FeedExchange<LeaderStream> = FeedExchange::new(
+            alloc,
+            stream,
+            request,
+            millis::<M>(machine)?,
+        );
+        for _ in 0..u64::MAX {
+            let now = millis::<M>(machine)?;
+            match exchange.advance(now) {
+                FeedProgress::Waiting(wait) => self.pause::<M>(machine, wait)?,
+                FeedProgress::Failed => return Ok(Err(FeedFailure::Unreachable)),
+                FeedProgress::Arrived(head) => {
+                    if head.status != OK {
+                        return Ok(Err(FeedFailure::Status(head.status)));
+                    }
+                    return Ok(match read_feed_page(alloc, exchange.body(head)) {
+                        Ok(page) => Ok(page),
+                        Err(fault) => Err(FeedFailure::from(fault)),
+                    });
+                }
+            }
+        }
+        Err(Failure::Fault(Fault::Read))
+    }
+
+    /// Waits until the connection is ready, at most so many milliseconds.
+    fn pause<M: Machine>(&mut self, machine: &M, millis: u64) -> Result<(), Failure> {
+        match machine.wait(
+            &mut self.poll,
+            &mut self.events,
+            Duration::from_millis(millis),
+        ) {
+            Ok(()) => Ok(()),
+            Err(_) => Err(Failure::Fault(Fault::Read)),
+        }
+    }
+}
+
+fn millis<M: Machine>(machine: &M) -> Result<u64, Failure> {
+    match machine.millis() {
+        Ok(millis) => Ok(millis),
+        Err(_) => Err(Failure::Fault(Fault::Read)),
+    }
+}

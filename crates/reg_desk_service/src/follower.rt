@@ -1,0 +1,313 @@
+//! A follower: it asks a leader for changes, keeps the pages in memory up to the one that ends the feed, and then has its office enter them.
+
+use crate::machine::Machine;
+use mio::Registry;
+use reg_core_lists::{Positions, ReceivedPage, put_positions, read_feed_page};
+use reg_crl_signer::{Algorithm, crl_algorithm};
+use reg_desk_cli::{Failure, LeaderAddress};
+use reg_desk_metrics::{FeedFailure, FollowerStatus};
+use reg_desk_server::{EventLoopFault, FeedExchange, FeedProgress, LeaderStream};
+use reg_http_head::{ResponseHead, status};
+use reg_office_api::{BrokenFeed, FeedPart, FeedRule, Office};
+use std::alloc::{AllocError, Global};
+
+/// How many milliseconds pass after the end of the feed before the follower asks again, if there was no news.
+const PAUSE_MILLIS: u64 = 200;
+
+/// The same after a failure.
+const RETRY_MILLIS: u64 = 1_000;
+
+/// The most pages, and the most bytes of them, that are kept in memory.
+const MOST_PAGES: usize = 512;
+
+const MOST_BYTES: u64 = 160_000_000;
+
+/// The state of a follower, besides its register.
+#[derive(Drop)]
+pub struct Follower<'a, 'w> {
+    alloc: Global,
+    leader: &'a LeaderAddress<'w>,
+    /// For how many milliseconds answers are given after the leader was last reached.
+    lag: u64,
+    /// The positions of the records.
+    own: Positions,
+    /// The positions after the pages that are kept.
+    after: Positions,
+    pages: Vec<ReceivedPage>,
+    bytes: u64,
+    exchange: Option<FeedExchange<LeaderStream>>,
+    /// When the last request was made, in milliseconds of the monotonic clock; so are the next three.
+    asked_at: u64,
+    /// When the next request is due.
+    next_at: u64,
+    started_at: u64,
+    /// When the last request was made whose answer ended the feed and was entered.
+    reached_at: Option<u64>,
+    entered: u64,
+    refused: u64,
+    failure: Option<FeedFailure>,
+    /// Why the program ends once no answers are given.
+    stop: Option<Failure>,
+}
+
+impl<'a, 'w> Follower<'a, 'w> {
+    /// A follower whose records have these positions; it has not asked yet. `lag` is in seconds.
+    pub fn new(
+        alloc: Global,
+        leader: &'a LeaderAddress<'w>,
+        lag: u64,
+        own: Positions,
+        now: u64,
+    ) -> Follower<'a, 'w> {
+        Follower {
+            alloc,
+            leader,
+            lag: lag.saturating_mul(1_000),
+            own,
+            after: own,
+            pages: Vec::new(alloc),
+            bytes: 0,
+            exchange: None,
+            asked_at: now,
+            next_at: now,
+            started_at: now,
+            reached_at: None,
+            entered: 0,
+            refused: 0,
+            failure: None,
+            stop: None,
+        }
+    }
+
+    /// Why the program ends, if it must.
+    pub fn stop(&self) -> Option<Failure> {
+        self.stop
+    }
+
+    /// Whether answers are given: the records are those of the leader at some moment within the lag.
+    pub fn is_current(&self, now: u64) -> bool {
+        match self.reached_at {
+            Some(reached_at) => now.saturating_sub(reached_at) <= self.lag,
+            None => false,
+        }
+    }
+
+    pub fn status(&self, now: u64) -> FollowerStatus {
+        let since = self.reached_at.unwrap_or(self.started_at);
+        FollowerStatus {
+            is_current: self.is_current(now),
+            lag: now.saturating_sub(since) / 1_000,
+            positions: self.own,
+            entered: self.entered,
+            refused: self.refused,
+            is_diverged: self.stop == Some(Failure::Diverged),
+            failure: self.failure,
+        }
+    }
+
+    /// Asks, receives, and enters what was received, without blocking. Returns within how many milliseconds there is more to do. [`EventLoopFault`]
+    /// if the program is to end.
+    pub fn work<M: Machine>(
+        &mut self,
+        office: &mut M::Office,
+        machine: &M,
+        registry: &Registry,
+        now: u64,
+    ) -> Result<u64, EventLoopFault> {
+        if self.stop.is_some() && !self.is_current(now) {
+            return Err(EventLoopFault);
+        }
+        if self.exchange.is_none() {
+            if now < self.next_at {
+                return Ok(self.next_at.saturating_sub(now));
+            }
+            self.ask::<M>(machine, registry, now);
+        }
+        match self.advance(now) {
+            FeedProgress::Waiting(millis) => return Ok(millis),
+            FeedProgress::Failed => {
+                self.exchange = None;
+                self.fail::<M>(machine, FeedFailure::Unreachable, now);
+            }
+            FeedProgress::Arrived(head) => {
+                self.receive::<M>(office, machine, head, now);
+            }
+        }
+        Ok(self.next_at.saturating_sub(now))
+    }
+
+    fn ask<M: Machine>(&mut self, machine: &M, registry: &Registry, now: u64) {
+        self.asked_at = now;
+        self.exchange = self.asked::<M>(machine, registry, now);
+    }
+
+    /// A request for the changes after the pages that are kept; `None` if the leader can't be reached.
+    fn asked<M: Machine>(
+        &self,
+        machine: &M,
+        registry: &Registry,
+        now: u64,
+    ) -> Option<FeedExchange<LeaderStream>> {
+        let mut stream = machine.connect_to_leader(self.leader).ok()?;
+        stream.register(registry).ok()?;
+        let request = changes_request(self.alloc, &Some(self.after)).ok()?;
+        Some(FeedExchange::new(self.alloc, stream, request, now))
+    }
+
+    fn advance(&mut self, now: u64) -> FeedProgress {
+        match &mut self.exchange {
+            Some(exchange) => exchange.advance(now),
+            None => FeedProgress::Failed,
+        }
+    }
+
+    /// Drops the pages that are kept, and asks again later, from the own records on. Reports the failure unless the last request failed in the same
+    /// way.
+    fn fail<M: Machine>(&mut self, machine: &M, failure: FeedFailure, now: u64) {
+        self.pages.clear();
+        self.bytes = 0;
+        self.after = self.own;
+        self.next_at = now.saturating_add(RETRY_MILLIS);
+        if self.failure != Some(failure) {
+            self.failure = Some(failure);
+            report::<M>(self.alloc, machine, &failure);
+        }
+    }
+
+    /// Takes the response that has arrived with this head.
+    fn receive<M: Machine>(
+        &mut self,
+        office: &mut M::Office,
+        machine: &M,
+        head: ResponseHead,
+        now: u64,
+    ) {
+        let Some(exchange) = self.exchange.take() else {
+            return;
+        };
+        match head.status {
+            status::OK => match self.take_page::<M>(office, machine, exchange.body(head), now) {
+                Ok(()) => {}
+                Err(failure) => {
+                    self.refused = self.refused.saturating_add(1);
+                    self.fail::<M>(machine, failure, now);
+                }
+            },
+            status::CONFLICT => {
+                // If pages are kept, only the positions after them may be unknown, as after the leader was replaced.
+                if self.pages.is_empty() {
+                    self.stop = Some(Failure::Diverged);
+                }
+                self.fail::<M>(machine, FeedFailure::Status(head.status), now);
+            }
+            _ => self.fail::<M>(machine, FeedFailure::Status(head.status), now),
+        }
+    }
+
+    /// Keeps the page that is the body of a response; if it ends the feed, enters all pages.
+    fn take_page<M: Machine>(
+        &mut self,
+        office: &mut M::Office,
+        machine: &M,
+        body: &[u8],
+        now: u64,
+    ) -> Result<(), FeedFailure> {
+        let page = match read_feed_page(self.alloc, body) {
+            Ok(page) => page,
+            Err(fault) => return Err(FeedFailure::from(fault)),
+        };
+        let ends = page.ends;
+        let positions = page.positions;
+        if !ends && positions == self.after {
+            return Err(FeedFailure::Broken(no_progress()));
+        }
+        self.bytes = self.bytes.saturating_add(body.len() as u64);
+        if self.pages.push(page).is_err() {
+            return Err(FeedFailure::Memory);
+        }
+        self.after = positions;
+        self.next_at = now;
+        if ends {
+            return self.enter::<M>(office, machine, now);
+        }
+        if self.pages.len() >= MOST_PAGES || self.bytes > MOST_BYTES {
+            self.stop = Some(Failure::TooFarBehind);
+            return Err(FeedFailure::TooFarBehind);
+        }
+        Ok(())
+    }
+
+    /// Enters the pages that are kept.
+    fn enter<M: Machine>(
+        &mut self,
+        office: &mut M::Office,
+        machine: &M,
+        now: u64,
+    ) -> Result<(), FeedFailure> {
+        if let Some(algorithm) = algorithm_in(&self.pages) {
+            machine.expect_crls(office, algorithm);
+        }
+        match office.follow(self.alloc, &self.own, &self.pages) {
+            Ok(positions) => {
+                // After news, the follower asks again at once: by that the leader knows that they are on the follower's disk.
+                let pause = if positions == self.own {
+                    PAUSE_MILLIS
+                } else {
+                    0
+                };
+                self.own = positions;
+                self.after = positions;
+                self.reached_at = Some(self.asked_at);
+                self.entered = self.entered.saturating_add(self.pages.len() as u64);
+                self.failure = None;
+                self.stop = None;
+                self.pages.clear();
+                self.bytes = 0;
+                self.next_at = now.saturating_add(pause);
+                Ok(())
+            }
+            Err(fault) => Err(FeedFailure::from(fault)),
+        }
+    }
+}
+
+/// A page that does not end the feed and does not lead on either.
+fn no_progress() -> BrokenFeed {
+    BrokenFeed {
+        part: FeedPart::Positions,
+        row: 0,
+        why: FeedRule::OtherPositions,
+    }
+}
+
+/// The algorithm of the first CRL in pages. `None` if there is none, or if it has a placeholder digest or an unknown algorithm.
+pub fn algorithm_in(pages: &[ReceivedPage]) -> Option<Algorithm> {
+    for page in pages {
+        if let Some(crl) = &page.crl {
+            return Algorithm::from_identifier(crl_algorithm(&crl.der)?);
+        }
+    }
+    None
+}
+
+/// The request for the changes after some positions; for `None`, from the first row on.
+pub fn changes_request(alloc: Global, after: &Option<Positions>) -> Result<Vec<u8>, AllocError> {
+    let mut request = Vec::from_slice(alloc, b"GET /changes")?;
+    if let Some(positions) = after {
+        request.extend_from_slice(b"?after=")?;
+        put_positions(alloc, &mut request, positions)?;
+    }
+    request.extend_from_slice(b" HTTP/1.1\r\nHost: 127.0.0.1\r\nConnection: close\r\n\r\n")?;
+    Ok(request)
+}
+
+/// Writes a failure to standard error; without memory, nothing.
+pub fn report<M: Machine>(alloc: Global, machine: &M, failure: &FeedFailure) {
+    let mut line = Vec::new(alloc);
+    let put = line.extend_from_slice(b"follow: ");
+    let named = failure.put(&mut line);
+    let ended = line.push(b'\n');
+    if put.is_ok() && named.is_ok() && ended.is_ok() {
+        machine.warn(&line);
+    }
+}
