@@ -59,7 +59,7 @@ for name in desk@.service desk-crl@.timer desk-crl@.service desk-publish@.servic
     desk-signer@.socket desk-signer@.service desk-responder@.socket desk-responder@.service; do
     put 0644 "packaging/$name" "lib/systemd/system/$name"
 done
-for name in issue-due-crl.sh publish-crl.sh register-pem.sh backup.sh after-a-backup.py from-openssl-index.py signer.py only_ours.py check-signer.py pkcs11-signer.sh issuer-words.sh audit-report.py; do
+for name in issue-due-crl.sh publish-crl.sh register-pem.sh backup.sh after-a-backup.py lost-rows.py from-openssl-index.py signer.py only_ours.py check-signer.py pkcs11-signer.sh issuer-words.sh audit-report.py; do
     put 0755 "examples/$name" "usr/lib/durshavon/$name"
 done
 put 0755 packaging/wait-for-desk.sh usr/lib/durshavon/wait-for-desk.sh
