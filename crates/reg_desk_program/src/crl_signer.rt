@@ -192,7 +192,7 @@ pub(crate) fn key_signer(
 /// Replaces a signer that signs nothing and has no key, of the register in these tables, by one that signs nothing and has the issuer's key with this
 /// algorithm. Nothing changes if the signer is another one, if the key doesn't fit the algorithm, or at a fault.
 pub(crate) fn expect_algorithm<C: Alter>(
-    host: &Host<'_>,
+    host: &SystemHost<'_>,
     tables: &mut Tables<C>,
     signer: &mut FileSigner,
     algorithm: Algorithm,
