@@ -667,13 +667,13 @@ def a_copy_is_stopped_at_any_write(t):
             number += 1
             t.same(control.ask(f"subscriber s{number}"), f"subscriber {number}")
         try:
-            stopped += process.wait(2) == -signal.SIGKILL
+            stopped += process.wait(2 * program.PATIENCE) == -signal.SIGKILL
         except subprocess.TimeoutExpired:
             process.kill()
             process.wait()
         if (t.room / "copy.db").exists():
             t.true(t.done("audit", "copy.db").startswith("sound"), f"desk audit after turn {turn}")
-    t.true(stopped > 10, f"{stopped} stops at a write")
+    t.true(stopped > 4, f"{stopped} stops at a write")
     copy = Copy(t, address(leader.port))
     copy.is_like(control)
     copy.is_sound()
@@ -891,3 +891,108 @@ def over_a_link_that_is_cut(t):
         it.cut(False)
         until(lambda: parted(copy.desk.ask("GET", "/status/05"))[0] == 200, "answers again")
         copy.is_like(control)
+
+
+# ---- replies that wait for followers
+
+
+class Sender(threading.Thread):
+    """A control connection of its own that sends a line, and keeps its reply once that has come."""
+
+    def __init__(self, t, line, path="control"):
+        super().__init__(daemon=True)
+        self.lines, self.line, self.reply = t.control(path), line, None
+        self.start()
+
+    def run(self):
+        with contextlib.suppress(OSError):
+            self.reply = self.lines.ask(self.line)
+
+
+@test(seconds=8)
+def a_reply_waits_for_a_follower(t):
+    """With --confirm-by 1: without a follower a command runs, and gets no reply. Queries, HTTP and other connections go on, and /health says since when."""
+    t.register(lines=LINES)
+    t.clock(CLOCK)
+    leader = t.open("ca.db", "--confirm-by", "1")
+    health = lambda: json.loads(parted(leader.ask("GET", "/health"))[2])
+    t.same(health()["unconfirmed"], None, "unconfirmed")
+    other = t.control()
+    sender = Sender(t, "subscriber third")
+    until(lambda: health()["unconfirmed"] == CLOCK, "the moment of the command in /health")
+    sender.join(1)
+    t.same(sender.reply, None, "a reply without a follower")
+    t.same(other.ask("next-crl")[:8], "next-crl", "a query of another connection")
+    t.same(parted(leader.ask("GET", "/counts"))[0], 200, "HTTP")
+    t.same(asked(t, leader)[1].count(("subscriber", "3 third")), 1, "the row in the feed")
+    t.clock("2026-01-03T00:00:11Z")
+    code, _, body = parted(leader.ask("GET", "/health"))
+    t.same((code, json.loads(body)["status"]), (503, "failing"), "health after eleven seconds")
+    copy = Copy(t, address(leader.port))
+    sender.join(60 * program.PATIENCE)
+    t.same(sender.reply, "subscriber 3", "the reply once a follower has the row")
+    t.same(health()["unconfirmed"], None, "unconfirmed after the reply")
+    copy.is_like(other)
+    # From now on a reply comes as soon as the follower has synced the row.
+    for number in range(4, 14):
+        t.same(other.ask(f"subscriber s{number}"), f"subscriber {number}")
+        t.true(int(copy.leader["positions"].split(".")[0]) >= number, f"positions of the copy after subscriber {number}")
+    t.same(other.ask("crl"), "crl 4 entries 2", "a CRL")
+    t.true(int(copy.leader["positions"].split(".")[5]) >= 4, "positions of the copy after a CRL")
+
+
+@test(seconds=12)
+def a_reply_waits_for_two_followers(t):
+    t.register(lines=LINES)
+    t.clock(CLOCK)
+    leader = t.open("ca.db", "--confirm-by", "2")
+    first = Copy(t, address(leader.port))
+    sender = Sender(t, "subscriber third")
+    until(lambda: first.leader["positions"].startswith("3."), "the row at the first follower")
+    sender.join(2)
+    t.same(sender.reply, None, "a reply with one follower")
+    second = Copy(t, address(leader.port), file="copy-2.db")
+    sender.join(60 * program.PATIENCE)
+    t.same((sender.reply, second.leader["positions"][:2]), ("subscriber 3", "3."), "the reply with two followers")
+
+
+@test(seconds=40)
+def no_acknowledged_command_is_lost(t):
+    """The leader is killed at random moments, and its file destroyed: each command that was acknowledged is in the follower's file, which takes over."""
+    random = Random(58)
+    t.register(lines=LINES)
+    t.clock(CLOCK)
+    number, acknowledged, file = 2, [], "ca.db"
+    for turn in range(8):
+        leader = t.open(file, "--confirm-by", "1", "--control", f"lead-{turn}")
+        next_file = f"copy-{turn}.db"
+        copy = Copy(t, address(leader.port), file=next_file)
+        lines = t.control(f"lead-{turn}")
+        killer = threading.Timer(random.uniform(0.2, 2) * program.PATIENCE, leader.process.kill)
+        killer.start()
+        with contextlib.suppress(OSError):
+            for at in range(1_000):
+                name = f"t{turn}-{at}"
+                if not lines.ask(f"subscriber {name}").startswith("subscriber "):
+                    break
+                acknowledged.append(name)
+        killer.join()
+        leader.process.wait()
+        copy.desk.end()
+        names = {name for (name,) in t.sql(next_file, "SELECT name FROM subscriber")}
+        t.same([it for it in acknowledged if it not in names], [], f"acknowledged commands that the copy of turn {turn} lacks")
+        (t.room / file).unlink()
+        file = next_file
+    t.true(len(acknowledged) > 8, f"{len(acknowledged)} acknowledged commands")
+    t.true(t.done("audit", file).startswith("sound"), "desk audit")
+
+
+@test(seconds=3)
+def a_client_that_asks_for_changes_by_hand(t):
+    """The number of a follower is optional, and anything else after the positions can't be read."""
+    leader, control, copy = led(t)
+    copy.follows(leader)
+    positions = copy.leader["positions"]
+    copy.desk.end()
+    for more, status in (("", 200), ("&follower=7", 200), ("&follower=", 400), ("&follower=x", 400), ("&wait=1", 400), ("&follower=7&follower=8", 400)):
+        t.same(parted(leader.ask("GET", f"/changes?after={positions}{more}"))[0], status, f"status with {more!r}")

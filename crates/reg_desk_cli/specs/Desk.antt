@@ -85,7 +85,8 @@ serve_app = with_rules (new_app (codes "serve"))
     ∷ flag (codes "why") ∷ [])
 
 -- `open FILE --port N [--listen ADDRESS] --control SOCKET [--signer SOCKET --algorithm NAME] [--unsigned]
--- [--responder CERT --responder-signer SOCKET --responder-algorithm NAME | --embed CERT] [--published CRL] [--log] [--log-file PATH] [--why]`;
+-- [--responder CERT --responder-signer SOCKET --responder-algorithm NAME | --embed CERT] [--published CRL]
+-- [--confirm-by N] [--log] [--log-file PATH] [--why]`;
 -- `--counter` is an older name of `--control`; `Jobs.signer_or_unsigned` states whether `--signer` or `--unsigned` must be given
 abbrev pub open_app : App
 open_app = with_rules (new_app (codes "open"))
@@ -94,7 +95,7 @@ open_app = with_rules (new_app (codes "open"))
     ∷ takes_value (codes "signer") ∷ takes_value (codes "algorithm") ∷ flag (codes "unsigned")
     ∷ takes_value (codes "responder") ∷ takes_value (codes "responder-signer")
     ∷ takes_value (codes "responder-algorithm") ∷ takes_value (codes "embed")
-    ∷ takes_value (codes "published") ∷ flag (codes "log") ∷ takes_value (codes "log-file")
+    ∷ takes_value (codes "published") ∷ takes_value (codes "confirm-by") ∷ flag (codes "log") ∷ takes_value (codes "log-file")
     ∷ flag (codes "why") ∷ [])
 
 -- `follow FILE --from ADDRESS --port N [--listen ADDRESS] [--control SOCKET] [--lag SECONDS] [--signer SOCKET --algorithm NAME] [--unsigned]

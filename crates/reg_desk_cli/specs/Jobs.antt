@@ -1,5 +1,5 @@
 -- The meaning of the words of a command line.
-use Rattle.std.specs.Prelude.{◌≡◌, ◌≢◌, ◌⊎◌, ◌||◌, ℕ, Bool, true, false, List, [], take, drop, codes, bytes_eq, if◌then◌else◌, Option, Some, None, option_map, option_and_then}
+use Rattle.std.specs.Prelude.{◌≡◌, ◌≢◌, ◌⊎◌, ◌||◌, ℕ, Bool, true, false, List, [], take, drop, codes, bytes_eq, if◌then◌else◌, Option, Some, None, is_some, option_map, option_and_then}
 use Rattle.std.specs.Option.{option_map_or}
 use Rattle.clap.specs.Words.{IsAmong, Row, Text, all_of, fault_of, first_of, matches_of, subcommand_of}
 use Rattle.clap.specs.declared.error.kind.ErrorKind.{ErrorKind}
@@ -216,11 +216,17 @@ serve_of rows = do
     published = first_of (codes "published") rows;
   }))
 
+-- the number of `--confirm-by`, 1 to 8; 0 if it is not given
+abbrev pub confirm_in : List Row → Option ℕ
+confirm_in rows =
+    if is_some (first_of (codes "confirm-by") rows) then number_in 1 8 (codes "confirm-by") rows else Some 0
+
 unfoldable pub open_of : List Row → Option Job
 open_of rows = do
   file ← first_of (codes "file") rows
   endpoint ← endpoint_in rows
   control ← first_of (codes "control") rows
+  confirm_by ← confirm_in rows
   responder ← responder_in rows
   signer ← signer_or_unsigned responder rows
   Some (Open (record {
@@ -230,6 +236,7 @@ open_of rows = do
     signer = signer;
     responder = responder;
     published = first_of (codes "published") rows;
+    confirm_by = confirm_by;
   }))
 
 -- the address of a leader: `127.0.0.1:PORT` with a port of 1 to 65535, or the path of a Unix socket

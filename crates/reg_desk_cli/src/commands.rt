@@ -11,9 +11,9 @@ use crate::job::{
     RowTask, ScriptOptions, ServeJob, SignerAddress,
 };
 use crate::option_values::{
-    argument_of, filter_option, is_set, lag_option, leader_option, loopback, moment_option,
-    number_option, number_or, number_within, order_terms_option, responder, script_options_of,
-    signer_option, signer_or_unsigned, steps, text_of,
+    argument_of, confirm_option, filter_option, is_set, lag_option, leader_option, loopback,
+    moment_option, number_option, number_or, number_within, order_terms_option, responder,
+    script_options_of, signer_option, signer_or_unsigned, steps, text_of,
 };
 use crate::wrong::{LAST_PORT, MOST_REQUESTS};
 use clap::ArgMatches;
@@ -221,6 +221,7 @@ fn read_open<'a>(given: &ArgMatches<'a>) -> Option<Job<'a>>
     let file = argument_of(given, "file")?;
     let endpoint = endpoint_of(given)?;
     let control = argument_of(given, "control")?;
+    let confirm_by = confirm_option(given)?;
     let ocsp_responder = responder(given)?;
     let signer = signer_or_unsigned(given, &ocsp_responder)?;
     Some(Job::Open(OpenJob {
@@ -230,6 +231,7 @@ fn read_open<'a>(given: &ArgMatches<'a>) -> Option<Job<'a>>
         signer,
         responder: ocsp_responder,
         published: argument_of(given, "published"),
+        confirm_by,
     }))
 }
 

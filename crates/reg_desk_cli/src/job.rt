@@ -113,6 +113,8 @@ pub struct OpenJob<'a> {
     pub signer: Option<SignerAddress<'a>>,
     pub responder: ResponderChoice<'a>,
     pub published: Option<Argument<'a>>,
+    /// How many followers must have a command before its reply is sent: 0 to 8.
+    pub confirm_by: u64,
 }
 
 /// Where a follower reaches the HTTP port of its leader, the open desk that it follows.

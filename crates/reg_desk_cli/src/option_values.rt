@@ -5,14 +5,14 @@ ghost use Rattle.std.specs.Prelude.{◌≡◌, ◌≤◌, ◌==◌, IfOk, IfSome
 ghost use Rattle.reg_core.specs.Calendar.{moment_of};
 ghost use Rattle.reg_core.specs.Number.{number_of};
 ghost use Rattle.clap.specs.Words.{all_of, first_of, found_of, rows_of};
-ghost use Rattle.reg_desk_cli.specs.Jobs.{responder_in, responder_by, given, value_or_default, chosen, filter_in, has_own_key, signer_by_options, signer_or_unsigned, signer_in, has_flag, label_given, lag_in, leader_in, leader_of, loopback_in, loopback_named, moment_given, number_in, order_terms_given, prefix_given, script_options_in};
+ghost use Rattle.reg_desk_cli.specs.Jobs.{confirm_in, responder_in, responder_by, given, value_or_default, chosen, filter_in, has_own_key, signer_by_options, signer_or_unsigned, signer_in, has_flag, label_given, lag_in, leader_in, leader_of, loopback_in, loopback_named, moment_given, number_in, order_terms_given, prefix_given, script_options_in};
 ghost use Rattle.reg_desk_cli.specs.WordValues.{order_terms_of, step_of, step_from, steps_of, within};
 
 use crate::argument::{Argument, Steps};
 use crate::job::{
     LeaderAddress, Loopback, OrderTerms, ResponderChoice, ScriptOptions, SignerAddress,
 };
-use crate::wrong::{LAST_PORT, LONGEST_LAG};
+use crate::wrong::{LAST_PORT, LONGEST_LAG, MOST_CONFIRMING};
 use clap::ArgMatches;
 use reg_core::{Label, Moment, read_number};
 use reg_core_lists::{Filter, read_prefix};
@@ -131,6 +131,16 @@ fn read_port(text: &[u8]) -> Option<u16>
     ensures { result ≡ option_and_then (within 1 65535) (number_of text.now) }
 {
     Some(bounded(read_number(text)?, 1, LAST_PORT)? as u16)
+}
+
+/// The number of `--confirm-by`, or 0 if it is not given; `None` for a number that is not 1 to 8.
+pub(crate) fn confirm_option(matches: &ArgMatches<'_>) -> Option<u64>
+    ensures { result ≡ confirm_in (rows_of (found_of matches.now)) }
+{
+    match text_of(matches, "confirm-by") {
+        Some(_) => number_within(matches, "confirm-by", 1, MOST_CONFIRMING),
+        None => Some(0),
+    }
 }
 
 /// The seconds of `--lag`, or 60 if it is not given; `None` for a number that is not 1 to 86,400.

@@ -110,6 +110,9 @@ const CONTROL: &str =
 const PUBLISHED: &str =
     "A published CRL in DER: if its number is above that of the register's latest CRL, or if it lists serial numbers that aren't revoked, nothing is served, and standard output has a line for the CRL's number and for each such serial number that the register lacks";
 
+const CONFIRM_BY: &str =
+    "How many followers must have a command before its reply is sent, 1 to 8 [default: replies don't wait]";
+
 const FOLLOW_FILE: &str = "The file of the copy; it is created if it is missing";
 
 const LEADER: &str =
@@ -275,6 +278,7 @@ pub(crate) const FIRST_COMMANDS: &[CommandEntry] = &[
             Part::OptionalOption("responder-algorithm", "NAME", RESPONDER_ALGORITHM),
             Part::OptionalOption("embed", "CERT", EMBED),
             Part::OptionalOption("published", "CRL", PUBLISHED),
+            Part::OptionalOption("confirm-by", "N", CONFIRM_BY),
             Part::Flag("log", LOG),
             Part::OptionalOption("log-file", "PATH", LOG_FILE),
             Part::Flag("why", CAUSE),

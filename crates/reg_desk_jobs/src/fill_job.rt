@@ -239,7 +239,7 @@ impl Fetcher {
         if stream.register(self.poll.registry()).is_err() {
             return Ok(Err(FeedFailure::Unreachable));
         }
-        let Ok(request) = changes_request(alloc, after) else {
+        let Ok(request) = changes_request(alloc, after, machine.micros()) else {
             return Err(Failure::Fault(Fault::Memory));
         };
         let mut exchange: FeedExchange<LeaderStream> = FeedExchange::new(

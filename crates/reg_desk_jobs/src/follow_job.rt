@@ -8,7 +8,7 @@ use reg_desk_cli::{Failure, FollowJob};
 use reg_desk_metrics::{ConnectionTotals, Tally};
 use reg_desk_server::EventLoop;
 use reg_desk_service::{
-    Admission, CrlSignerChoice, Desk, FollowDesk, Follower, Machine, open_signed,
+    Admission, Confirmation, CrlSignerChoice, Desk, FollowDesk, Follower, Machine, open_signed,
     responder_not_after, signing_of,
 };
 use reg_office_api::Office;
@@ -80,8 +80,16 @@ fn serve_copy<'a, 'w, M: Machine, W: Write>(
             tally: &tally,
             connection_totals: &connection_totals,
             admission: Admission::new(),
+            confirmation: Confirmation::by(0),
         },
-        follower: Follower::new(alloc, &job.leader, job.lag, positions, now),
+        follower: Follower::new(
+            alloc,
+            &job.leader,
+            job.lag,
+            positions,
+            machine.micros(),
+            now,
+        ),
         has_control: control_path.is_some(),
     };
     let ending = run_event_loop(

@@ -34,6 +34,7 @@ pub fn serve_open<M: Machine, R: Source, W: Sink>(
         job.endpoint,
         Some(job.control.as_str()),
         u64::MAX,
+        job.confirm_by,
         job.published.is_some(),
         reader,
         writer,

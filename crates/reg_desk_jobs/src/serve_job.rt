@@ -21,7 +21,8 @@ use reg_desk_cli::{Endpoint, Failure, Loopback, ResponderChoice, ServeJob, Signe
 use reg_desk_metrics::{ConnectionTotals, Tally};
 use reg_desk_server::{EventLoop, Handler, MOST_HTTP_CONNECTIONS};
 use reg_desk_service::{
-    Admission, CrlSignerChoice, Desk, Machine, open_signed, responder_not_after, signing_of,
+    Admission, Confirmation, CrlSignerChoice, Desk, Machine, open_signed, responder_not_after,
+    signing_of,
 };
 use reg_io::{Sink, Source};
 use std::cell::Cell;
@@ -59,6 +60,7 @@ pub fn serve<M: Machine, R: Source, W: Sink>(
         job.endpoint,
         None,
         u64::from(job.requests),
+        0,
         job.published.is_some(),
         reader,
         writer,
@@ -67,7 +69,7 @@ pub fn serve<M: Machine, R: Source, W: Sink>(
     ending
 }
 
-/// Serves the register at the path `file` until `requests` HTTP connections are answered. If `has_published`, [`check_published`] comes first.
+/// Serves the register at the path `file` until `requests` HTTP connections are answered. Replies to commands wait for `confirm_by` followers. If `has_published`, [`check_published`] comes first.
 pub(crate) fn serve_checked<'a, 'w, M: Machine, R: Read, W: Write>(
     rt: &HostRuntime,
     machine: &'a M,
@@ -78,6 +80,7 @@ pub(crate) fn serve_checked<'a, 'w, M: Machine, R: Read, W: Write>(
     endpoint: Endpoint,
     control_path: Option<&str>,
     requests: u64,
+    confirm_by: u64,
     has_published: bool,
     reader: &mut R,
     writer: &mut W,
@@ -112,6 +115,7 @@ pub(crate) fn serve_checked<'a, 'w, M: Machine, R: Read, W: Write>(
         endpoint,
         control_path,
         requests,
+        confirm_by,
         writer,
     )
 }
@@ -127,6 +131,7 @@ fn serve_desk<'a, 'w, M: Machine, W: Write>(
     endpoint: Endpoint,
     control_path: Option<&str>,
     requests: u64,
+    confirm_by: u64,
     writer: &mut W,
 ) -> (M::Office, Result<(), Failure>)
     ensures { (inputs : List Input) × (outcomes : List (Outcome Unsigned)) × LeadsIn M.Office.Office
@@ -165,6 +170,7 @@ fn serve_desk<'a, 'w, M: Machine, W: Write>(
         tally: &tally,
         connection_totals: &connection_totals,
         admission,
+        confirmation: Confirmation::by(confirm_by),
     };
     let ending = run_event_loop(event_loop, &mut desk, endpoint.port, requests, writer);
     (desk.office, ending)

@@ -60,6 +60,11 @@ store_since_at now (Ok numbers) since = since
 store_since_at now (Err (Refused why)) since = since
 store_since_at now (Err other) since = option_or since (Some now)
 
+-- whether a moment was at least ten seconds ago
+abbrev pub is_unconfirmed_late_at : ℕ → Option ℕ → Bool
+is_unconfirmed_late_at now (Some since) = not (nat_lt (now - since) 10)
+is_unconfirmed_late_at now None = false
+
 -- the health of a register at a moment, from its numbers, the tally, and the moment that the operator accepted
 abbrev pub health_of : ℕ → Result Numbers Fault → Tally → Option ℕ → Health
 health_of now found tally accepted = record {
@@ -70,16 +75,19 @@ health_of now found tally accepted = record {
   ocsp_signer = tally.ocsp.failing_since;
   rows = rows_since now found;
   store = store_since_at now found tally.store_failing_since;
+  waits_for_followers = tally.waits_for_followers;
+  unconfirmed = tally.unconfirmed_since;
+  is_unconfirmed_late = is_unconfirmed_late_at now tally.unconfirmed_since;
 }
 
--- all is well: each moment of the health is None, and no CRL is due at once
+-- all is well: each moment of the health is None, no CRL is due at once, and no command has waited for followers for ten seconds
 abbrev pub is_well : Health → Bool
 is_well health =
     is_none health.clock
     && (not health.is_crl_due_at_once
     && (is_none health.crl
     && (is_none health.crl_signer
-    && (is_none health.ocsp_signer && (is_none health.rows && is_none health.store)))))
+    && (is_none health.ocsp_signer && (is_none health.rows && (is_none health.store && not health.is_unconfirmed_late))))))
 
 -- a moment in quotation marks, or null
 abbrev pub since_text : Option ℕ → List ℕ
@@ -112,4 +120,6 @@ health_members health well =
 
 -- the body; if all is well: `{"clock":null,"crl":null,"crl_signer":null,"ocsp_signer":null,"rows":null,"status":"ok","store":null}`
 unfoldable pub health_text : Health → List ℕ
-health_text health = health_members health (is_well health) ++ 125 ∷ []
+health_text health =
+    health_members health (is_well health)
+    ++ cond health.waits_for_followers (member (codes ",\"unconfirmed\":") health.unconfirmed) [] ++ 125 ∷ []

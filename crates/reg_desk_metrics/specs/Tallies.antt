@@ -116,6 +116,7 @@ IsNewTally signing ends tally =
     × (tally.crls ≡ nothing_requested) × (tally.ocsp ≡ nothing_requested) × (tally.store_failing_since ≡ None)
     × (tally.requests ≡ None)
     × (tally.crl_signing ≡ signing) × (tally.responder_ends ≡ ends) × (tally.read ≡ None)
+    × (tally.waits_for_followers ≡ false) × (tally.unconfirmed_since ≡ None)
 
 -- one more exchange or line in the bucket of its time, which is added to the sum
 abbrev pub with_time : ℕ → Tally → Tally
@@ -201,6 +202,10 @@ with_line now line micros tally =
 -- the count of the requests for revocation is kept
 abbrev pub with_counted : Requests → Tally → Tally
 with_counted requests tally = record tally { requests = Some requests }
+
+-- replies to commands wait for followers, since this moment
+abbrev pub with_unconfirmed : Option ℕ → Tally → Tally
+with_unconfirmed since tally = record tally { waits_for_followers = true; unconfirmed_since = since }
 
 -- whether CRLs are signed with a key
 abbrev pub is_key : CrlSigning → Bool

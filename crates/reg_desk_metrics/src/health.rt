@@ -1,7 +1,7 @@
 //! The health of an open register, for `GET /health`: what fails, and since when.
 
 ghost use Rattle.std.specs.Prelude.{◌≡◌, ◌++◌, IfOk, OnOk};
-ghost use Rattle.reg_desk_metrics.specs.Healths.{clock_failing_since as clock_spec, crl_since as crl_since_spec, crl_text as crl_spec, is_crl_due_at_once as due_at_once, health_members, health_of, health_text, is_none as is_without, is_filling as fills, is_well as all_well, if_past as past_spec, member, rows_since as rows_spec, signers_text, since_text, status_member, store_since_at as store_spec};
+ghost use Rattle.reg_desk_metrics.specs.Healths.{clock_failing_since as clock_spec, crl_since as crl_since_spec, crl_text as crl_spec, is_crl_due_at_once as due_at_once, health_members, health_of, health_text, is_unconfirmed_late_at, is_none as is_without, is_filling as fills, is_well as all_well, if_past as past_spec, member, rows_since as rows_spec, signers_text, since_text, status_member, store_since_at as store_spec};
 
 use crate::ahead::is_ahead;
 use crate::numbers::NumbersResult;
@@ -9,6 +9,9 @@ use crate::tally::Tally;
 use reg_core::{Fault, Moment, Refusal};
 use reg_office_api::{RegisterSummary, TableSizes};
 use std::alloc::{AllocError, Global};
+
+/// After how many seconds without a follower's confirmation a desk is not healthy.
+const CONFIRMATION_SECONDS: u64 = 10;
 
 /// What fails in an open register. A field is the moment since when its part fails, or the moment in its comment; `None` if the part doesn't fail.
 #[derive(Clone, Copy, PartialEq, Eq)]
@@ -24,6 +27,10 @@ pub struct Health {
     /// Now, if less than a fifth of the cap (the most rows of a table) is left in a table.
     pub(crate) rows: Option<Moment>,
     pub(crate) store: Option<Moment>,
+    /// Whether replies to commands wait for followers; the moment of the first command for which one waits; whether that was ten seconds ago.
+    pub(crate) waits_for_followers: bool,
+    pub(crate) unconfirmed: Option<Moment>,
+    pub(crate) is_unconfirmed_late: bool,
 }
 
 impl Health {
@@ -40,6 +47,9 @@ impl Health {
             ocsp_signer: tally.ocsp.failing_since,
             rows: rows_failing_since(now, found),
             store: store_failing_since(now, found, tally.store_failing_since),
+            waits_for_followers: tally.waits_for_followers,
+            unconfirmed: tally.unconfirmed_since,
+            is_unconfirmed_late: is_late(now, tally.unconfirmed_since),
         }
     }
 
@@ -54,6 +64,7 @@ impl Health {
             && is_none(self.ocsp_signer)
             && is_none(self.rows)
             && is_none(self.store)
+            && !self.is_unconfirmed_late
     }
 
     /// The body of the answer to `GET /health`, in JSON (RFC 8259). Each member but `status` is its field's moment or null; `crl` can be `"at-once"`.
@@ -63,6 +74,9 @@ impl Health {
     {
         let mut text = Vec::new(alloc);
         self.put_members(&mut text, self.is_well())?;
+        if self.waits_for_followers {
+            put_member(&mut text, b",\"unconfirmed\":", self.unconfirmed)?;
+        }
         text.push(b'}')?;
         Ok(text)
     }
@@ -79,6 +93,16 @@ impl Health {
         put_member(text, b",\"rows\":", self.rows)?;
         put_status(text, is_well)?;
         put_since(text, self.store)
+    }
+}
+
+/// Whether a moment was at least ten seconds ago.
+fn is_late(now: Moment, since: Option<Moment>) -> bool
+    ensures { result ≡ is_unconfirmed_late_at now since }
+{
+    match since {
+        Some(since) => now.secs().saturating_sub(since.secs()) >= CONFIRMATION_SECONDS,
+        None => false,
     }
 }
 

@@ -1,7 +1,7 @@
 //! What an open desk counts: each HTTP exchange (request and answer), and each line at the control socket. Counts and sums stop at `u64::MAX`.
 
 ghost use Rattle.std.specs.Prelude.{◌≡◌, ◌<◌};
-ghost use Rattle.reg_desk_metrics.specs.Tallies.{IsNewTally, bumped, bucket_of as bucket_spec, route_number as number_of_route, code_number as number_of_code, with_time as timed, with_exchange, with_line, outcomes_counted, with_reply_to_line, with_counted, wants_requests as wants_counted, has_crl_key as has_key, read_of, with_read, with_amount, is_ocsp_route, has_response, with_route, with_failure, counted_crl_outcome};
+ghost use Rattle.reg_desk_metrics.specs.Tallies.{IsNewTally, bumped, bucket_of as bucket_spec, route_number as number_of_route, code_number as number_of_code, with_time as timed, with_exchange, with_line, outcomes_counted, with_reply_to_line, with_counted, with_unconfirmed, wants_requests as wants_counted, has_crl_key as has_key, read_of, with_read, with_amount, is_ocsp_route, has_response, with_route, with_failure, counted_crl_outcome};
 
 use crate::numbers::{CrlSigning, ReadCrl, Requests};
 use crate::signature_outcomes::{SignatureCounts, store_after};
@@ -47,6 +47,9 @@ pub struct Tally {
     pub(crate) responder_ends: Option<Moment>,
     /// The number of the CRL that was read last, and whether it is signed, so that the same CRL is not read again.
     pub(crate) read: Option<ReadCrl>,
+    /// Whether replies to commands wait for followers, and the moment of the first command for which one waits.
+    pub(crate) waits_for_followers: bool,
+    pub(crate) unconfirmed_since: Option<Moment>,
 }
 
 fn bump<const N: usize>(counts: &mut [u64; N], index: usize)
@@ -181,7 +184,17 @@ impl Tally {
             crl_signing,
             responder_ends,
             read: None,
+            waits_for_followers: false,
+            unconfirmed_since: None,
         }
+    }
+
+    /// Replies to commands wait for followers. Keeps the moment of the first command for which one waits.
+    pub fn set_unconfirmed(&mut self, since: Option<Moment>)
+        ensures { self.new ≡ with_unconfirmed since self.old }
+    {
+        self.waits_for_followers = true;
+        self.unconfirmed_since = since;
     }
 
     /// Counts an HTTP exchange that was answered at the moment `now`, and took `micros` microseconds.

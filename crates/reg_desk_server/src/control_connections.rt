@@ -21,12 +21,21 @@ use std::time::Duration;
 
 const MOST_CONTROL_CONNECTIONS: usize = 8;
 
+/// A connection whose replies wait, taken out of its slot.
+#[derive(Drop)]
+struct HeldConnection {
+    slot: usize,
+    connection: ControlConnection<UnixStream>,
+}
+
 #[derive(Drop)]
 pub(crate) struct ControlConnections<H: Handler> {
     listener: Option<UnixListener>,
     pub(crate) slots: Slots<ControlConnection<UnixStream>>,
     /// The line that waits for a signature, if there is one. No other line is answered before it.
     pub(crate) waiting: Option<WaitingLine<H>>,
+    /// The connections whose replies wait, at most one for each slot.
+    held: Vec<HeldConnection>,
     /// Whether a client's connection may be waiting at the listener. `lacks_descriptors`: whether no file descriptor was free to accept it.
     pub(crate) may_accept: bool,
     pub(crate) lacks_descriptors: bool,
@@ -47,10 +56,12 @@ impl<H: Handler> ControlConnections<H> {
             poller.register(listener, CONTROL_LISTENER, Interest::READABLE, false)?;
         }
         let slots = Slots::new(alloc, MOST_CONTROL_CONNECTIONS)?;
+        let held = Vec::with_capacity(alloc, MOST_CONTROL_CONNECTIONS)?;
         Ok(ControlConnections {
             listener,
             slots,
             waiting: None,
+            held,
             may_accept: true,
             lacks_descriptors: false,
             has_lines: false,
@@ -80,6 +91,37 @@ impl<H: Handler> ControlConnections<H> {
     pub(crate) fn stop(&mut self) {
         self.has_lines = false;
         self.waiting = None;
+        self.held.clear();
+    }
+
+    /// Sends the replies that waited, once the handler says so.
+    pub(crate) fn release(&mut self, shared: &mut Shared, handler: &H) {
+        if self.held.is_empty() || !handler.is_confirmed() {
+            return;
+        }
+        for _ in 0..MOST_CONTROL_CONNECTIONS {
+            let Some(HeldConnection { slot, connection }) = self.held.pop() else {
+                return;
+            };
+            self.drive(slot, connection, shared);
+        }
+    }
+
+    /// After lines of a connection were passed to the handler (`was_answered`: it has answered some): sends the replies, unless they wait.
+    fn reply_on(
+        &mut self,
+        slot: usize,
+        connection: ControlConnection<UnixStream>,
+        was_answered: bool,
+        shared: &mut Shared,
+        handler: &H,
+    ) {
+        if was_answered && handler.holds_replies() {
+            // The vector has capacity for each slot.
+            let _ = self.held.push(HeldConnection { slot, connection });
+        } else {
+            self.drive(slot, connection, shared);
+        }
     }
 
     /// Fills free slots. After a signal or a lack of descriptors, the next call tries again; after another error, only once the listener is ready.
@@ -228,8 +270,10 @@ impl<H: Handler> ControlConnections<H> {
                 self.close(slot, connection);
                 return Ok(());
             }
+            let before = connection.arrived.len();
             let line_answered = connection.answer_deferred(handler, deferred, request);
-            self.drive(slot, connection, shared);
+            let was_answered = connection.arrived.len() < before;
+            self.reply_on(slot, connection, was_answered, shared, handler);
             return line_answered;
         }
         waiting.connect_and_send(handler, &shared.poller);
@@ -269,8 +313,10 @@ impl<H: Handler> ControlConnections<H> {
                     self.close(slot, connection);
                     return Ok(());
                 }
+                let before = connection.arrived.len();
                 let line_answered = connection.answer_lines(handler);
-                self.drive(slot, connection, shared);
+                let was_answered = connection.arrived.len() < before;
+                self.reply_on(slot, connection, was_answered, shared, handler);
                 line_answered
             }
         }

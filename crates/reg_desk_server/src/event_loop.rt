@@ -89,6 +89,7 @@ impl<H: Handler> EventLoop<H> {
                 .answer_all_lines(&mut self.shared, handler, now)?;
             let outcome = self.answer_all(handler, answered, limit, now);
             self.request_all(handler, now);
+            self.control.release(&mut self.shared, handler);
             outcome?;
         }
         Err(EventLoopFault)

@@ -174,6 +174,12 @@ pub trait Handler {
         ensures err { OnErr result ((self.new ≡ self.old) × (last_reason.new ≡ last_reason.old)) }
         ensures fails { OnErr result failed };
 
+    /// Whether the replies to the lines that were answered last wait until `is_confirmed`. Meanwhile, no other line of their connection is answered.
+    fn holds_replies(&self) -> bool;
+
+    /// Whether replies that wait are sent.
+    fn is_confirmed(&self) -> bool;
+
     /// Does work of its own, without blocking, once in each iteration of `serve_all` before anything is answered. `now` is in milliseconds of the
     /// handler's clock. Returns the most milliseconds until it is called again. [`EventLoopFault`] if the loop is to end.
     fn work(&mut self, registry: &Registry, now: u64) -> Result<u64, EventLoopFault>

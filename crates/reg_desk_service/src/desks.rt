@@ -3,14 +3,17 @@
 ghost use Rattle.std.specs.Prelude.{◌≡◌, IfOk, MatchOption, OnErr};
 
 use crate::admission::Admission;
+use crate::confirmation::Confirmation;
 use crate::control_lines::answer_first_lines;
 use crate::deferred_commands::{LineTicket, SignatureKind, line_signature_of, socket_of};
 use crate::exchange_log::log_lost;
 use crate::http_exchanges::answer_http;
+use crate::line_kinds::{LineKind, first_line, kind_of};
 use crate::machine::Machine;
 use crate::unsigned_responses::{Unsigned, finish_http};
 use mio::net::{TcpListener, TcpStream};
 use mio::{Events, Poll, Registry};
+use reg_core::Moment;
 use reg_crl_signer::{Backoff, SignatureRequest};
 use reg_desk_cli::{ResponderChoice, SignerAddress};
 use reg_desk_metrics::{ConnectionTotals, Tally};
@@ -47,6 +50,22 @@ pub struct Desk<'a, 'w, M: Machine> {
     pub connection_totals: &'a Cell<ConnectionTotals>,
     /// The state by which the desk refuses requests for revocation over HTTP beyond the limits, with the moment in the last line `accept-clock`.
     pub admission: Admission,
+    /// Whether followers have the commands of the control socket (`--confirm-by`).
+    pub confirmation: Confirmation,
+}
+
+impl<'a, 'w, M: Machine> Desk<'a, 'w, M> {
+    /// The first of these lines was answered, or the first several, which are then commands.
+    fn confirm_lines(&mut self, lines: &[u8], now: Moment) {
+        if !self.confirmation.is_wanted() {
+            return;
+        }
+        let had_command = kind_of(self.alloc, first_line(lines)) == LineKind::Command;
+        self.confirmation.lines_answered(had_command, now);
+        let mut tally = self.tally.get();
+        tally.set_unconfirmed(self.confirmation.since());
+        self.tally.set(tally);
+    }
 }
 
 // The trait `Handler` describes each function and relation. `kept`: an earlier signature request, whose connection to the signer may be used again.
@@ -133,6 +152,9 @@ impl<'a, 'w, M: Machine> Handler for Desk<'a, 'w, M> {
             return Err(EventLoopFault);
         };
         let mut tally = self.tally.get();
+        if self.confirmation.is_wanted() {
+            tally.set_unconfirmed(self.confirmation.since());
+        }
         let begun = answer_http::<M>(
             self.alloc,
             &mut self.office,
@@ -146,6 +168,9 @@ impl<'a, 'w, M: Machine> Handler for Desk<'a, 'w, M> {
             client,
             request,
         );
+        if let ReadyOrUnsigned::Ready(text) = &begun {
+            self.confirmation.request_answered(request.as_slice(), text);
+        }
         self.tally.set(tally);
         Ok(begun)
     }
@@ -206,6 +231,7 @@ impl<'a, 'w, M: Machine> Handler for Desk<'a, 'w, M> {
             last_reason,
         );
         self.tally.set(tally);
+        self.confirm_lines(lines, now);
         Ok(replies)
     }
 
@@ -266,14 +292,25 @@ impl<'a, 'w, M: Machine> Handler for Desk<'a, 'w, M> {
         )?;
         self.backoff = self.backoff_after(ticket_for_backoff, has_arrived);
         match signature {
-            Some(signature) => Ok(Some(self.answer_with_signature(
-                line,
-                last_reason,
-                ticket,
-                signature,
-            ))),
+            Some(signature) => {
+                let text = self.answer_with_signature(line, last_reason, ticket, signature);
+                let now = match self.machine.moment() {
+                    Ok(now) => now,
+                    Err(_) => Moment::EPOCH,
+                };
+                self.confirm_lines(line, now);
+                Ok(Some(text))
+            }
             None => Ok(None),
         }
+    }
+
+    fn holds_replies(&self) -> bool {
+        self.confirmation.holds_reply()
+    }
+
+    fn is_confirmed(&self) -> bool {
+        self.confirmation.is_confirmed()
     }
 
     fn work(&mut self, registry: &Registry, now: u64) -> Result<u64, EventLoopFault> {

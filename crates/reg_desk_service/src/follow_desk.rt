@@ -6,21 +6,19 @@ use crate::desks::Desk;
 use crate::exchange_log::log_line;
 use crate::follower::Follower;
 use crate::http_exchanges::answer_http;
+use crate::line_kinds::{LineKind, first_line, kind_of};
 use crate::machine::Machine;
 use crate::reasons::keep_reply_reason;
 use crate::unsigned_responses::Unsigned;
-use crate::words::{ControlWord, read_control_line};
 use mio::net::{TcpListener, TcpStream};
 use mio::{Events, Poll, Registry};
 use reg_crl_signer::SignatureRequest;
 use reg_desk_cli::Failure;
 use reg_desk_server::{
-    ConnectionCounts, ConnectionFault, Deferred, EventLoopFault, Handler, LineReplies, line_end,
+    ConnectionCounts, ConnectionFault, Deferred, EventLoopFault, Handler, LineReplies,
 };
 use reg_http_head::Collected;
 use reg_io::ReadyOrUnsigned;
-use reg_lines::{ParsedLine, read_line, untimed_line};
-use std::alloc::Global;
 use std::io;
 use std::net::SocketAddr;
 use std::time::Duration;
@@ -79,46 +77,6 @@ impl<'a, 'w, M: Machine> FollowDesk<'a, 'w, M> {
             length: line.len(),
             text: reply.text,
         })
-    }
-}
-
-/// The kind of a line at the control socket of a follower.
-#[derive(Clone, Copy, PartialEq, Eq)]
-enum LineKind {
-    /// It would change the register or the desk.
-    Command,
-    /// It reads the register.
-    Query,
-    /// `help`, `why`, `copy`, or a line that can't be read.
-    Other,
-}
-
-fn kind_of(alloc: Global, line: &[u8]) -> LineKind {
-    match read_control_line(alloc, line) {
-        Ok(ControlWord::Help) | Ok(ControlWord::Why) | Ok(ControlWord::Copy(_)) => LineKind::Other,
-        Ok(ControlWord::Show(_)) => LineKind::Query,
-        Ok(ControlWord::Decide(_)) => LineKind::Command,
-        Ok(ControlWord::AcceptClock(_)) => LineKind::Command,
-        Ok(ControlWord::Schedule(_)) => LineKind::Command,
-        Ok(ControlWord::Line(Some(text))) => kind_of_text(text),
-        Ok(ControlWord::Line(None)) => LineKind::Other,
-        Err(_) => LineKind::Query,
-    }
-}
-
-fn kind_of_text(text: &[u8]) -> LineKind {
-    match read_line(text) {
-        Some(ParsedLine::Command(_)) => LineKind::Command,
-        Some(ParsedLine::Query(_)) => LineKind::Query,
-        Some(ParsedLine::Ocsp(_)) => LineKind::Query,
-        None => LineKind::Other,
-    }
-}
-
-fn first_line(lines: &[u8]) -> &[u8] {
-    match line_end(lines) {
-        Some(end) => &lines[..end],
-        None => lines,
     }
 }
 
@@ -251,6 +209,14 @@ impl<'a, 'w, M: Machine> Handler for FollowDesk<'a, 'w, M> {
     ) -> Result<Option<Vec<u8>>, EventLoopFault> {
         self.desk
             .answer_deferred(line, last_reason, deferred, request)
+    }
+
+    fn holds_replies(&self) -> bool {
+        false
+    }
+
+    fn is_confirmed(&self) -> bool {
+        true
     }
 
     fn report_lost(&self, client: Option<SocketAddr>, why: ConnectionFault) {

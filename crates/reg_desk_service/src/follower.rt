@@ -2,6 +2,7 @@
 
 use crate::machine::Machine;
 use mio::Registry;
+use reg_core::Decimal;
 use reg_core_lists::{Positions, ReceivedPage, put_positions, read_feed_page};
 use reg_crl_signer::{Algorithm, crl_algorithm};
 use reg_desk_cli::{Failure, LeaderAddress};
@@ -27,6 +28,8 @@ const MOST_BYTES: u64 = 160_000_000;
 pub struct Follower<'a, 'w> {
     alloc: Global,
     leader: &'a LeaderAddress<'w>,
+    /// A number by which the leader tells followers apart: the microseconds of the monotonic clock at the start.
+    number: u64,
     /// For how many milliseconds answers are given after the leader was last reached.
     lag: u64,
     /// The positions of the records.
@@ -57,11 +60,13 @@ impl<'a, 'w> Follower<'a, 'w> {
         leader: &'a LeaderAddress<'w>,
         lag: u64,
         own: Positions,
+        number: u64,
         now: u64,
     ) -> Follower<'a, 'w> {
         Follower {
             alloc,
             leader,
+            number,
             lag: lag.saturating_mul(1_000),
             own,
             after: own,
@@ -150,7 +155,7 @@ impl<'a, 'w> Follower<'a, 'w> {
     ) -> Option<FeedExchange<LeaderStream>> {
         let mut stream = machine.connect_to_leader(self.leader).ok()?;
         stream.register(registry).ok()?;
-        let request = changes_request(self.alloc, &Some(self.after)).ok()?;
+        let request = changes_request(self.alloc, &Some(self.after), self.number).ok()?;
         Some(FeedExchange::new(self.alloc, stream, request, now))
     }
 
@@ -290,12 +295,18 @@ pub fn algorithm_in(pages: &[ReceivedPage]) -> Option<Algorithm> {
     None
 }
 
-/// The request for the changes after some positions; for `None`, from the first row on.
-pub fn changes_request(alloc: Global, after: &Option<Positions>) -> Result<Vec<u8>, AllocError> {
+/// The request of the follower with this number for the changes after some positions; for `None`, from the first row on.
+pub fn changes_request(
+    alloc: Global,
+    after: &Option<Positions>,
+    follower: u64,
+) -> Result<Vec<u8>, AllocError> {
     let mut request = Vec::from_slice(alloc, b"GET /changes")?;
     if let Some(positions) = after {
         request.extend_from_slice(b"?after=")?;
         put_positions(alloc, &mut request, positions)?;
+        request.extend_from_slice(b"&follower=")?;
+        request.extend_from_slice(Decimal::of(follower).as_bytes())?;
     }
     request.extend_from_slice(b" HTTP/1.1\r\nHost: 127.0.0.1\r\nConnection: close\r\n\r\n")?;
     Ok(request)

@@ -4,6 +4,7 @@
 mod admission;
 mod clock;
 mod command_batches;
+mod confirmation;
 mod control_lines;
 mod control_reply;
 mod copies;
@@ -19,6 +20,7 @@ mod follower_routes;
 mod health_routes;
 mod http_exchanges;
 pub mod laws;
+mod line_kinds;
 mod log_lines;
 mod machine;
 mod reasons;
@@ -30,6 +32,7 @@ mod validity;
 mod words;
 
 pub use admission::Admission;
+pub use confirmation::{Confirmation, MOST_FOLLOWERS};
 pub use copies::{CopyFault, copied_line, millis_since};
 pub use crl_signer::CrlSignerChoice;
 pub use deferred_commands::{LineTicket, SignatureKind};

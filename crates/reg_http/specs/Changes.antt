@@ -1,6 +1,7 @@
 -- Requests for the changes of the register and their answers: this route exists only at an open desk.
-use Rattle.std.specs.Prelude.{◌≡◌, ℕ, ◌==◌, List, drop, length, codes, bytes_eq, if◌then◌else◌, Option, Some, None, Result, Ok, Err}
-use Rattle.std.specs.List.{after_first, starts_with}
+use Rattle.std.specs.Prelude.{◌≡◌, ℕ, ◌==◌, ◌&&◌, Bool, List, drop, take, length, is_some, codes, bytes_eq, if◌then◌else◌, Option, Some, None, Result, Ok, Err}
+use Rattle.std.specs.List.{after_first, position, starts_with}
+use Rattle.reg_core.specs.Number.{number_of}
 use Rattle.reg_core.specs.Records.{Records}
 use Rattle.reg_core.specs.declared.refusal.Fault.{Fault}
 use Rattle.reg_core.specs.declared.refusal.Fault.TheVariants as fault
@@ -15,10 +16,22 @@ use Rattle.reg_http.specs.AnswerEffects.{AnswerEffects, plain, fault_effects}
 use Rattle.reg_http.specs.declared.changes.ChangesRequest.{ChangesRequest}
 use Rattle.reg_http.specs.declared.changes.ChangesRequest.TheVariants.{OnlyGet, Unreadable, FromFirst, After}
 
--- the positions in a query `after=POSITIONS`
+-- the parameter `&follower=NUMBER`
+abbrev pub is_follower_parameter : List ℕ → Bool
+is_follower_parameter text =
+    starts_with (λ a b. a == b) text (codes "&follower=") && is_some (number_of (drop 10 text))
+
+-- the positions in a text `POSITIONS` or `POSITIONS&follower=NUMBER`, by the index of its first `&` (38)
+abbrev pub positions_before : List ℕ → Option ℕ → Option Positions
+positions_before text None = positions_of_text text
+positions_before text (Some at) =
+    if is_follower_parameter (drop at text) then positions_of_text (take at text) else None
+
+-- the positions in a query `after=POSITIONS` or `after=POSITIONS&follower=NUMBER`
 abbrev pub positions_after : List ℕ → Option Positions
 positions_after query =
-    if starts_with (λ a b. a == b) query (codes "after=") then positions_of_text (drop 6 query) else None
+    if starts_with (λ a b. a == b) query (codes "after=")
+    then positions_before (drop 6 query) (position (λ b. b == 38) (drop 6 query)) else None
 
 -- the changes after these positions; `Unreadable` if they can't be read
 abbrev pub after_or_unreadable : Option Positions → ChangesRequest

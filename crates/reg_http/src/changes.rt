@@ -3,13 +3,13 @@
 ghost use Rattle.std.specs.Prelude.{◌≡◌, IfOk};
 ghost use Rattle.reg_office_api.specs.Calls.{LooksIn};
 ghost use Rattle.reg_http.specs.AnswerEffects.{answer_effects};
-ghost use Rattle.reg_http.specs.Changes.{RespondsChanges, changes_in, changes_request, changes_wanted, given_changes, positions_after};
+ghost use Rattle.reg_http.specs.Changes.{RespondsChanges, changes_in, changes_request, changes_wanted, given_changes, is_follower_parameter, positions_after};
 
 use crate::answered::HttpAnswer;
 use crate::bodies::{der, diverged_answer, json_buffer};
 use crate::routes::{only_get, report_fault};
 use http::Method;
-use reg_core::{Fault, Memory, Refusal};
+use reg_core::{Fault, Memory, Refusal, read_number};
 use reg_core_lists::Positions;
 use reg_office_api::{Changes, Office};
 use std::alloc::Global;
@@ -21,7 +21,7 @@ const PAGE: &str = "application/octet-stream";
 pub(crate) enum ChangesRequest {
     /// The method is not GET, the only one of the route.
     OnlyGet,
-    /// The query is not `after=POSITIONS`.
+    /// The query is not `after=POSITIONS` or `after=POSITIONS&follower=NUMBER`.
     Unreadable,
     /// From the first row on; or (`After`) after these positions, by which a client says how far its copy has got.
     FromFirst,
@@ -93,7 +93,24 @@ fn positions_after(query: &[u8]) -> Option<Positions>
     if !query.starts_with(b"after=") {
         return None;
     }
-    Positions::read(&query[b"after=".len()..])
+    let rest = &query[b"after=".len()..];
+    match rest.iter().position(|byte| *byte == b'&') {
+        Some(at) => {
+            if is_follower(&rest[at..]) {
+                Positions::read(&rest[..at])
+            } else {
+                None
+            }
+        }
+        None => Positions::read(rest),
+    }
+}
+
+/// Whether a parameter is `&follower=NUMBER`, by which the desk tells followers apart.
+fn is_follower(parameter: &[u8]) -> bool
+    ensures { result ≡ is_follower_parameter parameter.now }
+{
+    parameter.starts_with(b"&follower=") && read_number(&parameter[b"&follower=".len()..]).is_some()
 }
 
 /// The answer with a page, with the office's fault, or with `diverged`: the positions are not in the history of this register.
