@@ -57,7 +57,8 @@ class Copy:
         return Tables(taken(self.t, self.lines, "copied.db"))
 
     def is_like(self, leader_control):
-        """Waits until it has what the leader has now, and compares all rows, CRLs, the head and the positions."""
+        """Waits until it has reached the leader and has what the leader has now, and compares all rows, CRLs, the head and the positions."""
+        until(lambda: self.leader["current"], "the leader")
         wanted = Tables(taken(self.t, leader_control))
         self.until_at(wanted.positions())
         got = self.copied()
@@ -84,7 +85,9 @@ def led(t, *words):
     return leader, t.control(), Copy(t, address(leader.port), *words)
 
 
-ASKED = ("/status/05", "/status/06", "/status/08", "/status/09", "/counts", "/crl", "/crl/1", "/crl/2", "/crl/4", "/list/revoked", "/list/subscribers")
+ASKED = (
+    "/status/05", "/status/06", "/status/08", "/status/09", "/counts", "/crl", "/crl/1", "/crl/2", "/crl/4", "/list/revoked", "/list/subscribers",
+)  # fmt: skip
 
 
 def same_answers(t, leader, copy, targets=ASKED):
@@ -338,9 +341,12 @@ def a_returning_leader_is_diverged(t):
     taken(t, own, "next.db")
     ran = t.desk("follow", "ca.db", "--from", address(taken_over.port), "--port", str(program.free_port()), "--unsigned")
     t.same((ran.status, ran.err_lines[-1]), (1, "diverged"), "the old leader")
-    told = t.tried("python3", EXAMPLES / "lost-rows.py", "ca.db", "--from", address(taken_over.port), "--desk", program.program(), env=program.environment())
+    lost_rows = lambda file: t.tried(
+        "python3", EXAMPLES / "lost-rows.py", file, "--from", address(taken_over.port), "--desk", program.program(), env=program.environment()
+    )  # fmt: skip
+    told = lost_rows("ca.db")
     t.same((told.returncode, told.stdout), (3, b"subscriber 3 lost\n"), "the rows that the new leader lacks")
-    told = t.tried("python3", EXAMPLES / "lost-rows.py", "next.db", "--from", address(taken_over.port), "--desk", program.program(), env=program.environment())
+    told = lost_rows("next.db")
     t.same((told.returncode, told.stdout), (0, b""), "the rows of a copy that the new leader lacks")
 
 
@@ -587,7 +593,8 @@ def signatures_of_another_form(t):
     # The signature is a SEQUENCE (30h) of two INTEGERs at the end.
     at = next(len(der) - it - 2 for it in range(60, 80) if der[-it - 2 : -it] == bytes([0x30, it]))
     wrong = der[:at] + b"\x31" + der[at + 1 :]
-    refuses(t, copy, fake, paged(tables, [f"crl 3 {later} {len(wrong)}"], last=later, octets=wrong + b"\n"), "broken page: crl 3 no-signature", "another form")
+    page = paged(tables, [f"crl 3 {later} {len(wrong)}"], last=later, octets=wrong + b"\n")
+    refuses(t, copy, fake, page, "broken page: crl 3 no-signature", "another form")
     right = paged(tables, [f"crl 3 {later} {len(der)}"], last=later, octets=der + b"\n")
     refuses(t, copy, fake, right, "broken page: positions other-positions", "the CRL itself")
 
@@ -635,7 +642,8 @@ def clients_take_its_answers(t):
         told = t.tool("openssl", "ocsp", "-issuer", ca.pem, "-CAfile", "root.pem", "-cert", f"{name}.pem", "-url", f"{url}/ocsp").decode()
         t.has(told, "Response verify OK", f"openssl: {name}")
         t.has(told, f"{name}.pem: {name}\n", f"openssl: {name}")
-        told = t.tool("ocsptool", f"--ask={url}/ocsp", "--load-issuer", ca.pem, "--load-cert", f"{name}.pem", "--load-trust", ca.pem, "--verify-allow-broken").decode()
+        told = t.tool("ocsptool", f"--ask={url}/ocsp", "--load-issuer", ca.pem, "--load-cert", f"{name}.pem", "--load-trust", ca.pem,
+                      "--verify-allow-broken").decode()  # fmt: skip
         t.has(told, "Verifying OCSP Response: Success", f"GnuTLS: {name}")
         t.has(told, f"Certificate Status: {name}", f"GnuTLS: {name}")
     (t.room / "Checked.java").write_text(JAVA)
@@ -650,7 +658,7 @@ def clients_take_its_answers(t):
 
 @test(seconds=60)
 def a_copy_is_stopped_at_any_write(t):
-    """It is killed in place of a write or a sync, while it fills its file or follows; what was not synced is lost. Its file stays sound, and it goes on."""
+    """It is killed in place of a write or a sync, while it fills its file or follows, and what was not synced is lost. Its file stays sound."""
     t.register(lines=LINES)
     t.clock(CLOCK)
     leader, control = t.open(), t.control()
@@ -662,7 +670,8 @@ def a_copy_is_stopped_at_any_write(t):
         most = 60 if (t.room / "copy.db").exists() else 400
         env = faults.environment(stop=random.randrange(1, most), lose=turn + 1, torn=turn % 2)
         words = ["follow", "copy.db", "--from", address(leader.port), "--port", str(program.free_port()), "--unsigned"]
-        process = subprocess.Popen([program.program(), *words], cwd=t.room, env=program.environment(t._clock, env), stdout=subprocess.DEVNULL, stderr=subprocess.DEVNULL)
+        nowhere = subprocess.DEVNULL
+        process = subprocess.Popen([program.program(), *words], cwd=t.room, env=program.environment(t._clock, env), stdout=nowhere, stderr=nowhere)
         for _ in range(8):
             number += 1
             t.same(control.ask(f"subscriber s{number}"), f"subscriber {number}")
@@ -791,8 +800,8 @@ def through_ssh(t):
         "-o", f"AuthorizedKeysFile={t.room}/authorized", "-o", "StrictModes=no", "-o", f"PidFile={t.room}/sshd.pid",
     ], stderr=subprocess.DEVNULL)  # fmt: skip
     t.callback(end, server)
-    words = ["ssh", "-N", "-F", "/dev/null", "-p", str(port), "-i", t.room / "user", "-o", "StrictHostKeyChecking=no", "-o", f"UserKnownHostsFile={t.room}/known",
-             "-o", "ExitOnForwardFailure=yes", "-L", f"{t.room}/lead:127.0.0.1:{leader.port}", "127.0.0.1"]  # fmt: skip
+    words = ["ssh", "-N", "-F", "/dev/null", "-p", str(port), "-i", t.room / "user", "-o", "StrictHostKeyChecking=no",
+             "-o", f"UserKnownHostsFile={t.room}/known", "-o", "ExitOnForwardFailure=yes", "-L", f"{t.room}/lead:127.0.0.1:{leader.port}", "127.0.0.1"]  # fmt: skip
     client = subprocess.Popen(list(map(str, words)), stderr=subprocess.DEVNULL)
     t.callback(end, client)
     until((t.room / "lead").exists, "the socket of ssh")
@@ -911,7 +920,7 @@ class Sender(threading.Thread):
 
 @test(seconds=8)
 def a_reply_waits_for_a_follower(t):
-    """With --confirm-by 1: without a follower a command runs, and gets no reply. Queries, HTTP and other connections go on, and /health says since when."""
+    """With --confirm-by 1 and no follower, a command runs, and gets no reply. Queries, HTTP and other connections go on. /health says since when."""
     t.register(lines=LINES)
     t.clock(CLOCK)
     leader = t.open("ca.db", "--confirm-by", "1")
@@ -958,7 +967,7 @@ def a_reply_waits_for_two_followers(t):
 
 @test(seconds=40)
 def no_acknowledged_command_is_lost(t):
-    """The leader is killed at random moments, and its file destroyed: each command that was acknowledged is in the follower's file, which takes over."""
+    """The leader is killed at random moments, and its file destroyed: each acknowledged command is in the follower's file, which takes over."""
     random = Random(58)
     t.register(lines=LINES)
     t.clock(CLOCK)
@@ -994,5 +1003,6 @@ def a_client_that_asks_for_changes_by_hand(t):
     copy.follows(leader)
     positions = copy.leader["positions"]
     copy.desk.end()
-    for more, status in (("", 200), ("&follower=7", 200), ("&follower=", 400), ("&follower=x", 400), ("&wait=1", 400), ("&follower=7&follower=8", 400)):
+    wrong = ("&follower=", "&follower=x", "&wait=1", "&follower=7&follower=8")
+    for more, status in (("", 200), ("&follower=7", 200), *[(it, 400) for it in wrong]):
         t.same(parted(leader.ask("GET", f"/changes?after={positions}{more}"))[0], status, f"status with {more!r}")
