@@ -13,7 +13,7 @@ use Rattle.reg_desk_service.specs.Exchanges.{AnswersBy}
 use Rattle.reg_desk_service.specs.SignerAnswers.{AnsweredAtPath, AnsweredAtSomePath}
 use Rattle.reg_desk_service.specs.FinishedResponses.{FinishesUnsigned, Meets}
 use Rattle.reg_desk_jobs.specs.Serving.{DeskState, Exchanging, Served, Serves, AnswersControlLines, StateStays}
-use Rattle.reg_desk_jobs.proofs.Fates.{served_by}
+use Rattle.reg_desk_jobs.proofs.PrintedTexts.{served_by}
 use Rattle.reg_desk_cli.specs.declared.failure.Failure.{Failure}
 use Rattle.reg_desk_service.specs.declared.admission.Admission.{Admission}
 use Rattle.reg_desk_service.specs.declared.unsigned_responses.Unsigned.{Unsigned}

@@ -1,5 +1,5 @@
 use Rattle.reg_desk_metrics.specs.Followers.{state_text}
-use Rattle.reg_desk_metrics.proofs.Fronts.{parts_4}
+use Rattle.reg_desk_metrics.proofs.MetricsTexts.{parts_4}
 use Rattle.reg_desk_metrics.proofs.follower_status.FollowerStatus.put_state.Goals as goal
 
 pub returns : goal.returns
