@@ -2,8 +2,7 @@
 use Rattle.std.proofs.Common.{◌≡◌, ◌⊎◌, ℕ, ◌+◌, ◌<◌, ◌≤◌, Bool, List, [], ◌++◌, Option, true, length, length-drop, drop, refl, sym, subst, ap, ◌∙◌, arith, inl, inr}
 use Rattle.std.proofs.KnownBytes.{Consumes-nil}
 use Rattle.std.proofs.lemmas.List.{append-nil, nil_from_length}
-use Rattle.httparse.specs.Grammar.{ResponseHead as HttpHead}
-use Rattle.reg_http_head.specs.ResponseStart.{BeginsWith}
+use Rattle.reg_http_head.specs.ResponseStart.{HasHead}
 use Rattle.reg_http_head.specs.declared.response_head.ResponseHead.{ResponseHead}
 use Rattle.reg_http_head.proofs.PublicLaws.{one_response_head}
 use Rattle.reg_desk_server.specs.Buffers.{Receives, SendsUnsent, unsent_of}
@@ -30,10 +29,10 @@ takes_none a x other not = record { arrived = []; consumed = Consumes-nil a; hel
 
 module _ {S : Type 0} where
   -- a response that needs more bytes than came is not whole
-  pub waits_for_more : (exchange : FeedExchange S) (head : ResponseHead) (h : HttpHead) → BeginsWith exchange.received.items head h
+  pub waits_for_more : (exchange : FeedExchange S) (head : ResponseHead) → HasHead exchange.received.items head
       → length exchange.received.items < head.end + head.length → (other : ResponseHead) → ¬ HasResponse exchange other
-  waits_for_more exchange head h begins short other has =
-      let same : other ≡ head = one_response_head exchange.received.items other head has.1.0 h has.1.1 begins in
+  waits_for_more exchange head begins short other has =
+      let same : other ≡ head = one_response_head exchange.received.items other head has.1.0 begins.0 has.1.1 begins.1 in
       let all : length exchange.received.items ≡ head.end + head.length =
       subst (λ (it : ResponseHead). length exchange.received.items ≡ it.end + it.length) same has.2 in
       absurd (omega (arith, all, short))

@@ -1,8 +1,7 @@
 -- One request to another desk, and its response: the bytes that were sent and that came, and what the progress states.
 use Rattle.std.specs.Prelude.{◌≡◌, ◌⊎◌, ℕ, ◌+◌, ◌<◌, ◌≤◌, Bool, true, false, List, [], ◌++◌, Option, length, ⊤}
 use Rattle.std.specs.Io.KnownBytes.{Appends}
-use Rattle.httparse.specs.Grammar.{ResponseHead as HttpHead}
-use Rattle.reg_http_head.specs.ResponseStart.{BeginsWith}
+use Rattle.reg_http_head.specs.ResponseStart.{HasHead}
 use Rattle.reg_http_head.specs.declared.response_head.ResponseHead.{ResponseHead}
 use Rattle.reg_desk_server.specs.Buffers.{Receives, SendsUnsent, unsent_of}
 use Rattle.reg_desk_server.specs.ControlLines.{Gathers}
@@ -29,7 +28,7 @@ module _ {S : Type 0} where
   -- the whole request was sent, and exactly a response came, which begins with this head
   abbrev pub HasResponse : FeedExchange S → ResponseHead → Type 0
   HasResponse exchange head =
-      (unsent_of exchange.request ≡ []) × ((h : HttpHead) × BeginsWith exchange.received.items head h)
+      (unsent_of exchange.request ≡ []) × HasHead exchange.received.items head
       × (length exchange.received.items ≡ head.end + head.length)
 
   -- The facts that the progress at a moment states. An exchange waits until its response has come, for at most five seconds after the last byte.

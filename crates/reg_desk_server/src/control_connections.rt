@@ -1,6 +1,6 @@
 //! The connections of clients at the control socket: their listener, and each connection in its slot.
 
-ghost use Rattle.std.specs.Prelude.{◌≡◌, OnErr};
+ghost use Rattle.std.specs.Prelude.{◌≡◌, IsFalse, IsTrue, OnErr};
 ghost use Rattle.reg_desk_server.specs.Handling.{AnsweredLines};
 
 use crate::control_connection::ControlConnection;
@@ -95,7 +95,9 @@ impl<H: Handler> ControlConnections<H> {
     }
 
     /// Sends the replies that waited, once the handler says so.
-    pub(crate) fn release(&mut self, shared: &mut Shared, handler: &H) {
+    pub(crate) fn release(&mut self, shared: &mut Shared, handler: &H)
+        ensures { IsFalse (H.confirmed handler.now) → self.new ≡ self.old }
+    {
         if self.held.is_empty() || !handler.is_confirmed() {
             return;
         }
@@ -115,7 +117,10 @@ impl<H: Handler> ControlConnections<H> {
         was_answered: bool,
         shared: &mut Shared,
         handler: &H,
-    ) {
+    )
+        ensures { IsTrue was_answered → IsTrue (H.holds handler.now)
+            → (self.new ≡ record self.old { held = self.new.held }) × (shared.new ≡ shared.old) }
+    {
         if was_answered && handler.holds_replies() {
             // The vector has capacity for each slot.
             let _ = self.held.push(HeldConnection { slot, connection });

@@ -49,9 +49,10 @@ pub struct LineReplies {
 }
 
 /// Answers requests and lines in turn. While a request awaits a signature, others are answered. While a line awaits one, no other line is answered.
-/// Only `Desk` (reg_desk_service) implements it. The loop's contracts hold whatever the relations below (`ghost`) mean in an implementation.
+/// `Desk` and `FollowDesk` (reg_desk_service) implement it. The loop's contracts hold whatever the relations below (`ghost`) mean in an
+/// implementation.
 pub trait Handler {
-    ghost use Rattle.std.specs.Prelude.{◌≡◌, ◌+◌, ◌⊎◌, ℕ, List, take, IsTrue, IfErr, IfOk, OnErr, OnOk, MatchOption};
+    ghost use Rattle.std.specs.Prelude.{◌≡◌, ◌+◌, ◌⊎◌, ℕ, Bool, List, take, IsTrue, IfErr, IfOk, OnErr, OnOk, MatchOption};
     ghost use Rattle.reg_http_head.specs.Bytes.{collected_bytes};
     ghost use Rattle.reg_desk_server.specs.LineEnds.{EndsLine, IsLine, IsWholeLines};
     ghost use Rattle.reg_desk_server.specs.Exchange.{Outcome};
@@ -80,6 +81,11 @@ pub trait Handler {
 
     // The handler, in this state, ended the loop.
     ghost ends_loop: { Self → Type 0 };
+
+    // Whether the replies to the lines that were answered last wait; and whether replies that wait are sent.
+    ghost holds: { Self → Bool };
+
+    ghost confirmed: { Self → Bool };
 
     ghost has_control: { Self → Type 0 };
 
@@ -175,10 +181,12 @@ pub trait Handler {
         ensures fails { OnErr result failed };
 
     /// Whether the replies to the lines that were answered last wait until `is_confirmed`. Meanwhile, no other line of their connection is answered.
-    fn holds_replies(&self) -> bool;
+    fn holds_replies(&self) -> bool
+        ensures { result ≡ holds self.now };
 
     /// Whether replies that wait are sent.
-    fn is_confirmed(&self) -> bool;
+    fn is_confirmed(&self) -> bool
+        ensures { result ≡ confirmed self.now };
 
     /// Does work of its own, without blocking, once in each iteration of `serve_all` before anything is answered. `now` is in milliseconds of the
     /// handler's clock. Returns the most milliseconds until it is called again. [`EventLoopFault`] if the loop is to end.

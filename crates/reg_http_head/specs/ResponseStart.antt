@@ -33,6 +33,10 @@ pub record BeginsWith (bytes : List ℕ) (it : HeadRead) (h : ResponseHead) : Ty
   pub status_is : it.status ≡ status_code h
   pub accepted : IsAcceptedHead h it.length
 
+-- the bytes begin with an accepted head, of which this was read
+abbrev pub HasHead : List ℕ → HeadRead → Type 0
+HasHead bytes it = (h : ResponseHead) × BeginsWith bytes it h
+
 -- whatever bytes follow, these bytes do not begin with an accepted head
 abbrev pub NeverAccepted : List ℕ → Type 0
 NeverAccepted bytes =
@@ -41,5 +45,5 @@ NeverAccepted bytes =
 -- the facts that a `ResponseStart` states about the bytes
 abbrev pub IsStartOf : List ℕ → ResponseStart → Type 0
 IsStartOf bytes Partial = (length bytes < longest_head) × HasNoResponse bytes × MayBecomeResponse bytes
-IsStartOf bytes (Head it) = (h : ResponseHead) × BeginsWith bytes it h
+IsStartOf bytes (Head it) = HasHead bytes it
 IsStartOf bytes Bad = NeverAccepted bytes
