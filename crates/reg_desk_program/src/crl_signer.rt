@@ -7,7 +7,7 @@ ghost use Rattle.reg_core.specs.Crls.{latest};
 ghost use Rattle.reg_core.specs.Records.{Records};
 ghost use Rattle.reg_core.specs.Sound.{SoundRows};
 ghost use Rattle.reg_desk_service.specs.RegisterFailures.{IsOpenFailure};
-ghost use Rattle.reg_desk_service.specs.Signers.{MayFollow, identity_of_signer};
+ghost use Rattle.reg_desk_service.specs.Signers.{MayFollow, identity_of_signer, unreachable_signer};
 ghost use Rattle.reg_office_reads.specs.Answering.{answers_by};
 ghost use Rattle.reg_crl_signer.specs.Forms.{identity_of};
 ghost use Rattle.reg_crl_signer.specs.RegisterSigners.{register_signer_path};
@@ -189,24 +189,33 @@ pub(crate) fn key_signer(
     }
 }
 
-/// Replaces a signer that signs nothing and has no key, of the register in these tables, by one that signs nothing and has the issuer's key with this
-/// algorithm. Nothing changes if the signer is another one, if the key doesn't fit the algorithm, or at a fault.
+/// Replaces a signer that signs nothing, of the register in these tables, by one that signs nothing and has the issuer's key with this algorithm.
+/// Nothing changes if the signer is another one, if the issuer is the responder, if the issuer's key doesn't fit the algorithm, if no CRL with that
+/// algorithm may follow the latest one, or at a fault.
 pub(crate) fn expect_algorithm<C: Alter>(
     host: &SystemHost<'_>,
     tables: &mut Tables<C>,
     signer: &mut FileSigner,
+    responder: &Responder<FileSigner>,
     algorithm: Algorithm,
-) {
+)
+    ensures signs { (signer.new ≡ signer.old) ⊎ FitsRegister C.Store tables.old tables.new
+        (λ signers. answers_by ⟦<FileSigner as Signer>⟧.identity signers responder.now)
+        (⟦<FileSigner as Signer>⟧.identity signer.new) (unreachable_signer (Some algorithm)) }
+    ensures looked { Looked C.Store tables.old tables.new }
+{
+    match responder {
+        Responder::Delegate(_, _) => {}
+        Responder::Issuer(_) => return,
+    }
     match signer {
         RegisterSigner::NoSigner(_, _) => {}
         _ => return,
     }
-    let Ok(issuer) = tables.issuer() else {
-        return;
-    };
-    // No socket can be at the empty path.
-    if let Ok(expected) = key_signer(&host.rt, "", algorithm, issuer.key()) {
-        *signer = expected;
+    let expected = CrlSignerChoice::unreachable(Some(algorithm));
+    match signer_for(host, tables, &expected, responder) {
+        Ok(fitting) => *signer = fitting,
+        Err(_) => {}
     }
 }
 

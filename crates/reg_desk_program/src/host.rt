@@ -174,6 +174,8 @@ impl<'a> Machine for SystemHost<'a> {
 
     ghost clock_reached = { λ now. Unspecified now };
 
+    ghost millis_read = { λ millis. Unspecified millis };
+
     ghost failed = { Unspecified {A = ℕ} 0 };
 
     ghost waited = { λ count. Unspecified count };
@@ -446,6 +448,7 @@ impl<'a> Machine for SystemHost<'a> {
             self,
             &mut office.office.store,
             &mut office.office.signer,
+            &office.office.responder,
             algorithm,
         );
     }

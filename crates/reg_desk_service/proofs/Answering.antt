@@ -34,53 +34,54 @@ use Rattle.reg_desk_service.specs.Exchanges.{AnswersBy, AnswersAtRoute, MayCount
 use Rattle.reg_desk_service.specs.FinishedResponses.{FinishesAt, FinishesUnsigned, Meets}
 use Rattle.reg_desk_service.specs.declared.admission.Admission.{Admission}
 use Rattle.reg_desk_service.specs.declared.unsigned_responses.Unsigned.{Unsigned as UnsignedOf}
+use Rattle.reg_desk_service.specs.declared.http_exchanges.DeskKind.{DeskKind}
 use Rattle.reg_desk_service.specs.declared.http_exchanges.Dispatch.{Dispatch}
 use Rattle.reg_desk_service.specs.declared.http_exchanges.Dispatch.TheVariants.{ToLimits}
 use Rattle.reg_desk_service.proofs.Finishing.{left_exchange}
 
 -- what is begun behind the limits of an open desk is begun there
-pub limited_begins : (admission : Admission) (is_open : Bool) (signs : Signs) (now : ℕ) (signers : OfficeSigners) (before : Records) (method target body : List ℕ)
-    (begun : Result (ReadyOrUnsigned HttpAnswer Drafted) NoMemory) (after : Records) → dispatch is_open (route_at (path_of target)) ≡ ToLimits
+pub limited_begins : (admission : Admission) (kind : DeskKind) (signs : Signs) (now : ℕ) (signers : OfficeSigners) (before : Records) (method target body : List ℕ)
+    (begun : Result (ReadyOrUnsigned HttpAnswer Drafted) NoMemory) (after : Records) → dispatch kind (route_at (path_of target)) ≡ ToLimits
     → BeginsAdmitted admission signs now signers before (asks_for method target body) begun after
-    → BeginsAt is_open signs now admission signers before method target body begun after
-limited_begins admission is_open signs now signers before method target body (Ok (Ready answered)) after to (says, adds) =
+    → BeginsAt kind signs now admission signers before method target body begun after
+limited_begins admission kind signs now signers before method target body (Ok (Ready answered)) after to (says, adds) =
     let P : Dispatch → Type 0 = λ by. AnswersAtRoute signs now admission signers before (answer_effects answered) after by method target body in
     (subst P (sym to) says, adds)
-limited_begins admission is_open signs now signers before method target body (Ok (Unsigned draft)) after to left = (subst MayNeedSignature (sym to) tt, left)
-limited_begins admission is_open signs now signers before method target body (Err memory) after to same = same
+limited_begins admission kind signs now signers before method target body (Ok (Unsigned draft)) after to left = (subst MayNeedSignature (sym to) tt, left)
+limited_begins admission kind signs now signers before method target body (Err memory) after to same = same
 
 -- the limits after a request at its route
-pub counted_at : {A : Type 0} (result : Result A NoMemory) (is_open : Bool) (now : ℕ) (method target body : List ℕ) (admission admission' : Admission) (by : Dispatch)
-    → dispatch is_open (route_at (path_of target)) ≡ by
+pub counted_at : {A : Type 0} (result : Result A NoMemory) (kind : DeskKind) (now : ℕ) (method target body : List ℕ) (admission admission' : Admission) (by : Dispatch)
+    → dispatch kind (route_at (path_of target)) ≡ by
     → CountsRequest result (admission_by by now (asks_for method target body) admission) admission admission'
-    → CountsRequest result (admission_after is_open now (asked method target body) admission) admission admission'
-counted_at result is_open now method target body admission admission' by to counted =
+    → CountsRequest result (admission_after kind now (asked method target body) admission) admission admission'
+counted_at result kind now method target body admission admission' by to counted =
     let P : Dispatch → Type 0 = λ it. CountsRequest result (admission_by it now (asks_for method target body) admission) admission admission' in
     subst P (sym to) counted
 
 -- without memory
-may_count : (is_open : Bool) (now : ℕ) (line_outcome method target body : List ℕ) (admission admission' : Admission)
+may_count : (kind : DeskKind) (now : ℕ) (line_outcome method target body : List ℕ) (admission admission' : Admission)
     → ∥ HoldsRequest line_outcome (asked method target body) ∥₁
-    → (admission' ≡ admission) ⊎ (admission' ≡ admission_after is_open now (asked method target body) admission)
-    → MayCount is_open now line_outcome admission admission'
-may_count is_open now line_outcome method target body admission admission' holds (inl same) = inl same
-may_count is_open now line_outcome method target body admission admission' holds (inr counted) = inr (asked method target body, holds, counted)
+    → (admission' ≡ admission) ⊎ (admission' ≡ admission_after kind now (asked method target body) admission)
+    → MayCount kind now line_outcome admission admission'
+may_count kind now line_outcome method target body admission admission' holds (inl same) = inl same
+may_count kind now line_outcome method target body admission admission' holds (inr counted) = inr (asked method target body, holds, counted)
 
 -- What stands in an office before and after, who signs, and the moment; and the limits.
-module _ {S : Type 0} (is_clean : S → Type 0) (stands : OfficeSigners → S → Records → Type 0) (signs : Signs) (now : ℕ) (admission admission' : Admission) (is_open : Bool) (s t : S) where
+module _ {S : Type 0} (is_clean : S → Type 0) (stands : OfficeSigners → S → Records → Type 0) (signs : Signs) (now : ℕ) (admission admission' : Admission) (kind : DeskKind) (s t : S) where
   -- The signer gave this, and what that is; the bytes that came.
   module _ (signer_answered : List ℕ → List ℕ → Type 0)
       (answer_in_form_signs : (identity : Identity) (message answer : List ℕ) → signer_answered message answer → HasForm identity answer → signs identity message answer)
       (line_outcome : List ℕ) where
     -- an exchange, or what is left of one
     abbrev pub Answer : ReadyOrUnsigned Exchange UnsignedResponse → OfficeSigners → Records → Records → Type 0
-    Answer begun signers before after = AnswersBegun signer_answered is_open signs now admission admission' signers before line_outcome begun after
+    Answer begun signers before after = AnswersBegun signer_answered kind signs now admission admission' signers before line_outcome begun after
 
     -- a request that asks something
     pub asked_answers : (method target body : List ℕ) (route : Route) (begun : Result (ReadyOrUnsigned HttpAnswer Drafted) NoMemory) (made : ReadyOrUnsigned Exchange UnsignedResponse)
         → ∥ HoldsRequest line_outcome (asked method target body) ∥₁ → BeginsExchange now route begun made
-        → CountsRequest begun (admission_after is_open now (asked method target body) admission) admission admission'
-        → Leads is_clean stands (λ signers before after. BeginsAt is_open signs now admission signers before method target body begun after) s t
+        → CountsRequest begun (admission_after kind now (asked method target body) admission) admission admission'
+        → Leads is_clean stands (λ signers before after. BeginsAt kind signs now admission signers before method target body begun after) s t
         → Leads is_clean stands (Answer made) s t
     asked_answers method target body route (Ok (Ready answered)) (Ready exchange) holds answers counted moved =
         follows is_clean stands _ _
@@ -91,7 +92,7 @@ module _ {S : Type 0} (is_clean : S → Type 0) (stands : OfficeSigners → S �
         follows is_clean stands _ _
         (λ signers before after (to, (request, asks_it, drafted)).
         let P : Drafted → Type 0 = λ it. Drafts signers before now request it after in (
-          (λ text finished. left_exchange signs signer_answered answer_in_form_signs now signers before after admission admission' is_open line_outcome method target body request text left.draft holds to asks_it
+          (λ text finished. left_exchange signs signer_answered answer_in_form_signs now signers before after admission admission' kind line_outcome method target body request text left.draft holds to asks_it
               (subst P (sym answers.1) drafted) finished counted),
           nothing_added now before after drafted.1,
         ))
@@ -99,7 +100,7 @@ module _ {S : Type 0} (is_clean : S → Type 0) (stands : OfficeSigners → S �
     asked_answers method target body route (Err memory) (Ready exchange) holds answers counted moved =
         follows is_clean stands _ _
         (λ signers before after same.
-        (inr (answers.2, inr answers.1, same, may_count is_open now line_outcome method target body admission admission' holds counted), nothing_added now before after same))
+        (inr (answers.2, inr answers.1, same, may_count kind now line_outcome method target body admission admission' holds counted), nothing_added now before after same))
         s t moved
     asked_answers method target body route (Err memory) (Unsigned left) holds answers counted moved = absurd answers
 
@@ -121,7 +122,7 @@ module _ {S : Type 0} (is_clean : S → Type 0) (stands : OfficeSigners → S �
     pub answers_meet : (clock : ℕ → Type 0) (begun : ReadyOrUnsigned Exchange UnsignedResponse) (outcome : Outcome UnsignedOf) (before_it after_answer : Tally)
         → clock now → CountsBegun now line_outcome begun outcome before_it after_answer → Leads is_clean stands (Answer begun) s t
         → Leads is_clean stands
-        (λ signers before after. Meets (FinishesUnsigned signer_answered) (λ text. AnswersBy is_open signs clock admission admission' signers before line_outcome text after) outcome) s t
+        (λ signers before after. Meets (FinishesUnsigned signer_answered) (λ text. AnswersBy kind signs clock admission admission' signers before line_outcome text after) outcome) s t
     answers_meet clock (Ready exchange) (said text) first last at is moved =
         follows is_clean stands _ _
         (λ signers before after made. (now, at, record { exchange = exchange; is_exchange = made.0; text_is = is.0; adds = made.1 })) s t moved

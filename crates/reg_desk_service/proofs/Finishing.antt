@@ -32,8 +32,9 @@ use Rattle.reg_desk_service.specs.Exchanges.{AnswersAt, AnswersAtRoute, admissio
 use Rattle.reg_desk_service.specs.SignerAnswers.{AtGivenPath, AnsweredAtPath, AnsweredAtSomePath}
 use Rattle.reg_desk_service.specs.FinishedResponses.{FinishesUnsigned, FinishesAt, IsSignatureOf, Meets}
 use Rattle.reg_desk_service.specs.declared.unsigned_responses.Unsigned.{Unsigned}
+use Rattle.reg_desk_service.specs.declared.http_exchanges.DeskKind.{DeskKind}
 use Rattle.reg_desk_service.specs.declared.http_exchanges.Dispatch.{Dispatch}
-use Rattle.reg_desk_service.specs.declared.http_exchanges.Dispatch.TheVariants.{ToRegister, ToLimits, ToList, ToHealth, ToMetrics, ToChanges}
+use Rattle.reg_desk_service.specs.declared.http_exchanges.Dispatch.TheVariants.{ToRegister, ToLimits, ToList, ToHealth, ToMetrics, ToChanges, ToFollowerHealth, ToFollowerMetrics, TryLater, Refuse}
 use Rattle.reg_desk_service.specs.declared.admission.Admission.{Admission}
 
 -- The signer gave this, and what that is.
@@ -94,14 +95,18 @@ module _ (signs : Signs) (signer_answered : List ℕ → List ℕ → Type 0)
     says_left admission ToHealth method target body request it to asks_it answers = absurd to
     says_left admission ToMetrics method target body request it to asks_it answers = absurd to
     says_left admission ToChanges method target body request it to asks_it answers = absurd to
+    says_left admission (ToFollowerHealth follower) method target body request it to asks_it answers = absurd to
+    says_left admission (ToFollowerMetrics follower) method target body request it to asks_it answers = absurd to
+    says_left admission TryLater method target body request it to asks_it answers = absurd to
+    says_left admission (Refuse status) method target body request it to asks_it answers = absurd to
 
     -- the exchange of the register
-    pub left_exchange : (admission admission' : Admission) (is_open : Bool) (line_outcome method target body request text : List ℕ) (draft : Drafted)
-        → ∥ HoldsRequest line_outcome (asked method target body) ∥₁ → MayNeedSignature (dispatch is_open (route_at (path_of target)))
+    pub left_exchange : (admission admission' : Admission) (kind : DeskKind) (line_outcome method target body request text : List ℕ) (draft : Drafted)
+        → ∥ HoldsRequest line_outcome (asked method target body) ∥₁ → MayNeedSignature (dispatch kind (route_at (path_of target)))
         → asks_for method target body ≡ ocsp_of request → Drafts signers before now request draft after
-        → FinishesAt signer_answered draft now text → admission' ≡ admission_after is_open now (asked method target body) admission
-        → AnswersAt is_open signs now admission admission' signers before line_outcome text after
-    left_exchange admission admission' is_open line_outcome method target body request text draft holds to asks_it drafted it counted =
+        → FinishesAt signer_answered draft now text → admission' ≡ admission_after kind now (asked method target body) admission
+        → AnswersAt kind signs now admission admission' signers before line_outcome text after
+    left_exchange admission admission' kind line_outcome method target body request text draft holds to asks_it drafted it counted =
         let given = kinded it.signature it.finished.given in
         let replies = replies_of request draft it.signature it.finished.given drafted it.signed it.finished.made in
         let P : RoutedRequest → Type 0 = λ what. Answers (Runs signs signers) Asks (Replies signs signers) GivesCrl now before what (ocsp_effects given) after in
@@ -118,7 +123,7 @@ module _ (signs : Signs) (signer_answered : List ℕ → List ℕ → Type 0)
             asked method target body,
             ocsp_effects given,
             holds,
-            says_left admission (dispatch is_open (route_at (path_of target))) method target body request (ocsp_effects given) to asks_it
+            says_left admission (dispatch kind (route_at (path_of target))) method target body request (ocsp_effects given) to asks_it
                 (subst P (sym asks_it) (given, replies, refl)),
             (refl, refl, refl, given_text it.signature it.finished.given it.exchange it.finished.answer_text),
             counted,

@@ -4,7 +4,9 @@ pub mod CommandBatches
 pub mod ControlLines
 pub mod Finding
 pub mod Finishing
+pub mod Following
 pub mod FoundRows
+pub mod LineKinds
 pub mod LookedAt
 pub mod Looks
 pub mod OwnReplies

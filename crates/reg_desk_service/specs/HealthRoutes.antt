@@ -1,5 +1,5 @@
 -- What an open desk reports on itself, on the routes `/health` and `/metrics`.
-use Rattle.std.specs.Prelude.{◌≡◌, ◌⊎◌, ◌↔◌, ℕ, Bool, true, false, cond, List, codes, bytes_eq, Some, None, Result, Ok, Err, IsTrue, MatchBool, option_map}
+use Rattle.std.specs.Prelude.{◌≡◌, ◌⊎◌, ◌↔◌, ◌++◌, ℕ, Bool, true, false, cond, List, codes, bytes_eq, Some, None, Result, Ok, Err, IsTrue, MatchBool, option_map}
 use Rattle.std.specs.declared.option.Option.{Option}
 use Rattle.reg_core.specs.Crls.{latest}
 use Rattle.reg_core.specs.Queries.{answer}
@@ -17,9 +17,11 @@ use Rattle.reg_desk_cli.specs.declared.desk.TheConstants.{VERSION}
 use Rattle.reg_http_head.specs.Response.{Response}
 use Rattle.reg_http.specs.Bodies.{json, method_not_allowed}
 use Rattle.reg_http.specs.AnswerEffects.{AnswerEffects, plain}
+use Rattle.reg_desk_metrics.specs.Followers.{follower_health_text, follower_text, is_well_with}
 use Rattle.reg_desk_metrics.specs.Healths.{health_of, health_text, is_well}
 use Rattle.reg_desk_metrics.specs.Metrics.{metrics_text}
 use Rattle.reg_desk_metrics.specs.Tallies.{has_crl_key, read_of, with_counted, with_read}
+use Rattle.reg_desk_metrics.specs.declared.follower_status.FollowerStatus.{FollowerStatus}
 use Rattle.reg_desk_metrics.specs.declared.health.Health.{Health as HealthOf}
 use Rattle.reg_desk_metrics.specs.declared.numbers.ConnectionTotals.{ConnectionTotals}
 use Rattle.reg_desk_metrics.specs.declared.numbers.Numbers.{Numbers}
@@ -157,6 +159,11 @@ health_status is_well = cond is_well 200 503
 abbrev pub health_response : HealthOf → Response
 health_response health = json (health_status (is_well health)) (health_text health)
 
+-- the same of a follower, whose health is also that of its register
+abbrev pub follower_health_response : FollowerStatus → HealthOf → Response
+follower_health_response follower health =
+    json (health_status (is_well_with follower health)) (follower_health_text follower health)
+
 -- 200 with the text form of Prometheus
 abbrev pub metrics_response : List ℕ → Response
 metrics_response text = record {
@@ -184,9 +191,23 @@ AnswersHealth accepted now records it =
     × ((tally' : Tally)
     × (it ≡ plain (health_response (health_of now found tally' accepted))))
 
+-- the health of a follower and of its register
+abbrev pub AnswersFollowerHealth : FollowerStatus → ℕ → Records → AnswerEffects → Type 0
+AnswersFollowerHealth follower now records it =
+    (health : HealthOf) × IsHealthAt None now records health
+    × (it ≡ plain (follower_health_response follower health))
+
 -- the metrics: from the register's numbers at a moment, some tally, and some totals of connections
 abbrev pub AnswersMetrics : ℕ → Records → AnswerEffects → Type 0
 AnswersMetrics now records it =
     (tally : Tally) × (found : Result Numbers Fault) × HasFound tally records now found
     × ((tally' : Tally) × (connection_totals : ConnectionTotals)
     × (it ≡ plain (metrics_response (metrics_text VERSION.now now found tally' connection_totals))))
+
+-- the metrics of a follower: those of an open desk, and then its own
+abbrev pub AnswersFollowerMetrics : FollowerStatus → ℕ → Records → AnswerEffects → Type 0
+AnswersFollowerMetrics follower now records it =
+    (tally : Tally) × (found : Result Numbers Fault) × HasFound tally records now found
+    × ((tally' : Tally) × (connection_totals : ConnectionTotals)
+    × (it ≡ plain (metrics_response
+    (metrics_text VERSION.now now found tally' connection_totals ++ follower_text follower))))

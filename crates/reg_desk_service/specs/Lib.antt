@@ -2,12 +2,14 @@ pub mod Admission
 pub mod RequestOutcomes
 pub mod Clocks
 pub mod ControlReplies
+pub mod Confirmations
 pub mod Copies
 pub mod Counted
 pub mod CommandBatches
 pub mod ControlWords
 pub mod LineSignatures
 pub mod Exchanges
+pub mod ExpectedCrls
 pub mod Following
 pub mod SignerAnswers
 pub mod FinishedResponses

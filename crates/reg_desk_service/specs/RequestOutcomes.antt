@@ -1,5 +1,5 @@
 -- The outcome of a request at a desk that may leave an OCSP response to be signed.
-use Rattle.std.specs.Prelude.{◌≡◌, ℕ, Bool, List, Result, Ok, Err}
+use Rattle.std.specs.Prelude.{◌≡◌, ℕ, List, Result, Ok, Err}
 use Rattle.reg_office_api.specs.CallSteps.{Signs}
 use Rattle.reg_office_api.specs.Drafts.{Drafts}
 use Rattle.reg_office_api.specs.Signers.{OfficeSigners}
@@ -19,6 +19,7 @@ use Rattle.reg_io.specs.declared.begun.ReadyOrUnsigned.TheVariants.{Ready, Unsig
 use Rattle.reg_desk_service.specs.Exchanges.{AnswersAt, IsExchange, IsRouteOf, Says, dispatch}
 use Rattle.reg_desk_service.specs.FinishedResponses.{FinishesAt}
 use Rattle.reg_desk_service.specs.declared.admission.Admission.{Admission}
+use Rattle.reg_desk_service.specs.declared.http_exchanges.DeskKind.{DeskKind}
 use Rattle.reg_desk_service.specs.declared.http_exchanges.Dispatch.{Dispatch}
 use Rattle.reg_desk_service.specs.declared.http_exchanges.Dispatch.TheVariants.{ToRegister, ToLimits}
 
@@ -35,31 +36,31 @@ MayNeedSignature other = ⊥
 
 -- the outcome of a request that was read: an answer; or, only by the register, a response to be signed; or out of memory
 abbrev pub BeginsAt
-    : Bool → Signs → ℕ → Admission → OfficeSigners → Records → List ℕ → List ℕ → List ℕ
+    : DeskKind → Signs → ℕ → Admission → OfficeSigners → Records → List ℕ → List ℕ → List ℕ
     → Result (ReadyOrUnsigned HttpAnswer Drafted) NoMemory → Records → Type 0
-BeginsAt is_open signs now admission signers before method target body (Ok (Ready answered)) after =
-    Says signs now admission signers before (answer_effects answered) after is_open
+BeginsAt kind signs now admission signers before method target body (Ok (Ready answered)) after =
+    Says signs now admission signers before (answer_effects answered) after kind
     (asked method target body)
     × AddsARequestAtMost now before after
-BeginsAt is_open signs now admission signers before method target body (Ok (Unsigned draft)) after =
-    MayNeedSignature (dispatch is_open (route_at (path_of target)))
+BeginsAt kind signs now admission signers before method target body (Ok (Unsigned draft)) after =
+    MayNeedSignature (dispatch kind (route_at (path_of target)))
     × ((request : List ℕ) × (asks_for method target body ≡ ocsp_of request)
     × Drafts signers before now request draft after)
-BeginsAt is_open signs now admission signers before method target body (Err memory) after = after ≡ before
+BeginsAt kind signs now admission signers before method target body (Err memory) after = after ≡ before
 
 -- the answer to the bytes that came: an exchange that is ready; or a response to be signed, such that any text that finishes it is that of an
 -- exchange. The records gain at most one request for revocation.
 abbrev pub AnswersBegun
-    : (List ℕ → List ℕ → Type 0) → Bool → Signs → ℕ → Admission → Admission → OfficeSigners → Records → List ℕ
+    : (List ℕ → List ℕ → Type 0) → DeskKind → Signs → ℕ → Admission → Admission → OfficeSigners → Records → List ℕ
     → ReadyOrUnsigned Exchange UnsignedResponse → Records → Type 0
-AnswersBegun signer_answered is_open signs now admission admission' signers before request
+AnswersBegun signer_answered kind signs now admission admission' signers before request
     (Ready exchange) after =
-    IsExchange is_open signs now admission admission' signers before request exchange after
+    IsExchange kind signs now admission admission' signers before request exchange after
     × AddsARequestAtMost now before after
-AnswersBegun signer_answered is_open signs now admission admission' signers before request
+AnswersBegun signer_answered kind signs now admission admission' signers before request
     (Unsigned left) after =
     ((text : List ℕ) → FinishesAt signer_answered left.draft now text
-    → AnswersAt is_open signs now admission admission' signers before request text after)
+    → AnswersAt kind signs now admission admission' signers before request text after)
     × AddsARequestAtMost now before after
 
 -- the route under which the exchange is counted

@@ -1,6 +1,15 @@
 //! Whether followers have the commands that a desk accepted: with `desk open --confirm-by N`, the reply to a command is sent only after that.
 
+ghost use Rattle.std.specs.Prelude.{◌≡◌, ◌==◌, ◌<◌, length, IsTrue, IfSome};
+ghost use Rattle.std.specs.List.{position};
+ghost use Rattle.reg_desk_server.specs.Outcomes.{outcome_of};
+ghost use Rattle.reg_desk_service.specs.Confirmations.{after_lines, after_outcome, after_request, confirming_in, confirming_number, ends_feed, follower_in, has_follower, holds_reply, is_confirmed, is_wanted, with_follower};
+
+use crate::line_kinds::{LineKind, before_line_end, kind_of};
+use crate::unsigned_responses::Unsigned;
 use reg_core::{Moment, read_number};
+use reg_io::ReadyOrUnsigned;
+use std::alloc::Global;
 
 /// The most followers that a command can wait for.
 pub const MOST_FOLLOWERS: usize = 8;
@@ -27,7 +36,10 @@ pub struct Confirmation {
 
 impl Confirmation {
     /// Commands wait for this number of followers; for 0, they don't wait.
-    pub fn by(needed: u64) -> Confirmation {
+    pub fn by(needed: u64) -> Confirmation
+        ensures needed { result.needed ≡ needed }
+        ensures confirmed { IsTrue (is_confirmed result) }
+    {
         Confirmation {
             needed,
             since: None,
@@ -38,27 +50,37 @@ impl Confirmation {
     }
 
     /// Whether replies wait at all.
-    pub fn is_wanted(&self) -> bool {
+    pub fn is_wanted(&self) -> bool
+        ensures { result ≡ is_wanted self.now }
+    {
         self.needed > 0
     }
 
     /// The moment of the first command that is not confirmed yet, if there is one.
-    pub fn since(&self) -> Option<Moment> {
+    pub fn since(&self) -> Option<Moment>
+        ensures { result ≡ self.now.since }
+    {
         self.since
     }
 
     /// Whether each command is confirmed.
-    pub fn is_confirmed(&self) -> bool {
+    pub fn is_confirmed(&self) -> bool
+        ensures { result ≡ is_confirmed self.now }
+    {
         self.since.is_none()
     }
 
     /// Whether the reply to the lines that were answered last waits.
-    pub fn holds_reply(&self) -> bool {
+    pub fn holds_reply(&self) -> bool
+        ensures { result ≡ holds_reply self.now }
+    {
         self.had_command && !self.is_confirmed()
     }
 
     /// Lines were answered. If a command is among them, no follower is known to have it.
-    pub fn lines_answered(&mut self, had_command: bool, now: Moment) {
+    pub fn lines_answered(&mut self, had_command: bool, now: Moment)
+        ensures { self.new ≡ after_lines had_command now self.old }
+    {
         if !self.is_wanted() {
             return;
         }
@@ -71,8 +93,39 @@ impl Confirmation {
         }
     }
 
+    /// The first of these lines was answered at `now`, or the first several, which are then commands.
+    pub(crate) fn first_lines_answered(&mut self, alloc: Global, lines: &[u8], now: Moment) {
+        if !self.is_wanted() {
+            return;
+        }
+        // A line for which there was no memory may have been a command.
+        let had_command = match kind_of(alloc, before_line_end(lines)) {
+            Ok(LineKind::Query) => false,
+            Ok(LineKind::Other) => false,
+            Ok(LineKind::Command) => true,
+            Err(_) => true,
+        };
+        self.lines_answered(had_command, now);
+    }
+
+    /// An HTTP request was answered, or the response to it is to be signed.
+    pub(crate) fn request_begun(
+        &mut self,
+        request: &[u8],
+        begun: &ReadyOrUnsigned<Vec<u8>, Unsigned>,
+    )
+        ensures { self.new ≡ after_outcome request.now (outcome_of begun.now) self.old }
+    {
+        match begun {
+            ReadyOrUnsigned::Ready(text) => self.request_answered(request, text),
+            ReadyOrUnsigned::Unsigned(_) => {}
+        }
+    }
+
     /// An HTTP request was answered. A follower whose positions are those of all records has all commands.
-    pub fn request_answered(&mut self, request: &[u8], response: &[u8]) {
+    pub fn request_answered(&mut self, request: &[u8], response: &[u8])
+        ensures { self.new ≡ after_request request.now response.now self.old }
+    {
         if self.is_confirmed() {
             return;
         }
@@ -81,7 +134,9 @@ impl Confirmation {
         }
     }
 
-    fn add(&mut self, follower: u64) {
+    fn add(&mut self, follower: u64)
+        ensures { self.new ≡ with_follower follower self.old }
+    {
         if self.count >= MOST_FOLLOWERS || self.has(follower) {
             return;
         }
@@ -92,36 +147,66 @@ impl Confirmation {
         }
     }
 
-    fn has(&self, follower: u64) -> bool {
-        for known in &self.followers[..self.count.min(MOST_FOLLOWERS)] {
-            if *known == follower {
-                return true;
-            }
-        }
-        false
+    fn has(&self, follower: u64) -> bool
+        ensures { result ≡ has_follower follower self.now }
+    {
+        self.followers[..self.count.min(MOST_FOLLOWERS)].contains(&follower)
     }
 }
 
 /// The number of the follower that sent a request, if it asked with the positions after which the response, the last page, has nothing. A follower
 /// without a number has 0.
-fn confirming(request: &[u8], response: &[u8]) -> Option<u64> {
+fn confirming(request: &[u8], response: &[u8]) -> Option<u64>
+    ensures { result ≡ confirming_number request.now response.now }
+{
     if !request.starts_with(ASKED) {
         return None;
     }
     let rest = &request[ASKED.len()..];
-    let query = &rest[..rest.iter().position(|byte| *byte == b' ')?];
-    let (positions, follower) = match query.iter().position(|byte| *byte == b'&') {
-        Some(at) => (&query[..at], number_in(&query[at..])?),
-        None => (query, 0),
-    };
-    if ends_with_positions(response, positions) {
-        Some(follower)
-    } else {
-        None
+    match first_space(rest) {
+        Some(end) => confirming_in(&rest[..end], response),
+        None => None,
     }
 }
 
-fn number_in(parameter: &[u8]) -> Option<u64> {
+fn confirming_in(query: &[u8], response: &[u8]) -> Option<u64>
+    ensures { result ≡ confirming_in query.now response.now }
+{
+    match first_ampersand(query) {
+        Some(at) => {
+            if ends_feed(response, &query[..at]) {
+                follower_in(&query[at..])
+            } else {
+                None
+            }
+        }
+        None => {
+            if ends_feed(response, query) {
+                Some(0)
+            } else {
+                None
+            }
+        }
+    }
+}
+
+fn first_space(text: &[u8]) -> Option<usize>
+    ensures place { result ≡ position (λ b. b == 32) text.now }
+    ensures within { IfSome result (λ at. at < length text.now) }
+{
+    text.iter().position(|byte| *byte == b' ')
+}
+
+fn first_ampersand(text: &[u8]) -> Option<usize>
+    ensures place { result ≡ position (λ b. b == 38) text.now }
+    ensures within { IfSome result (λ at. at < length text.now) }
+{
+    text.iter().position(|byte| *byte == b'&')
+}
+
+fn follower_in(parameter: &[u8]) -> Option<u64>
+    ensures { result ≡ follower_in parameter.now }
+{
     if parameter.starts_with(NAMED) {
         read_number(&parameter[NAMED.len()..])
     } else {
@@ -130,13 +215,12 @@ fn number_in(parameter: &[u8]) -> Option<u64> {
 }
 
 /// Whether the last line of a response is `end` and these positions.
-fn ends_with_positions(response: &[u8], positions: &[u8]) -> bool {
-    if !response.ends_with(b"\n") {
+fn ends_feed(response: &[u8], positions: &[u8]) -> bool
+    ensures { result ≡ ends_feed response.now positions.now }
+{
+    if positions.is_empty() || !response.ends_with(b"\n") {
         return false;
     }
     let text = &response[..response.len() - 1];
-    if !text.ends_with(positions) || positions.is_empty() {
-        return false;
-    }
-    text[..text.len() - positions.len()].ends_with(b"\nend ")
+    text.ends_with(positions) && text[..text.len() - positions.len()].ends_with(b"\nend ")
 }

@@ -7,13 +7,11 @@ use crate::confirmation::Confirmation;
 use crate::control_lines::answer_first_lines;
 use crate::deferred_commands::{LineTicket, SignatureKind, line_signature_of, socket_of};
 use crate::exchange_log::log_lost;
-use crate::http_exchanges::answer_http;
-use crate::line_kinds::{LineKind, first_line, kind_of};
+use crate::http_exchanges::{DeskKind, answer_http};
 use crate::machine::Machine;
 use crate::unsigned_responses::{Unsigned, finish_http};
 use mio::net::{TcpListener, TcpStream};
 use mio::{Events, Poll, Registry};
-use reg_core::Moment;
 use reg_crl_signer::{Backoff, SignatureRequest};
 use reg_desk_cli::{ResponderChoice, SignerAddress};
 use reg_desk_metrics::{ConnectionTotals, Tally};
@@ -55,22 +53,20 @@ pub struct Desk<'a, 'w, M: Machine> {
 }
 
 impl<'a, 'w, M: Machine> Desk<'a, 'w, M> {
-    /// The first of these lines was answered, or the first several, which are then commands.
-    fn confirm_lines(&mut self, lines: &[u8], now: Moment) {
-        if !self.confirmation.is_wanted() {
-            return;
-        }
-        let had_command = kind_of(self.alloc, first_line(lines)) == LineKind::Command;
-        self.confirmation.lines_answered(had_command, now);
+    /// The tally, with the moment of the first command that waits for followers.
+    fn tally_now(&self) -> Tally {
         let mut tally = self.tally.get();
-        tally.set_unconfirmed(self.confirmation.since());
-        self.tally.set(tally);
+        if self.confirmation.is_wanted() {
+            tally.set_unconfirmed(self.confirmation.since());
+        }
+        tally
     }
 }
 
 // The trait `Handler` describes each function and relation. `kept`: an earlier signature request, whose connection to the signer may be used again.
 impl<'a, 'w, M: Machine> Handler for Desk<'a, 'w, M> {
     ghost use Rattle.std.specs.Prelude.{[], IsTrue};
+    ghost use Rattle.reg_desk_service.specs.Confirmations.{holds_reply, is_confirmed};
     ghost use Rattle.reg_office_api.specs.Calls.{KeepsIn, LeadsIn};
     ghost use Rattle.reg_desk_service.specs.ControlWords.{IsAdmissionAfter, AnswersLinesByClock};
     ghost use Rattle.reg_desk_service.specs.LineSignatures.{socket_for};
@@ -107,6 +103,10 @@ impl<'a, 'w, M: Machine> Handler for Desk<'a, 'w, M> {
     ghost works = { λ s t. t ≡ s };
 
     ghost ends_loop = { λ desk. ⊥ };
+
+    ghost holds = { λ desk. holds_reply desk.confirmation };
+
+    ghost confirmed = { λ desk. is_confirmed desk.confirmation };
 
     ghost has_control = { λ desk. IsTrue desk.is_open };
 
@@ -151,16 +151,12 @@ impl<'a, 'w, M: Machine> Handler for Desk<'a, 'w, M> {
         let Ok(now) = self.machine.moment() else {
             return Err(EventLoopFault);
         };
-        let mut tally = self.tally.get();
-        if self.confirmation.is_wanted() {
-            tally.set_unconfirmed(self.confirmation.since());
-        }
+        let mut tally = self.tally_now();
         let begun = answer_http::<M>(
             self.alloc,
             &mut self.office,
             self.machine,
-            self.is_open,
-            None,
+            DeskKind::of(self.is_open),
             &mut tally,
             &mut self.admission,
             self.connection_totals.get(),
@@ -168,9 +164,7 @@ impl<'a, 'w, M: Machine> Handler for Desk<'a, 'w, M> {
             client,
             request,
         );
-        if let ReadyOrUnsigned::Ready(text) = &begun {
-            self.confirmation.request_answered(request.as_slice(), text);
-        }
+        self.confirmation.request_begun(request.as_slice(), &begun);
         self.tally.set(tally);
         Ok(begun)
     }
@@ -231,7 +225,8 @@ impl<'a, 'w, M: Machine> Handler for Desk<'a, 'w, M> {
             last_reason,
         );
         self.tally.set(tally);
-        self.confirm_lines(lines, now);
+        self.confirmation
+            .first_lines_answered(self.alloc, lines, now);
         Ok(replies)
     }
 
@@ -293,12 +288,10 @@ impl<'a, 'w, M: Machine> Handler for Desk<'a, 'w, M> {
         self.backoff = self.backoff_after(ticket_for_backoff, has_arrived);
         match signature {
             Some(signature) => {
+                let signed_at = signature.moment;
                 let text = self.answer_with_signature(line, last_reason, ticket, signature);
-                let now = match self.machine.moment() {
-                    Ok(now) => now,
-                    Err(_) => Moment::EPOCH,
-                };
-                self.confirm_lines(line, now);
+                self.confirmation
+                    .first_lines_answered(self.alloc, line, signed_at);
                 Ok(Some(text))
             }
             None => Ok(None),

@@ -1,17 +1,24 @@
 //! The handler of `desk follow`: a desk over a copy of another desk's register, which it keeps up to date. It takes no commands.
 
+ghost use Rattle.std.specs.Prelude.{◌≡◌, ◌++◌, ◌∷◌, [], length, IfOk, IsTrue, OnErr};
+ghost use Rattle.reg_desk_server.specs.LineEnds.{FirstLineEnds};
+ghost use Rattle.reg_desk_cli.specs.ExitStatus.{failure_line};
+ghost use Rattle.reg_desk_service.specs.ControlReplies.{IsReplyText};
+ghost use Rattle.reg_desk_service.specs.Following.{AnswersLinesAsOpen, FollowerAnswersLines, IsRefusal, is_current_at};
+
 use crate::control_reply::{ControlReply, LineOutcome};
 use crate::deferred_commands::LineTicket;
 use crate::desks::Desk;
 use crate::exchange_log::log_line;
 use crate::follower::Follower;
-use crate::http_exchanges::answer_http;
+use crate::http_exchanges::{DeskKind, answer_http};
 use crate::line_kinds::{LineKind, first_line, kind_of};
 use crate::machine::Machine;
 use crate::reasons::keep_reply_reason;
 use crate::unsigned_responses::Unsigned;
 use mio::net::{TcpListener, TcpStream};
 use mio::{Events, Poll, Registry};
+use reg_core::Fault;
 use reg_crl_signer::SignatureRequest;
 use reg_desk_cli::Failure;
 use reg_desk_server::{
@@ -33,22 +40,41 @@ pub struct FollowDesk<'a, 'w, M: Machine> {
 }
 
 impl<'a, 'w, M: Machine> FollowDesk<'a, 'w, M> {
-    /// Why a line is refused; `None` if the desk answers it.
-    fn refusal_of(&self, line: &[u8], now: u64) -> Option<Failure> {
-        match kind_of(self.desk.alloc, line) {
-            LineKind::Command => Some(Failure::IsFollower),
-            LineKind::Query if !self.follower.is_current(now) => Some(Failure::Behind),
-            _ => None,
+    /// The milliseconds of the monotonic clock.
+    fn read_millis(&self) -> Result<u64, EventLoopFault>
+        ensures read { IfOk result M.millis_read }
+        ensures fails { OnErr result M.failed }
+    {
+        match self.desk.machine.millis() {
+            Ok(millis) => Ok(millis),
+            Err(_) => Err(EventLoopFault),
         }
     }
 
-    /// Refuses a line, counts it, and logs it if there is a log.
+    /// Why a line is refused at `now`; `None` if the desk answers it.
+    fn refusal_of(&self, line: &[u8], now: u64) -> Option<Failure>
+        ensures { IsRefusal (is_current_at self.now.follower now) line.now result }
+    {
+        match kind_of(self.desk.alloc, line) {
+            Ok(LineKind::Command) => Some(Failure::IsFollower),
+            Ok(LineKind::Query) if !self.follower.is_current(now) => Some(Failure::Behind),
+            Ok(LineKind::Query) => None,
+            Ok(LineKind::Other) => None,
+            Err(_) => Some(Failure::Fault(Fault::Memory)),
+        }
+    }
+
+    /// The reply that refuses a line, which is counted, and logged if there is a log.
     fn refuse(
-        &mut self,
+        &self,
         line: &[u8],
         why: Failure,
         last_reason: &mut Vec<u8>,
-    ) -> Result<LineReplies, EventLoopFault> {
+    ) -> Result<Vec<u8>, EventLoopFault>
+        ensures reply { IfOk result (λ text. IsReplyText (failure_line why ++ 10 ∷ []) text.items) }
+        ensures err { OnErr result (last_reason.new ≡ last_reason.old) }
+        ensures fails { OnErr result M.failed }
+    {
         let began = self.desk.machine.micros();
         let Ok(now) = self.desk.machine.moment() else {
             return Err(EventLoopFault);
@@ -73,39 +99,93 @@ impl<'a, 'w, M: Machine> FollowDesk<'a, 'w, M> {
             None,
             false,
         );
-        Ok(LineReplies {
-            length: line.len(),
-            text: reply.text,
-        })
+        Ok(reply.text)
+    }
+}
+
+impl<'a, 'w, M: Machine> FollowDesk<'a, 'w, M> {
+    /// Answers one line, or refuses it.
+    fn answer_line(
+        &mut self,
+        line: &[u8],
+        last_reason: &mut Vec<u8>,
+    ) -> Result<Vec<u8>, EventLoopFault>
+        requires control { IsTrue self.old.desk.is_open }
+        requires line { FirstLineEnds line.now (length line.now) }
+        ensures ok { IfOk result (λ text. (self.new.desk.is_open ≡ self.old.desk.is_open)
+            × FollowerAnswersLines M.Machine M.Office.Office
+            (self.old.desk.office, self.old.desk.admission, self.old.follower) line.now text.items
+            (self.new.desk.office, self.new.desk.admission, self.new.follower)) }
+        ensures err { OnErr result ((self.new ≡ self.old) × (last_reason.new ≡ last_reason.old)) }
+        ensures fails { OnErr result M.failed }
+    {
+        let now = self.read_millis()?;
+        match self.refusal_of(line, now) {
+            Some(why) => self.refuse(line, why, last_reason),
+            None => self.answer_as_open(line, last_reason),
+        }
+    }
+
+    /// Answers one line as an open desk does.
+    fn answer_as_open(
+        &mut self,
+        line: &[u8],
+        last_reason: &mut Vec<u8>,
+    ) -> Result<Vec<u8>, EventLoopFault>
+        requires control { IsTrue self.old.desk.is_open }
+        requires line { FirstLineEnds line.now (length line.now) }
+        ensures ok { IfOk result (λ text. (self.new.desk.is_open ≡ self.old.desk.is_open)
+            × AnswersLinesAsOpen M.Machine M.Office.Office
+            (self.old.desk.office, self.old.desk.admission, self.old.follower) line.now text.items
+            (self.new.desk.office, self.new.desk.admission, self.new.follower)) }
+        ensures err { OnErr result ((self.new ≡ self.old) × (last_reason.new ≡ last_reason.old)) }
+        ensures fails { OnErr result M.failed }
+    {
+        match self.desk.answer_lines(line, last_reason) {
+            Ok(replies) => Ok(replies.text),
+            Err(fault) => Err(fault),
+        }
     }
 }
 
 impl<'a, 'w, M: Machine> Handler for FollowDesk<'a, 'w, M> {
-    ghost use Rattle.std.specs.Prelude.{◌≡◌, ◌⊎◌, IsTrue, is_some};
-    ghost use Rattle.reg_desk_service.specs.Following.{AnswersOfFollower, FollowsOn, RefusesLine};
+    ghost use Rattle.std.specs.Prelude.{◌≡◌, true, false, IsTrue, is_some};
+    ghost use Rattle.reg_desk_service.specs.FinishedResponses.{FinishesUnsigned};
+    ghost use Rattle.reg_desk_service.specs.Following.{FollowerAnswers, FollowerAnswersLines, FollowerDefers, FollowerWorks};
+    ghost use Rattle.reg_desk_service.specs.Signers.{AnsweredByOcspSigner};
 
     type Ticket = Unsigned;
 
     type ControlTicket = LineTicket;
 
-    // as a desk that is open, or one of the answers that only a follower gives
-    ghost answers = { λ s request outcome t. ⟦<Desk<'a, 'w, M> as Handler>⟧.answers s.desk request outcome t.desk
-        ⊎ AnswersOfFollower M.Office.Office s.desk.office request outcome t.desk.office };
+    ghost answers = { λ s request outcome t. (t.desk.is_open ≡ s.desk.is_open)
+        × FollowerAnswers M.Machine M.Office.Office
+        (s.desk.office, s.desk.admission, s.follower) request outcome (t.desk.office, t.desk.admission, t.follower) };
 
-    ghost answers_lines = { λ s bytes text t. ⟦<Desk<'a, 'w, M> as Handler>⟧.answers_lines s.desk bytes text t.desk
-        ⊎ RefusesLine bytes text × (t ≡ s) };
+    ghost answers_lines = { λ s bytes text t. (t.desk.is_open ≡ s.desk.is_open)
+        × FollowerAnswersLines M.Machine M.Office.Office
+        (s.desk.office, s.desk.admission, s.follower) bytes text (t.desk.office, t.desk.admission, t.follower) };
 
-    ghost defers = { λ s line t. ⟦<Desk<'a, 'w, M> as Handler>⟧.defers s.desk line t.desk };
+    ghost defers = { λ s line t. (t.desk.is_open ≡ s.desk.is_open)
+        × FollowerDefers M.Machine M.Office.Office
+        (s.desk.office, s.desk.admission, s.follower) line (t.desk.office, t.desk.admission, t.follower) };
 
-    ghost finishes = { λ s. ⟦<Desk<'a, 'w, M> as Handler>⟧.finishes s.desk };
+    ghost finishes = { λ s. FinishesUnsigned
+        (AnsweredByOcspSigner M.signer_answered s.desk.signer.now s.desk.responder.now) };
 
-    // the records after it extend those before it by pages that the leader sent
-    ghost works = { λ s t. FollowsOn M.Office.Office s.desk.office t.desk.office };
+    ghost works = { λ s t. (t.desk.is_open ≡ s.desk.is_open)
+        × FollowerWorks M.Machine M.Office.Office
+        (s.desk.office, s.desk.admission, s.follower) (t.desk.office, t.desk.admission, t.follower) };
 
     // the follower ended the loop: its leader diverged, or is too far ahead
     ghost ends_loop = { λ it. IsTrue (is_some it.follower.stop) };
 
-    ghost has_control = { λ it. IsTrue it.has_control };
+    // no command is taken, so no reply waits
+    ghost holds = { λ it. false };
+
+    ghost confirmed = { λ it. true };
+
+    ghost has_control = { λ it. IsTrue it.desk.is_open };
 
     ghost failed = { M.failed };
 
@@ -114,7 +194,7 @@ impl<'a, 'w, M: Machine> Handler for FollowDesk<'a, 'w, M> {
     ghost not_waited = { M.not_waited };
 
     fn has_control_socket(&self) -> bool {
-        self.has_control
+        self.has_control && self.desk.is_open
     }
 
     fn millis(&self) -> Result<u64, EventLoopFault> {
@@ -142,14 +222,13 @@ impl<'a, 'w, M: Machine> Handler for FollowDesk<'a, 'w, M> {
         let Ok(now) = self.desk.machine.moment() else {
             return Err(EventLoopFault);
         };
-        let status = self.follower.status(self.desk.millis()?);
+        let millis = self.read_millis()?;
         let mut tally = self.desk.tally.get();
         let begun = answer_http::<M>(
             self.desk.alloc,
             &mut self.desk.office,
             self.desk.machine,
-            true,
-            Some(status),
+            DeskKind::Following(self.follower.status(millis)),
             &mut tally,
             &mut self.desk.admission,
             self.desk.connection_totals.get(),
@@ -179,15 +258,17 @@ impl<'a, 'w, M: Machine> Handler for FollowDesk<'a, 'w, M> {
         last_reason: &mut Vec<u8>,
     ) -> Result<LineReplies, EventLoopFault> {
         let line = first_line(lines);
-        let now = self.desk.millis()?;
-        match self.refusal_of(line, now) {
-            Some(why) => self.refuse(line, why, last_reason),
-            None => self.desk.answer_lines(line, last_reason),
+        match self.answer_line(line, last_reason) {
+            Ok(text) => Ok(LineReplies {
+                length: line.len(),
+                text,
+            }),
+            Err(fault) => Err(fault),
         }
     }
 
     fn defer(&mut self, line: &[u8]) -> Option<Deferred<LineTicket>> {
-        let Ok(now) = self.desk.millis() else {
+        let Ok(now) = self.read_millis() else {
             return None;
         };
         match self.refusal_of(line, now) {
@@ -207,8 +288,16 @@ impl<'a, 'w, M: Machine> Handler for FollowDesk<'a, 'w, M> {
         deferred: Deferred<LineTicket>,
         request: Option<SignatureRequest>,
     ) -> Result<Option<Vec<u8>>, EventLoopFault> {
-        self.desk
-            .answer_deferred(line, last_reason, deferred, request)
+        let now = self.read_millis()?;
+        match self.refusal_of(line, now) {
+            Some(why) => match self.refuse(line, why, last_reason) {
+                Ok(text) => Ok(Some(text)),
+                Err(fault) => Err(fault),
+            },
+            None => self
+                .desk
+                .answer_deferred(line, last_reason, deferred, request),
+        }
     }
 
     fn holds_replies(&self) -> bool {
@@ -224,8 +313,9 @@ impl<'a, 'w, M: Machine> Handler for FollowDesk<'a, 'w, M> {
     }
 
     fn work(&mut self, registry: &Registry, now: u64) -> Result<u64, EventLoopFault> {
+        let millis = self.read_millis()?;
         self.follower
-            .work::<M>(&mut self.desk.office, self.desk.machine, registry, now)
+            .work::<M>(&mut self.desk.office, self.desk.machine, registry, millis)
     }
 
     fn keep_counts(&self, connection_counts: ConnectionCounts) {

@@ -1,5 +1,11 @@
 //! A follower: it asks a leader for changes, keeps the pages in memory up to the one that ends the feed, and then has its office enter them.
 
+ghost use Rattle.std.specs.Prelude.{◌≡◌, ◌*◌, min, None, Some, Ok, IfErr, IfOk, IsTrue, OnErr, OnOk, is_some};
+ghost use Rattle.reg_desk_metrics.specs.Tallies.{greatest};
+ghost use Rattle.reg_office_api.specs.Follows.{FollowStep, FormsSign};
+ghost use Rattle.reg_desk_service.specs.ExpectedCrls.{ExpectsCrls, LeadsWithCrls};
+ghost use Rattle.reg_desk_service.specs.Following.{SendsRequest, FollowsAt, KeepsProgress, KeepsRecords, LastEnds, Reaches, TakesResponse, has_diverged, is_current_at, reached_within, progress_at};
+
 use crate::machine::Machine;
 use mio::Registry;
 use reg_core::Decimal;
@@ -9,7 +15,7 @@ use reg_desk_cli::{Failure, LeaderAddress};
 use reg_desk_metrics::{FeedFailure, FollowerStatus};
 use reg_desk_server::{EventLoopFault, FeedExchange, FeedProgress, LeaderStream};
 use reg_http_head::{ResponseHead, status};
-use reg_office_api::{BrokenFeed, FeedPart, FeedRule, Office};
+use reg_office_api::{BrokenFeed, FeedPart, FeedRule, FollowFault, Office};
 use std::alloc::{AllocError, Global};
 
 /// How many milliseconds pass after the end of the feed before the follower asks again, if there was no news.
@@ -54,7 +60,7 @@ pub struct Follower<'a, 'w> {
 }
 
 impl<'a, 'w> Follower<'a, 'w> {
-    /// A follower whose records have these positions; it has not asked yet. `lag` is in seconds.
+    /// A follower whose records have these positions; it has not reached its leader yet. `lag` is in seconds.
     pub fn new(
         alloc: Global,
         leader: &'a LeaderAddress<'w>,
@@ -62,7 +68,12 @@ impl<'a, 'w> Follower<'a, 'w> {
         own: Positions,
         number: u64,
         now: u64,
-    ) -> Follower<'a, 'w> {
+    ) -> Follower<'a, 'w>
+        ensures lag { result.lag ≡ min (lag * 1000) greatest }
+        ensures own { result.own ≡ own }
+        ensures reached_at { result.reached_at ≡ None }
+        ensures stop { result.stop ≡ None }
+    {
         Follower {
             alloc,
             leader,
@@ -85,19 +96,26 @@ impl<'a, 'w> Follower<'a, 'w> {
     }
 
     /// Why the program ends, if it must.
-    pub fn stop(&self) -> Option<Failure> {
+    pub fn stop(&self) -> Option<Failure>
+        ensures { result ≡ self.now.stop }
+    {
         self.stop
     }
 
     /// Whether answers are given: the records are those of the leader at some moment within the lag.
-    pub fn is_current(&self, now: u64) -> bool {
+    pub fn is_current(&self, now: u64) -> bool
+        ensures { result ≡ is_current_at self.now now }
+    {
         match self.reached_at {
             Some(reached_at) => now.saturating_sub(reached_at) <= self.lag,
             None => false,
         }
     }
 
-    pub fn status(&self, now: u64) -> FollowerStatus {
+    /// Its progress at `now`, in milliseconds of the monotonic clock.
+    pub fn status(&self, now: u64) -> FollowerStatus
+        ensures { result ≡ progress_at self.now now }
+    {
         let since = self.reached_at.unwrap_or(self.started_at);
         FollowerStatus {
             is_current: self.is_current(now),
@@ -105,7 +123,7 @@ impl<'a, 'w> Follower<'a, 'w> {
             positions: self.own,
             entered: self.entered,
             refused: self.refused,
-            is_diverged: self.stop == Some(Failure::Diverged),
+            is_diverged: is_diverged(self.stop),
             failure: self.failure,
         }
     }
@@ -118,30 +136,44 @@ impl<'a, 'w> Follower<'a, 'w> {
         machine: &M,
         registry: &Registry,
         now: u64,
-    ) -> Result<u64, EventLoopFault> {
+    ) -> Result<u64, EventLoopFault>
+        ensures follows { FollowsAt M.Office.Office now self.old self.new office.old office.new }
+        ensures ends { OnErr result (IsTrue (is_some self.new.stop)) }
+    {
         if self.stop.is_some() && !self.is_current(now) {
             return Err(EventLoopFault);
         }
-        if self.exchange.is_none() {
-            if now < self.next_at {
-                return Ok(self.next_at.saturating_sub(now));
-            }
-            self.ask::<M>(machine, registry, now);
+        if self.exchange.is_some() {
+            return Ok(self.go_on::<M>(office, machine, now));
         }
+        if now < self.next_at {
+            return Ok(self.next_at.saturating_sub(now));
+        }
+        self.ask::<M>(machine, registry, now);
+        Ok(self.go_on::<M>(office, machine, now))
+    }
+
+    /// Receives, and enters what was received. Returns within how many milliseconds there is more to do.
+    fn go_on<M: Machine>(&mut self, office: &mut M::Office, machine: &M, now: u64) -> u64
+        ensures { TakesResponse M.Office.Office self.old self.new office.old office.new }
+    {
         match self.advance(now) {
-            FeedProgress::Waiting(millis) => return Ok(millis),
+            FeedProgress::Waiting(millis) => millis,
             FeedProgress::Failed => {
-                self.exchange = None;
                 self.fail::<M>(machine, FeedFailure::Unreachable, now);
+                self.next_at.saturating_sub(now)
             }
             FeedProgress::Arrived(head) => {
                 self.receive::<M>(office, machine, head, now);
+                self.next_at.saturating_sub(now)
             }
         }
-        Ok(self.next_at.saturating_sub(now))
     }
 
-    fn ask<M: Machine>(&mut self, machine: &M, registry: &Registry, now: u64) {
+    fn ask<M: Machine>(&mut self, machine: &M, registry: &Registry, now: u64)
+        ensures asked { self.new ≡ record self.old { asked_at = self.new.asked_at; exchange = self.new.exchange } }
+        ensures at { self.new.asked_at ≡ now }
+    {
         self.asked_at = now;
         self.exchange = self.asked::<M>(machine, registry, now);
     }
@@ -159,7 +191,9 @@ impl<'a, 'w> Follower<'a, 'w> {
         Some(FeedExchange::new(self.alloc, stream, request, now))
     }
 
-    fn advance(&mut self, now: u64) -> FeedProgress {
+    fn advance(&mut self, now: u64) -> FeedProgress
+        ensures { KeepsProgress self.old self.new }
+    {
         match &mut self.exchange {
             Some(exchange) => exchange.advance(now),
             None => FeedProgress::Failed,
@@ -168,7 +202,10 @@ impl<'a, 'w> Follower<'a, 'w> {
 
     /// Drops the pages that are kept, and asks again later, from the own records on. Reports the failure unless the last request failed in the same
     /// way.
-    fn fail<M: Machine>(&mut self, machine: &M, failure: FeedFailure, now: u64) {
+    fn fail<M: Machine>(&mut self, machine: &M, failure: FeedFailure, now: u64)
+        ensures { KeepsProgress self.old self.new }
+    {
+        self.exchange = None;
         self.pages.clear();
         self.bytes = 0;
         self.after = self.own;
@@ -186,26 +223,40 @@ impl<'a, 'w> Follower<'a, 'w> {
         machine: &M,
         head: ResponseHead,
         now: u64,
-    ) {
+    )
+        ensures { TakesResponse M.Office.Office self.old self.new office.old office.new }
+    {
         let Some(exchange) = self.exchange.take() else {
             return;
         };
         match head.status {
-            status::OK => match self.take_page::<M>(office, machine, exchange.body(head), now) {
-                Ok(()) => {}
-                Err(failure) => {
-                    self.refused = self.refused.saturating_add(1);
-                    self.fail::<M>(machine, failure, now);
-                }
-            },
-            status::CONFLICT => {
-                // If pages are kept, only the positions after them may be unknown, as after the leader was replaced.
-                if self.pages.is_empty() {
-                    self.stop = Some(Failure::Diverged);
-                }
-                self.fail::<M>(machine, FeedFailure::Status(head.status), now);
+            status::OK => self.take_body::<M>(office, machine, exchange.body(head), now),
+            status::CONFLICT => self.take_conflict::<M>(machine, now),
+            code => self.fail::<M>(machine, FeedFailure::Status(code), now),
+        }
+    }
+
+    /// The leader answered 409 (`diverged`).
+    fn take_conflict<M: Machine>(&mut self, machine: &M, now: u64)
+        ensures { KeepsProgress self.old self.new }
+    {
+        // If pages are kept, only the positions after them may be unknown, as after the leader was replaced.
+        if self.pages.is_empty() {
+            self.stop = Some(Failure::Diverged);
+        }
+        self.fail::<M>(machine, FeedFailure::Status(status::CONFLICT), now);
+    }
+
+    /// Takes the page that is the body of a response. If it is refused, counts and reports that.
+    fn take_body<M: Machine>(&mut self, office: &mut M::Office, machine: &M, body: &[u8], now: u64)
+        ensures { TakesResponse M.Office.Office self.old self.new office.old office.new }
+    {
+        match self.take_page::<M>(office, machine, body, now) {
+            Ok(()) => {}
+            Err(failure) => {
+                self.refused = self.refused.saturating_add(1);
+                self.fail::<M>(machine, failure, now);
             }
-            _ => self.fail::<M>(machine, FeedFailure::Status(head.status), now),
         }
     }
 
@@ -216,25 +267,47 @@ impl<'a, 'w> Follower<'a, 'w> {
         machine: &M,
         body: &[u8],
         now: u64,
-    ) -> Result<(), FeedFailure> {
+    ) -> Result<(), FeedFailure>
+        ensures ok { OnOk result (TakesResponse M.Office.Office self.old self.new office.old office.new) }
+        ensures err { OnErr result (KeepsProgress self.old self.new) }
+        ensures kept { OnErr result (KeepsRecords M.Office.Office office.old office.new) }
+    {
         let page = match read_feed_page(self.alloc, body) {
             Ok(page) => page,
             Err(fault) => return Err(FeedFailure::from(fault)),
         };
         let ends = page.ends;
+        self.keep_page(page, body.len(), now)?;
+        if ends {
+            self.enter::<M>(office, machine, now)
+        } else {
+            self.check_room()
+        }
+    }
+
+    /// Keeps a page. An error if it does not end the feed and does not lead on either.
+    fn keep_page(&mut self, page: ReceivedPage, length: usize, now: u64) -> Result<(), FeedFailure>
+        ensures kept { KeepsProgress self.old self.new }
+        ensures ends { OnOk result (IsTrue page.ends → LastEnds self.new.pages.items) }
+    {
         let positions = page.positions;
-        if !ends && positions == self.after {
+        if !page.ends && positions == self.after {
             return Err(FeedFailure::Broken(no_progress()));
         }
-        self.bytes = self.bytes.saturating_add(body.len() as u64);
-        if self.pages.push(page).is_err() {
-            return Err(FeedFailure::Memory);
+        self.bytes = self.bytes.saturating_add(length as u64);
+        match self.pages.push(page) {
+            Ok(()) => {}
+            Err(_) => return Err(FeedFailure::Memory),
         }
         self.after = positions;
         self.next_at = now;
-        if ends {
-            return self.enter::<M>(office, machine, now);
-        }
+        Ok(())
+    }
+
+    /// An error if the leader has more changes than are kept in memory.
+    fn check_room(&mut self) -> Result<(), FeedFailure>
+        ensures { KeepsProgress self.old self.new }
+    {
         if self.pages.len() >= MOST_PAGES || self.bytes > MOST_BYTES {
             self.stop = Some(Failure::TooFarBehind);
             return Err(FeedFailure::TooFarBehind);
@@ -248,31 +321,75 @@ impl<'a, 'w> Follower<'a, 'w> {
         office: &mut M::Office,
         machine: &M,
         now: u64,
-    ) -> Result<(), FeedFailure> {
-        if let Some(algorithm) = algorithm_in(&self.pages) {
-            machine.expect_crls(office, algorithm);
-        }
-        match office.follow(self.alloc, &self.own, &self.pages) {
+    ) -> Result<(), FeedFailure>
+        requires { LastEnds self.old.pages.items }
+        ensures ok { OnOk result (Reaches M.Office.Office self.old self.new office.old office.new) }
+        ensures err { OnErr result (self.new ≡ self.old) }
+        ensures kept { OnErr result (KeepsRecords M.Office.Office office.old office.new) }
+    {
+        match self.enter_pages::<M>(office, machine) {
             Ok(positions) => {
-                // After news, the follower asks again at once: by that the leader knows that they are on the follower's disk.
-                let pause = if positions == self.own {
-                    PAUSE_MILLIS
-                } else {
-                    0
-                };
-                self.own = positions;
-                self.after = positions;
-                self.reached_at = Some(self.asked_at);
-                self.entered = self.entered.saturating_add(self.pages.len() as u64);
-                self.failure = None;
-                self.stop = None;
-                self.pages.clear();
-                self.bytes = 0;
-                self.next_at = now.saturating_add(pause);
+                self.keep_reached(positions, now);
                 Ok(())
             }
             Err(fault) => Err(FeedFailure::from(fault)),
         }
+    }
+
+    /// The office enters the pages that are kept. If they have a CRL, it first gets the algorithm of CRLs to expect.
+    fn enter_pages<M: Machine>(
+        &self,
+        office: &mut M::Office,
+        machine: &M,
+    ) -> Result<Positions, FollowFault>
+        ensures { FormsSign M.Office.Office.signs M.Office.Office.forms
+            → LeadsWithCrls M.Office.Office (FollowStep self.now.own self.now.pages.items result) office.old office.new }
+    {
+        expect_crls_of::<M>(office, machine, &self.pages);
+        office.follow(self.alloc, &self.own, &self.pages)
+    }
+
+    /// The pages that are kept were entered.
+    fn keep_reached(&mut self, positions: Positions, now: u64)
+        ensures own { self.new.own ≡ positions }
+        ensures lag { self.new.lag ≡ self.old.lag }
+        ensures asked_at { self.new.asked_at ≡ self.old.asked_at }
+        ensures reached_at { self.new.reached_at ≡ Some self.old.asked_at }
+    {
+        // After news, the follower asks again at once: by that the leader knows that they are on the follower's disk.
+        let pause = if positions == self.own {
+            PAUSE_MILLIS
+        } else {
+            0
+        };
+        self.own = positions;
+        self.after = positions;
+        self.reached_at = Some(self.asked_at);
+        self.entered = self.entered.saturating_add(self.pages.len() as u64);
+        self.failure = None;
+        self.stop = None;
+        self.pages.clear();
+        self.bytes = 0;
+        self.next_at = now.saturating_add(pause);
+    }
+}
+
+/// Lets the office enter the CRLs of pages, if they have any.
+fn expect_crls_of<M: Machine>(office: &mut M::Office, machine: &M, pages: &[ReceivedPage])
+    ensures { ExpectsCrls M.Office.Office office.old office.new }
+{
+    match algorithm_in(pages) {
+        Some(algorithm) => machine.expect_crls(office, algorithm),
+        None => {}
+    }
+}
+
+fn is_diverged(stop: Option<Failure>) -> bool
+    ensures { result ≡ has_diverged stop }
+{
+    match stop {
+        Some(Failure::Diverged) => true,
+        _ => false,
     }
 }
 

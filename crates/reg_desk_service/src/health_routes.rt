@@ -35,7 +35,8 @@ use reg_lines::LineKind;
 use reg_office_api::Office;
 use std::alloc::Global;
 
-const PROMETHEUS: &str = "text/plain; version=0.0.4; charset=utf-8";
+/// The media type of the metrics.
+pub(crate) const PROMETHEUS: &str = "text/plain; version=0.0.4; charset=utf-8";
 
 /// Answers `/health` at `now`: 200 if all is well, else 503; 405 if not GET. `accepted`: the moment in the last control line `accept-clock`, if any.
 pub(crate) fn answer_health<M: Machine>(
@@ -130,7 +131,7 @@ fn metrics_at<M: Machine>(
 }
 
 /// Counts of certificates by status, when the next CRL is due, and the register's summary. Keeps in the tally whether the latest CRL is signed.
-fn found_at<M: Machine>(
+pub(crate) fn found_at<M: Machine>(
     alloc: Global,
     office: &mut M::Office,
     now: Moment,
@@ -349,7 +350,12 @@ fn overdue_count_of(overdue: Option<Overdue>) -> u64
 }
 
 /// Counts the open and the overdue requests for revocation, unless the last counts are under a minute old. If counting fails, the last counts stay.
-fn recount<M: Machine>(alloc: Global, office: &mut M::Office, now: Moment, tally: &mut Tally)
+pub(crate) fn recount<M: Machine>(
+    alloc: Global,
+    office: &mut M::Office,
+    now: Moment,
+    tally: &mut Tally,
+)
     ensures moves { LooksIn M.Office.Office (λ records. Recounts records now tally.old tally.new)
         office.old office.new }
     ensures recounted { IsCounted tally.old tally.new }

@@ -1,7 +1,7 @@
 //! Answers the bytes that came on an HTTP connection. `HttpAnswer` is a finished answer, and `Exchange` has its text. `Draft` is an OCSP response to
 //! be signed; `UnsignedResponse` has its route, too, and `Unsigned` also the data for the log and the counts.
 
-ghost use Rattle.std.specs.Prelude.{◌≡◌};
+ghost use Rattle.std.specs.Prelude.{◌≡◌, cond};
 ghost use Rattle.reg_office_api.specs.Calls.{LeadsIn};
 ghost use Rattle.reg_http_head.specs.Bytes.{collected_bytes};
 ghost use Rattle.reg_http_head.specs.Frame.{asked};
@@ -14,7 +14,7 @@ ghost use Rattle.reg_desk_server.specs.Outcomes.{outcome_of};
 ghost use Rattle.reg_desk_service.specs.RequestOutcomes.{AnswersBegun, BeginsAt, IsBegunRoute, ready_of};
 ghost use Rattle.reg_desk_service.specs.Counted.{CountsBegun};
 ghost use Rattle.reg_desk_service.specs.Admission.{CountsRequest};
-ghost use Rattle.reg_desk_service.specs.Exchanges.{admission_after, dispatch};
+ghost use Rattle.reg_desk_service.specs.Exchanges.{admission_after, dispatch, dispatch_following, dispatch_open, kind_of_desk};
 ghost use Rattle.reg_desk_service.specs.SignerAnswers.{AnsweredAtSomePath};
 ghost use Rattle.reg_desk_service.specs.HealthRoutes.{IsRecounted};
 ghost use Rattle.reg_desk_metrics.specs.declared.tally.Tally.{Tally as Tallies};
@@ -22,7 +22,7 @@ ghost use Rattle.reg_io.specs.declared.begun.ReadyOrUnsigned.{ReadyOrUnsigned as
 
 use crate::admission::{Admission, begin_admitted};
 use crate::exchange_log::log_exchange;
-use crate::follower_routes::begin_following;
+use crate::follower_routes::{follower_health, follower_metrics};
 use crate::health_routes::{answer_health, answer_metrics};
 use crate::machine::Machine;
 use crate::unsigned_responses::{Unsigned, unsigned_of};
@@ -31,17 +31,38 @@ use reg_core::{Fault, Memory, Moment};
 use reg_desk_metrics::{ConnectionTotals, FollowerStatus, Tally};
 use reg_http::{
     Exchange, HttpAnswer, Route, UnsignedResponse, answer_changes, answer_list, begin,
-    begun_exchange, refuse, text_buffer,
+    begun_exchange, refuse, text_buffer, try_later,
 };
-use reg_http_head::{Collected, RequestRef};
+use reg_http_head::{Collected, RequestRef, status};
 use reg_io::ReadyOrUnsigned;
 use reg_ocsp::Draft;
 use reg_office_api::{Office, SignatureOutcome};
 use std::alloc::Global;
 use std::net::SocketAddr;
 
-/// The part of the desk that answers a request. In `desk open` (`is_open`), the route decides. In `desk serve`, the register answers all.
-#[derive(Clone, Copy, PartialEq, Eq)]
+/// The desk that answers: that of `serve`, that of `open`, or a follower in this state.
+#[derive(Clone, Copy)]
+pub(crate) enum DeskKind {
+    Serving,
+    Open,
+    Following(FollowerStatus),
+}
+
+impl DeskKind {
+    /// The desk of `open` (`is_open`) or `serve`.
+    pub(crate) fn of(is_open: bool) -> DeskKind
+        ensures { result ≡ kind_of_desk is_open }
+    {
+        if is_open {
+            DeskKind::Open
+        } else {
+            DeskKind::Serving
+        }
+    }
+}
+
+/// The part of the desk that answers a request. In `desk serve`, the register answers all. Else the route decides; with a follower, also its lag.
+#[derive(Clone, Copy)]
 pub(crate) enum Dispatch {
     ToRegister,
     /// Refuses requests for revocation beyond the limits, and passes the others to the register.
@@ -50,14 +71,54 @@ pub(crate) enum Dispatch {
     ToHealth,
     ToMetrics,
     ToChanges,
+    ToFollowerHealth(FollowerStatus),
+    ToFollowerMetrics(FollowerStatus),
+    /// A follower refuses the request: an OCSP request with tryLater, another one with this status code.
+    TryLater,
+    Refuse(u16),
 }
 
-fn dispatch_of(is_open: bool, route: Route) -> Dispatch
-    ensures { result ≡ dispatch is_open route }
+fn dispatch_of(kind: DeskKind, route: Route) -> Dispatch
+    ensures { result ≡ dispatch kind route }
 {
-    if !is_open {
-        return Dispatch::ToRegister;
+    match kind {
+        DeskKind::Serving => Dispatch::ToRegister,
+        DeskKind::Open => open_dispatch(route),
+        DeskKind::Following(follower) => follower_dispatch(follower, route),
     }
+}
+
+fn follower_dispatch(follower: FollowerStatus, route: Route) -> Dispatch
+    ensures { result ≡ dispatch_following follower route }
+{
+    match route {
+        Route::Health => Dispatch::ToFollowerHealth(follower),
+        Route::Metrics => Dispatch::ToFollowerMetrics(follower),
+        Route::Changes => Dispatch::Refuse(status::NOT_FOUND),
+        Route::Requests => Dispatch::Refuse(status::SERVICE_UNAVAILABLE),
+        Route::Ocsp => if_current(follower, route, Dispatch::TryLater),
+        Route::OcspRest => if_current(follower, route, Dispatch::TryLater),
+        _ => if_current(
+            follower,
+            route,
+            Dispatch::Refuse(status::SERVICE_UNAVAILABLE),
+        ),
+    }
+}
+
+fn if_current(follower: FollowerStatus, route: Route, otherwise: Dispatch) -> Dispatch
+    ensures { result ≡ cond follower.is_current (dispatch_open route) otherwise }
+{
+    if follower.is_current {
+        open_dispatch(route)
+    } else {
+        otherwise
+    }
+}
+
+fn open_dispatch(route: Route) -> Dispatch
+    ensures { result ≡ dispatch_open route }
+{
     match route {
         Route::Requests => Dispatch::ToLimits,
         Route::List => Dispatch::ToList,
@@ -70,13 +131,11 @@ fn dispatch_of(is_open: bool, route: Route) -> Dispatch
 
 /// Answers at `now` the bytes that came on a connection, counts the exchange in `tally`, and logs it if there is a log. If the response needs a
 /// signature, `finish_http` counts and logs it later instead. `connection_totals`: for `/metrics`. `admission`: for the limits of `/requests`.
-/// `follower`: the state of a follower; `None` for another desk.
 pub(crate) fn answer_http<M: Machine>(
     alloc: Global,
     office: &mut M::Office,
     machine: &M,
-    is_open: bool,
-    follower: Option<FollowerStatus>,
+    kind: DeskKind,
     tally: &mut Tally,
     admission: &mut Admission,
     connection_totals: ConnectionTotals,
@@ -88,7 +147,7 @@ pub(crate) fn answer_http<M: Machine>(
         × IsRecounted tally.old asked
         × LeadsIn M.Office.Office
         (λ signers before after.
-        AnswersBegun (AnsweredAtSomePath M.signer_answered) is_open M.Office.signs now
+        AnswersBegun (AnsweredAtSomePath M.signer_answered) kind M.Office.signs now
         admission.old admission.new signers before (collected_bytes request.now) begun after)
         office.old office.new
         × CountsBegun now (collected_bytes request.now) begun (outcome_of result) asked tally.new }
@@ -97,8 +156,7 @@ pub(crate) fn answer_http<M: Machine>(
     match exchange_at::<M>(
         alloc,
         office,
-        is_open,
-        follower,
+        kind,
         tally,
         admission,
         connection_totals,
@@ -131,8 +189,7 @@ pub(crate) fn answer_http<M: Machine>(
 fn exchange_at<M: Machine>(
     alloc: Global,
     office: &mut M::Office,
-    is_open: bool,
-    follower: Option<FollowerStatus>,
+    kind: DeskKind,
     tally: &mut Tally,
     admission: &mut Admission,
     connection_totals: ConnectionTotals,
@@ -141,7 +198,7 @@ fn exchange_at<M: Machine>(
 ) -> ReadyOrUnsigned<Exchange, UnsignedResponse>
     ensures moves { LeadsIn M.Office.Office
         (λ signers before after.
-        AnswersBegun (AnsweredAtSomePath M.signer_answered) is_open M.Office.signs now
+        AnswersBegun (AnsweredAtSomePath M.signer_answered) kind M.Office.signs now
         admission.old admission.new signers before (collected_bytes request.now) result after)
         office.old office.new }
     ensures route { IsBegunRoute (collected_bytes request.now) result }
@@ -159,34 +216,19 @@ fn exchange_at<M: Machine>(
             },
         ) => {
             let route = Route::of(target);
-            let begun = match follower {
-                Some(status) => begin_following::<M>(
-                    alloc,
-                    office,
-                    &status,
-                    tally,
-                    admission,
-                    connection_totals,
-                    now,
-                    route,
-                    &method,
-                    target,
-                    body,
-                ),
-                None => begin_at::<M>(
-                    alloc,
-                    office,
-                    is_open,
-                    tally,
-                    admission,
-                    connection_totals,
-                    now,
-                    route,
-                    &method,
-                    target,
-                    body,
-                ),
-            };
+            let begun = begin_at::<M>(
+                alloc,
+                office,
+                kind,
+                tally,
+                admission,
+                connection_totals,
+                now,
+                route,
+                &method,
+                target,
+                body,
+            );
             begun_exchange(route, room, begun, now)
         }
         Ok(RequestRef::Refused(status)) => {
@@ -211,9 +253,7 @@ fn empty(alloc: Global, request: &Collected) -> Exchange
     Exchange::empty(alloc, route, SignatureOutcome::NotRequested)
 }
 
-pub(crate) fn ready(
-    answered: Result<HttpAnswer, Memory>,
-) -> Result<ReadyOrUnsigned<HttpAnswer, Draft>, Memory>
+fn ready(answered: Result<HttpAnswer, Memory>) -> Result<ReadyOrUnsigned<HttpAnswer, Draft>, Memory>
     ensures { result ≡ ready_of answered }
 {
     match answered {
@@ -223,10 +263,10 @@ pub(crate) fn ready(
 }
 
 /// Answers at `now` a request at a route, or leaves a response to be signed. `admission.accepted`: the moment in the last line `accept-clock`.
-pub(crate) fn begin_at<M: Machine>(
+fn begin_at<M: Machine>(
     alloc: Global,
     office: &mut M::Office,
-    is_open: bool,
+    kind: DeskKind,
     tally: &mut Tally,
     admission: &mut Admission,
     connection_totals: ConnectionTotals,
@@ -239,15 +279,15 @@ pub(crate) fn begin_at<M: Machine>(
     requires { route ≡ route_at (path_of target.now) }
     ensures moves { LeadsIn M.Office.Office
         (λ signers before after.
-        BeginsAt is_open M.Office.signs now admission.old signers before method.now target.now body.now
+        BeginsAt kind M.Office.signs now admission.old signers before method.now target.now body.now
         result after)
         office.old office.new }
     ensures counted { CountsRequest result
-        (admission_after is_open now (asked method.now target.now body.now) admission.old)
+        (admission_after kind now (asked method.now target.now body.now) admission.old)
         admission.old admission.new }
     ensures recounted { IsRecounted tally.old tally.new }
 {
-    match dispatch_of(is_open, route) {
+    match dispatch_of(kind, route) {
         Dispatch::ToRegister => begin(alloc, method, target, body, now, office),
         Dispatch::ToLimits => {
             begin_admitted::<M>(alloc, office, admission, now, method, target, body)
@@ -261,5 +301,19 @@ pub(crate) fn begin_at<M: Machine>(
         Dispatch::ToMetrics => {
             ready(answer_metrics::<M>(alloc, office, method, now, tally, connection_totals))
         }
+        Dispatch::ToFollowerHealth(follower) => {
+            ready(follower_health::<M>(alloc, office, &follower, method, now, tally))
+        }
+        Dispatch::ToFollowerMetrics(follower) => ready(follower_metrics::<M>(
+            alloc,
+            office,
+            &follower,
+            method,
+            now,
+            tally,
+            connection_totals,
+        )),
+        Dispatch::TryLater => ready(try_later(alloc)),
+        Dispatch::Refuse(code) => ready(refuse(alloc, code)),
     }
 }

@@ -1,9 +1,13 @@
 //! The kinds of lines at the control socket: commands, queries and others.
 
+ghost use Rattle.std.specs.Prelude.{◌≡◌, IfOk, length, take};
+ghost use Rattle.reg_desk_server.specs.LineEnds.{FirstLineEnds, IsWholeLines};
+ghost use Rattle.reg_desk_service.specs.Following.{IsLineKind, IsTextKind};
+
 use crate::words::{ControlWord, read_control_line};
 use reg_desk_server::line_end;
 use reg_lines::{ParsedLine, read_line};
-use std::alloc::Global;
+use std::alloc::{AllocError, Global};
 
 /// The kind of a line at the control socket.
 #[derive(Clone, Copy, PartialEq, Eq)]
@@ -16,20 +20,27 @@ pub(crate) enum LineKind {
     Other,
 }
 
-pub(crate) fn kind_of(alloc: Global, line: &[u8]) -> LineKind {
+/// The kind of a line. [`AllocError`] if there is no memory to read it.
+pub(crate) fn kind_of(alloc: Global, line: &[u8]) -> Result<LineKind, AllocError>
+    ensures { IfOk result (IsLineKind line.now) }
+{
     match read_control_line(alloc, line) {
-        Ok(ControlWord::Help) | Ok(ControlWord::Why) | Ok(ControlWord::Copy(_)) => LineKind::Other,
-        Ok(ControlWord::Show(_)) => LineKind::Query,
-        Ok(ControlWord::Decide(_)) => LineKind::Command,
-        Ok(ControlWord::AcceptClock(_)) => LineKind::Command,
-        Ok(ControlWord::Schedule(_)) => LineKind::Command,
-        Ok(ControlWord::Line(Some(text))) => kind_of_text(text),
-        Ok(ControlWord::Line(None)) => LineKind::Other,
-        Err(_) => LineKind::Query,
+        Ok(ControlWord::Help) => Ok(LineKind::Other),
+        Ok(ControlWord::Why) => Ok(LineKind::Other),
+        Ok(ControlWord::Copy(_)) => Ok(LineKind::Other),
+        Ok(ControlWord::Show(_)) => Ok(LineKind::Query),
+        Ok(ControlWord::Decide(_)) => Ok(LineKind::Command),
+        Ok(ControlWord::AcceptClock(_)) => Ok(LineKind::Command),
+        Ok(ControlWord::Schedule(_)) => Ok(LineKind::Command),
+        Ok(ControlWord::Line(Some(text))) => Ok(kind_of_text(text)),
+        Ok(ControlWord::Line(None)) => Ok(LineKind::Other),
+        Err(fault) => Err(fault),
     }
 }
 
-fn kind_of_text(text: &[u8]) -> LineKind {
+fn kind_of_text(text: &[u8]) -> LineKind
+    ensures { IsTextKind text.now result }
+{
     match read_line(text) {
         Some(ParsedLine::Command(_)) => LineKind::Command,
         Some(ParsedLine::Query(_)) => LineKind::Query,
@@ -38,7 +49,19 @@ fn kind_of_text(text: &[u8]) -> LineKind {
     }
 }
 
-pub(crate) fn first_line(lines: &[u8]) -> &[u8] {
+/// The bytes up to the first line end, with it; all bytes if there is none.
+pub(crate) fn before_line_end(lines: &[u8]) -> &[u8] {
+    match line_end(lines) {
+        Some(end) => &lines[..end],
+        None => lines,
+    }
+}
+
+/// The first of some whole lines.
+pub(crate) fn first_line(lines: &[u8]) -> &[u8]
+    requires { IsWholeLines lines.now }
+    ensures { FirstLineEnds lines.now (length result.now) × (result.now ≡ take (length result.now) lines.now) }
+{
     match line_end(lines) {
         Some(end) => &lines[..end],
         None => lines,

@@ -36,7 +36,7 @@ pub trait Machine {
     ghost use Rattle.reg_desk_cli.specs.declared.failure.Failure.{Failure as Failing};
     ghost use Rattle.reg_audit_rows.specs.declared.audit_result.AuditResult.{AuditResult as AuditResults};
     ghost use Rattle.reg_desk_service.specs.Clocks.{IsClockMoment};
-    ghost use Rattle.reg_desk_service.specs.Following.{ExpectsCrls};
+    ghost use Rattle.reg_desk_service.specs.ExpectedCrls.{ExpectsCrls};
     ghost use Rattle.reg_desk_service.specs.SignerAnswers.{AnsweredAtSomePath};
     ghost use Rattle.reg_desk_service.specs.RegisterFailures.{IsCreateFailure, IsOpenFailure, IsReadFailure};
     ghost use Rattle.reg_desk_service.specs.Signers.{HasCertificate};
@@ -103,6 +103,8 @@ pub trait Machine {
     ghost clock_read: { ℕ → Type 0 };
 
     ghost clock_reached: { ℕ → Type 0 };
+    /// The monotonic clock showed this number of milliseconds.
+    ghost millis_read: { ℕ → Type 0 };
     /// The system failed: the clock could not be read, or the sockets could not be used.
     ghost failed: { Type 0 };
     /// The program waited for its sockets this number of times, at first 0.
@@ -235,7 +237,8 @@ pub trait Machine {
     fn micros(&self) -> u64;
 
     fn millis(&self) -> io::Result<u64>
-        ensures { OnErr result failed };
+        ensures read { IfOk result millis_read }
+        ensures fails { OnErr result failed };
 
     /// Blocks until a socket is ready, at most for `longest`.
     fn wait(&self, poll: &mut Poll, events: &mut Events, longest: Duration) -> io::Result<()>

@@ -4,21 +4,21 @@ use Rattle.reg_http.specs.RoutedRequests.{asked}
 use Rattle.reg_desk_service.specs.Admission.{BeginsAdmitted}
 use Rattle.reg_desk_service.specs.RequestOutcomes.{BeginsAt}
 use Rattle.reg_desk_service.specs.Exchanges.{dispatch}
-use Rattle.reg_desk_service.specs.declared.http_exchanges.Dispatch.TheVariants.{ToChanges, ToHealth, ToLimits, ToList, ToMetrics, ToRegister}
+use Rattle.reg_desk_service.specs.declared.http_exchanges.Dispatch.TheVariants.{Refuse, ToChanges, ToFollowerHealth, ToFollowerMetrics, ToHealth, ToLimits, ToList, ToMetrics, ToRegister, TryLater}
 use Rattle.reg_desk_service.proofs.Admitting.{was_counted}
 use Rattle.reg_desk_service.proofs.Answering.{counted_at, limited_begins}
 use Rattle.reg_desk_service.proofs.http_exchanges.begin_at.Goals as goal
 
 pub returns-in-ToLimits-clause-moves : goal.returns-in-ToLimits-clause-moves
 returns-in-ToLimits-clause-moves g c =
-    let to = ap (dispatch c.args.is_open) (sym c.requires) ∙ sym c.dispatch_of.ensures ∙ c.in-ToLimits.is in
+    let to = ap (dispatch c.args.kind) (sym c.requires) ∙ sym c.dispatch_of.ensures ∙ c.in-ToLimits.is in
     follows g.M.Office.Office.is_clean g.M.Office.Office.stands
     (λ signers before after. BeginsAdmitted c.args.admission.now g.M.Office.Office.signs c.args.now signers before
     (asked c.args.method.now c.args.target.now c.args.body.now) c.begin_admitted.result after)
-    (λ signers before after. BeginsAt c.args.is_open g.M.Office.Office.signs c.args.now c.args.admission.now signers before c.args.method.now c.args.target.now c.args.body.now
+    (λ signers before after. BeginsAt c.args.kind g.M.Office.Office.signs c.args.now c.args.admission.now signers before c.args.method.now c.args.target.now c.args.body.now
     c.begin_admitted.result after)
     (λ signers before after begun.
-    limited_begins c.args.admission.now c.args.is_open g.M.Office.Office.signs c.args.now signers before c.args.method.now c.args.target.now c.args.body.now
+    limited_begins c.args.admission.now c.args.kind g.M.Office.Office.signs c.args.now signers before c.args.method.now c.args.target.now c.args.body.now
     c.begin_admitted.result after to begun)
     _
     _
@@ -26,31 +26,51 @@ returns-in-ToLimits-clause-moves g c =
 
 pub returns-in-ToLimits-clause-counted : goal.returns-in-ToLimits-clause-counted
 returns-in-ToLimits-clause-counted g c =
-    let to = ap (dispatch c.args.is_open) (sym c.requires) ∙ sym c.dispatch_of.ensures ∙ c.in-ToLimits.is in
-    counted_at c.begin_admitted.result c.args.is_open c.args.now c.args.method.now c.args.target.now c.args.body.now c.args.admission.now _ ToLimits to
+    let to = ap (dispatch c.args.kind) (sym c.requires) ∙ sym c.dispatch_of.ensures ∙ c.in-ToLimits.is in
+    counted_at c.begin_admitted.result c.args.kind c.args.now c.args.method.now c.args.target.now c.args.body.now c.args.admission.now _ ToLimits to
     c.begin_admitted.ensures.counted
 
 pub returns-in-ToRegister-clause-counted : goal.returns-in-ToRegister-clause-counted
 returns-in-ToRegister-clause-counted g c =
-    let to = ap (dispatch c.args.is_open) (sym c.requires) ∙ sym c.dispatch_of.ensures ∙ c.in-ToRegister.is in
-    counted_at _ c.args.is_open c.args.now c.args.method.now c.args.target.now c.args.body.now c.args.admission.now _ ToRegister to (was_counted _ _ _ _ refl)
+    let to = ap (dispatch c.args.kind) (sym c.requires) ∙ sym c.dispatch_of.ensures ∙ c.in-ToRegister.is in
+    counted_at _ c.args.kind c.args.now c.args.method.now c.args.target.now c.args.body.now c.args.admission.now _ ToRegister to (was_counted _ _ _ _ refl)
 
 pub returns-in-ToList-clause-counted : goal.returns-in-ToList-clause-counted
 returns-in-ToList-clause-counted g c =
-    let to = ap (dispatch c.args.is_open) (sym c.requires) ∙ sym c.dispatch_of.ensures ∙ c.in-ToList.is in
-    counted_at _ c.args.is_open c.args.now c.args.method.now c.args.target.now c.args.body.now c.args.admission.now _ ToList to (was_counted _ _ _ _ refl)
+    let to = ap (dispatch c.args.kind) (sym c.requires) ∙ sym c.dispatch_of.ensures ∙ c.in-ToList.is in
+    counted_at _ c.args.kind c.args.now c.args.method.now c.args.target.now c.args.body.now c.args.admission.now _ ToList to (was_counted _ _ _ _ refl)
 
 pub returns-in-ToHealth-clause-counted : goal.returns-in-ToHealth-clause-counted
 returns-in-ToHealth-clause-counted g c =
-    let to = ap (dispatch c.args.is_open) (sym c.requires) ∙ sym c.dispatch_of.ensures ∙ c.in-ToHealth.is in
-    counted_at _ c.args.is_open c.args.now c.args.method.now c.args.target.now c.args.body.now c.args.admission.now _ ToHealth to (was_counted _ _ _ _ refl)
+    let to = ap (dispatch c.args.kind) (sym c.requires) ∙ sym c.dispatch_of.ensures ∙ c.in-ToHealth.is in
+    counted_at _ c.args.kind c.args.now c.args.method.now c.args.target.now c.args.body.now c.args.admission.now _ ToHealth to (was_counted _ _ _ _ refl)
 
 pub returns-in-ToMetrics-clause-counted : goal.returns-in-ToMetrics-clause-counted
 returns-in-ToMetrics-clause-counted g c =
-    let to = ap (dispatch c.args.is_open) (sym c.requires) ∙ sym c.dispatch_of.ensures ∙ c.in-ToMetrics.is in
-    counted_at _ c.args.is_open c.args.now c.args.method.now c.args.target.now c.args.body.now c.args.admission.now _ ToMetrics to (was_counted _ _ _ _ refl)
+    let to = ap (dispatch c.args.kind) (sym c.requires) ∙ sym c.dispatch_of.ensures ∙ c.in-ToMetrics.is in
+    counted_at _ c.args.kind c.args.now c.args.method.now c.args.target.now c.args.body.now c.args.admission.now _ ToMetrics to (was_counted _ _ _ _ refl)
 
 pub returns-in-ToChanges-clause-counted : goal.returns-in-ToChanges-clause-counted
 returns-in-ToChanges-clause-counted g c =
-    let to = ap (dispatch c.args.is_open) (sym c.requires) ∙ sym c.dispatch_of.ensures ∙ c.in-ToChanges.is in
-    counted_at _ c.args.is_open c.args.now c.args.method.now c.args.target.now c.args.body.now c.args.admission.now _ ToChanges to (was_counted _ _ _ _ refl)
+    let to = ap (dispatch c.args.kind) (sym c.requires) ∙ sym c.dispatch_of.ensures ∙ c.in-ToChanges.is in
+    counted_at _ c.args.kind c.args.now c.args.method.now c.args.target.now c.args.body.now c.args.admission.now _ ToChanges to (was_counted _ _ _ _ refl)
+
+pub returns-in-ToFollowerHealth-clause-counted : goal.returns-in-ToFollowerHealth-clause-counted
+returns-in-ToFollowerHealth-clause-counted g c =
+    let to = ap (dispatch c.args.kind) (sym c.requires) ∙ sym c.dispatch_of.ensures ∙ c.in-ToFollowerHealth.is in
+    counted_at _ c.args.kind c.args.now c.args.method.now c.args.target.now c.args.body.now c.args.admission.now _ (ToFollowerHealth c.in-ToFollowerHealth.follower) to (was_counted _ _ _ _ refl)
+
+pub returns-in-ToFollowerMetrics-clause-counted : goal.returns-in-ToFollowerMetrics-clause-counted
+returns-in-ToFollowerMetrics-clause-counted g c =
+    let to = ap (dispatch c.args.kind) (sym c.requires) ∙ sym c.dispatch_of.ensures ∙ c.in-ToFollowerMetrics.is in
+    counted_at _ c.args.kind c.args.now c.args.method.now c.args.target.now c.args.body.now c.args.admission.now _ (ToFollowerMetrics c.in-ToFollowerMetrics.follower) to (was_counted _ _ _ _ refl)
+
+pub returns-in-TryLater-clause-counted : goal.returns-in-TryLater-clause-counted
+returns-in-TryLater-clause-counted g c =
+    let to = ap (dispatch c.args.kind) (sym c.requires) ∙ sym c.dispatch_of.ensures ∙ c.in-TryLater.is in
+    counted_at _ c.args.kind c.args.now c.args.method.now c.args.target.now c.args.body.now c.args.admission.now _ TryLater to (was_counted _ _ _ _ refl)
+
+pub returns-in-Refuse-clause-counted : goal.returns-in-Refuse-clause-counted
+returns-in-Refuse-clause-counted g c =
+    let to = ap (dispatch c.args.kind) (sym c.requires) ∙ sym c.dispatch_of.ensures ∙ c.in-Refuse.is in
+    counted_at _ c.args.kind c.args.now c.args.method.now c.args.target.now c.args.body.now c.args.admission.now _ (Refuse c.in-Refuse.code) to (was_counted _ _ _ _ refl)

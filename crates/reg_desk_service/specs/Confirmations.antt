@@ -1,0 +1,90 @@
+-- When the replies to commands wait for followers, and which requests confirm that a follower has all commands.
+use Rattle.std.specs.Prelude.{◌==◌, ◌&&◌, ◌-◌, ◌+◌, ℕ, nat_le, nat_lt, not, Bool, true, false, cond, List, [], ◌++◌, length, take, drop, is_none, codes, if◌then◌else◌, Option, Some, None, slice_set}
+use Rattle.std.specs.List.{ends_with, list_any, position, starts_with}
+use Rattle.std.specs.Option.{option_or}
+use Rattle.reg_core.specs.Number.{number_of}
+use Rattle.reg_desk_server.specs.Exchange.{Outcome, said, pending, later}
+use Rattle.reg_desk_service.specs.declared.confirmation.Confirmation.{Confirmation}
+
+-- ---- a request that confirms
+
+-- the last line of a response is `end` and these positions: after them, the changes feed has no row
+abbrev pub ends_feed : List ℕ → List ℕ → Bool
+ends_feed response positions =
+    not (length positions == 0) && (ends_with (λ a b. a == b) response (codes "\n")
+    && (ends_with (λ a b. a == b) (take (length response - 1) response) positions
+    && ends_with (λ a b. a == b) (take (length response - 1 - length positions) (take (length response - 1) response))
+    (codes "\nend ")))
+
+-- the number in the parameter `&follower=NUMBER`
+abbrev pub follower_in : List ℕ → Option ℕ
+follower_in parameter =
+    if starts_with (λ a b. a == b) parameter (codes "&follower=") then number_of (drop 10 parameter) else None
+
+-- the follower in `POSITIONS` or `POSITIONS&follower=NUMBER`, by the index of the first `&` (38); without a number it has 0
+abbrev pub confirming_at : List ℕ → List ℕ → Option ℕ → Option ℕ
+confirming_at query response None = if ends_feed response query then Some 0 else None
+confirming_at query response (Some at) =
+    if ends_feed response (take at query) then follower_in (drop at query) else None
+
+abbrev pub confirming_in : List ℕ → List ℕ → Option ℕ
+confirming_in query response = confirming_at query response (position (λ b. b == 38) query)
+
+-- the same by the rest of the request after `after=`, and the index of its first space (32)
+abbrev pub confirming_before : List ℕ → List ℕ → Option ℕ → Option ℕ
+confirming_before rest response None = None
+confirming_before rest response (Some end) = confirming_in (take end rest) response
+
+-- the follower whose request, with this response, confirms that it has all rows
+abbrev pub confirming_number : List ℕ → List ℕ → Option ℕ
+confirming_number request response =
+    if starts_with (λ a b. a == b) request (codes "GET /changes?after=")
+    then confirming_before (drop 19 request) response (position (λ b. b == 32) (drop 19 request)) else None
+
+-- ---- the state
+
+abbrev pub is_wanted : Confirmation → Bool
+is_wanted it = nat_lt 0 it.needed
+
+-- no command waits for followers
+abbrev pub is_confirmed : Confirmation → Bool
+is_confirmed it = is_none it.since
+
+-- the reply to the lines that were answered last waits: a command was among them, and it is not confirmed
+abbrev pub holds_reply : Confirmation → Bool
+holds_reply it = it.had_command && not (is_confirmed it)
+
+-- after lines at a moment, with a command or without one
+abbrev pub after_lines : Bool → ℕ → Confirmation → Confirmation
+after_lines had_command now it =
+    if is_wanted it then cond had_command
+    (record it { had_command = true; count = 0; since = option_or it.since (Some now) })
+    (record it { had_command = false }) else it
+
+-- whether a follower is among those that have all commands
+abbrev pub has_follower : ℕ → Confirmation → Bool
+has_follower follower it = list_any (λ number. number == follower) (take it.count it.followers)
+
+-- one more follower has all commands; they are confirmed once as many followers as are needed have them
+abbrev pub with_follower : ℕ → Confirmation → Confirmation
+with_follower follower it =
+    if nat_le 8 it.count then it else if has_follower follower it then it else record it {
+      followers = slice_set it.followers it.count follower;
+      count = it.count + 1;
+      since = if nat_le it.needed (it.count + 1) then None else it.since;
+    }
+
+abbrev pub with_confirming : Option ℕ → Confirmation → Confirmation
+with_confirming None it = it
+with_confirming (Some follower) it = with_follower follower it
+
+-- after an HTTP request and its response
+abbrev pub after_request : List ℕ → List ℕ → Confirmation → Confirmation
+after_request request response it =
+    if is_confirmed it then it else with_confirming (confirming_number request response) it
+
+-- after an HTTP request and its outcome; a response to be signed confirms nothing
+abbrev pub after_outcome : {T : Type 0} → List ℕ → Outcome T → Confirmation → Confirmation
+after_outcome request (said text) it = after_request request text it
+after_outcome request (pending ticket) it = it
+after_outcome request later it = it
