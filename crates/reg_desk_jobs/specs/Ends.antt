@@ -44,6 +44,7 @@ use Rattle.reg_desk_metrics.specs.Ahead.{is_ahead}
 use Rattle.reg_desk_jobs.specs.Conversations.{AtControlSocket, RowsAtControlSocket}
 use Rattle.reg_desk_service.specs.Copies.{copied_text}
 use Rattle.reg_desk_jobs.specs.Digest.{digest_alone, digests}
+use Rattle.reg_desk_jobs.specs.FollowJobs.{FollowAt}
 use Rattle.reg_desk_service.specs.RegisterFailures.{IsCreateFailure, IsOpenFailure, IsReadFailure}
 use Rattle.reg_office_api.specs.LookUps.{IsOfStore}
 use Rattle.reg_office_api.specs.Settings.{SetsKeyIdentifier, ReplacesSchedule}
@@ -372,6 +373,8 @@ module _ {M O D S R E W : Type 0} (machines : Machine M O D S R) (offices : Offi
       Writes (KeyIdAt machines offices contents machine machine' writer writer' file key_id)
   Ends (job.Serve it) = ServeAt it
   Ends (job.Open it) = OpenAt it
+  Ends (job.Follow it) = Writes (λ result.
+      FollowAt machines offices contents writer writer' it result machine machine')
   Ends (job.Listing it) = Writes (ListAt machines offices contents machine machine' writer writer' it)
   Ends (job.Copy file to) = Writes (CopyAt machines offices contents machine machine' writer writer' file to)
   Ends (job.Audit file) = Writes (AuditAt machines offices contents machine machine' writer writer' file)

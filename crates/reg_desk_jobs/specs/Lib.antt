@@ -1,6 +1,7 @@
 pub mod Conversations
 pub mod Digest
 pub mod Ends
+pub mod FollowJobs
 pub mod LogEntries
 pub mod Published
 pub mod Replays

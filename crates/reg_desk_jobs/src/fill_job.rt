@@ -1,5 +1,13 @@
 //! Fills a new file with the register of another desk: first another file beside it, which is then copied.
 
+ghost use Rattle.std.specs.Prelude.{◌≡◌, ◌++◌, string_bytes, IfErr, IfOk, OnErr, OnOk};
+ghost use Rattle.reg_core.specs.Records.{no_records};
+ghost use Rattle.reg_core.specs.declared.refusal.Fault.TheVariants as fault;
+ghost use Rattle.reg_desk_cli.specs.declared.failure.Failure.TheVariants as failure;
+ghost use Rattle.reg_desk_jobs.specs.FollowJobs.{EntersFeed, Fills, FillsFile, RemovesLeftovers};
+ghost use Rattle.reg_office_api.specs.Calls.{LeadsIn};
+ghost use Rattle.reg_office_api.specs.Follows.{FormsSign};
+
 use mio::{Events, Poll};
 use reg_core::Fault;
 use reg_core_lists::{Positions, ReceivedPage, read_feed_page};
@@ -17,8 +25,11 @@ use std::time::Duration;
 /// The suffix of the name of the file that is filled first.
 const FILLED_SUFFIX: &str = ".fill";
 
-/// The suffixes of the files that a stop while a file is filled may leave: the one that is filled, its log without it, and an unfinished copy.
-const LEFT_SUFFIXES: [&str; 3] = [FILLED_SUFFIX, ".fill-wal", ".part"];
+/// The suffixes of two more files that a stop while a file is filled may leave: the log of the one that is filled, without it, and an unfinished
+/// copy.
+const FILLED_LOG_SUFFIX: &str = ".fill-wal";
+
+const PART_SUFFIX: &str = ".part";
 
 /// How many milliseconds pass after a failure before the leader is asked again.
 const RETRY_MILLIS: u64 = 1_000;
@@ -32,13 +43,16 @@ const DIVERGED: u16 = 409;
 const MOST_EVENTS: usize = 8;
 
 /// Creates a file at a path with the register of the leader. All its pages are kept in memory first. Another file, whose name ends with `.fill`, then
-/// gets their rows in one transaction; it is copied, and removed. While the leader can't be reached, it is asked once a second. Errors: `BrokenFeed` if a page can't be read or breaks a rule; `BadSigner` if the issuer's key doesn't fit the
-/// algorithm of the first CRL; `Memory`; `Store`; `Read` if the clock or the sockets fail.
+/// gets their rows in one transaction; it is copied, and removed. While the leader can't be reached, it is asked once a second. Errors: `BrokenFeed`
+/// if a page can't be read or breaks a rule; `BadSigner` if the issuer's key doesn't fit the algorithm of the first CRL; `Memory`; `Store`; `Read` if
+/// the clock or the sockets fail.
 pub(crate) fn fill<M: Machine>(
     rt: &HostRuntime,
     machine: &mut M,
     job: &FollowJob<'_>,
-) -> Result<(), Failure> {
+) -> Result<(), Failure>
+    ensures { Fills M.Machine M.Office.Office job.now.file result machine.old machine.new }
+{
     let alloc = rt.alloc();
     let path = path_with(alloc, job.file.as_str(), FILLED_SUFFIX)?;
     let mut fetcher = Fetcher::new(rt)?;
@@ -59,15 +73,24 @@ pub(crate) fn remove_leftovers<M: Machine>(
     alloc: Global,
     machine: &mut M,
     file: &str,
-) -> Result<(), Failure> {
-    for suffix in LEFT_SUFFIXES {
-        let path = path_with(alloc, file, suffix)?;
-        machine.remove(path.as_str());
-    }
+) -> Result<(), Failure>
+    ensures ok { OnOk result (RemovesLeftovers M.Machine file.now machine.old machine.new) }
+    ensures err { OnErr result (machine.new ≡ machine.old) }
+    ensures faults { IfErr result (λ why. why ≡ failure.Fault fault.Memory) }
+{
+    let filled = path_with(alloc, file, FILLED_SUFFIX)?;
+    let log = path_with(alloc, file, FILLED_LOG_SUFFIX)?;
+    let part = path_with(alloc, file, PART_SUFFIX)?;
+    machine.remove(filled.as_str());
+    machine.remove(log.as_str());
+    machine.remove(part.as_str());
     Ok(())
 }
 
-fn path_with(alloc: Global, file: &str, suffix: &str) -> Result<String, Failure> {
+fn path_with(alloc: Global, file: &str, suffix: &str) -> Result<String, Failure>
+    ensures ok { IfOk result (λ path. string_bytes path ≡ file.now ++ suffix.now) }
+    ensures faults { IfErr result (λ why. why ≡ failure.Fault fault.Memory) }
+{
     let mut path = String::new(alloc);
     if path.push_str(file).is_err() || path.push_str(suffix).is_err() {
         return Err(Failure::Fault(Fault::Memory));
@@ -81,7 +104,10 @@ fn fill_file<M: Machine>(
     machine: &mut M,
     path: &str,
     pages: &[ReceivedPage],
-) -> Result<(), Failure> {
+) -> Result<(), Failure>
+    ensures { FormsSign M.Office.Office.signs M.Office.Office.forms
+        → FillsFile M.Machine M.Office.Office path.now pages.now result machine.old machine.new }
+{
     let Some(page) = pages.last() else {
         return Err(Failure::BrokenFeed);
     };
@@ -118,7 +144,11 @@ fn enter_all<M: Machine>(
     machine: &M,
     office: &mut M::Office,
     pages: &[ReceivedPage],
-) -> Result<(), Failure> {
+) -> Result<(), Failure>
+    ensures { FormsSign M.Office.Office.signs M.Office.Office.forms
+        → LeadsIn M.Office.Office (λ identity before after. EntersFeed pages.now result before after)
+        office.old office.new }
+{
     let own = match office.positions(alloc) {
         Ok(positions) => positions,
         Err(fault) => return Err(Failure::Fault(fault)),

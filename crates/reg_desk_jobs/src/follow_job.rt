@@ -1,5 +1,7 @@
 //! The job `follow`: serves a copy of another desk's register, and keeps it up to date.
 
+ghost use Rattle.reg_desk_jobs.specs.FollowJobs.{FollowAt, FollowsRegister};
+
 use crate::fill_job::{fill, remove_leftovers};
 use crate::serve_job::{event_loop_at, run_event_loop};
 use reg_core::Fault;
@@ -15,7 +17,8 @@ use reg_office_api::Office;
 use std::cell::Cell;
 use std::io::Write;
 
-/// Follows a leader until a signal ends the program. If there is no file at the path, it is filled from the leader first. Then the register is opened,
+/// Follows a leader until a signal ends the program. If there is no file at the path, it is filled from the leader first. Then the register is
+/// opened,
 /// the port is bound, and the control socket is created, if one is named. Errors: those of `fill` and [`open_signed`]; `Read` if the port can't be
 /// bound or serving ends early; `Diverged` if the leader does not have these records; `TooFarBehind`; `Memory`; `Store`; `Write`.
 pub fn follow<M: Machine, W: Write>(
@@ -23,7 +26,9 @@ pub fn follow<M: Machine, W: Write>(
     machine: &mut M,
     job: &FollowJob<'_>,
     writer: &mut W,
-) -> Result<(), Failure> {
+) -> Result<(), Failure>
+    ensures { FollowAt M.Machine M.Office.Office W.contents writer.old writer.new job.now result machine.old machine.new }
+{
     let path = job.file.as_str();
     remove_leftovers(rt.alloc(), machine, path)?;
     if !machine.is_there(path) {
@@ -42,7 +47,9 @@ fn serve_copy<'a, 'w, M: Machine, W: Write>(
     mut office: M::Office,
     job: &'a FollowJob<'w>,
     writer: &mut W,
-) -> (M::Office, Result<(), Failure>) {
+) -> (M::Office, Result<(), Failure>)
+    ensures { FollowsRegister M.Machine M.Office.Office W.contents writer.old writer.new job.now result.1 office result.0 }
+{
     let alloc = rt.alloc();
     let positions = match office.positions(alloc) {
         Ok(positions) => positions,

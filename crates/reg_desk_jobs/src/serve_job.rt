@@ -69,7 +69,8 @@ pub fn serve<M: Machine, R: Source, W: Sink>(
     ending
 }
 
-/// Serves the register at the path `file` until `requests` HTTP connections are answered. Replies to commands wait for `confirm_by` followers. If `has_published`, [`check_published`] comes first.
+/// Serves the register at the path `file` until `requests` HTTP connections are answered. Replies to commands wait for `confirm_by` followers. If
+/// `has_published`, [`check_published`] comes first.
 pub(crate) fn serve_checked<'a, 'w, M: Machine, R: Read, W: Write>(
     rt: &HostRuntime,
     machine: &'a M,
