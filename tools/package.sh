@@ -54,8 +54,8 @@ put 0644 examples/board/index.html usr/share/durshavon/board/index.html
 put 0644 examples/office/index.html usr/share/durshavon/office/index.html
 
 mkdir -p "$root/etc/durshavon"
-# The units: the desk, the timer and services for its CRLs, the signer and the responder's signer, each with its own socket and user.
-for name in desk@.service desk-crl@.timer desk-crl@.service desk-publish@.service \
+# The units: the desk, a follower, the timer and services for its CRLs, the signer and the responder's signer, each with its own socket and user.
+for name in desk@.service desk-follow@.service desk-crl@.timer desk-crl@.service desk-publish@.service \
     desk-signer@.socket desk-signer@.service desk-responder@.socket desk-responder@.service; do
     put 0644 "packaging/$name" "lib/systemd/system/$name"
 done
@@ -81,7 +81,7 @@ put 0644 packaging/README.Debian "$documents/README.Debian"
 tools/copyright.py "$kit" >"$root/$documents/copyright"
 printf 'durshavon (%s) unstable; urgency=low\n\n  * Commit %s.\n\n -- %s  %s\n' "$version" "$commit" "$maintainer" \
     "$(date -u -R -d "@$SOURCE_DATE_EPOCH")" | zipped "$documents/changelog.gz"
-for name in first-day.txt first-day.replies.txt certificates.csv nginx.conf alerts.yml; do
+for name in first-day.txt first-day.replies.txt certificates.csv nginx.conf keepalived.conf alerts.yml; do
     put 0644 "examples/$name" "$documents/examples/$name"
 done
 

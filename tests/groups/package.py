@@ -179,6 +179,7 @@ ASKS_THE_DESK = ["PrivateNetwork=no", "IPAddressDeny=any", "IPAddressAllow=local
 HAS_A_KEY = ["PrivateNetwork=yes", "RestrictAddressFamilies=AF_UNIX", "InaccessiblePaths=-/var/lib/durshavon", "LimitCORE=0", "UMask=0077", "User=durshavon-signer"]
 SERVICES = {
     "desk@": [*ASKS_THE_DESK, "RestrictAddressFamilies=AF_INET AF_INET6 AF_UNIX", "UMask=0077", "User=durshavon", "StateDirectoryMode=0700", "RuntimeDirectoryMode=0700"],
+    "desk-follow@": [*ASKS_THE_DESK, "RestrictAddressFamilies=AF_INET AF_INET6 AF_UNIX", "UMask=0077", "User=durshavon", "StateDirectoryMode=0700", "RuntimeDirectoryMode=0700"],
     "desk-crl@": [*ASKS_THE_DESK, "RestrictAddressFamilies=AF_INET AF_INET6 AF_UNIX", "UMask=0077", "User=durshavon"],
     "desk-publish@": [*ASKS_THE_DESK, "RestrictAddressFamilies=AF_INET AF_INET6 AF_UNIX", "UMask=0022", "User=durshavon"],
     "desk-signer@": HAS_A_KEY,
@@ -215,7 +216,7 @@ def the_timer_keeps_its_time(t):
     t.same([it for it in ("AccuracySec=10s", "Persistent=yes") if it not in found], [], "settings that desk-crl@.timer lacks")
 
 
-@each({name: name for name in ("desk@", "desk-crl@", "desk-publish@")})
+@each({name: name for name in ("desk@", "desk-follow@", "desk-crl@", "desk-publish@")})
 def each_register_has_a_port_of_its_own(t, name):
     """Each of these services reads the file with its register's port and address. Otherwise, on a machine with two registers, one's CRL would be
     issued or published by what the other one says. Without the file, all have the same port."""
@@ -229,7 +230,7 @@ def each_register_has_a_port_of_its_own(t, name):
 def each_service_asks_the_desk_at_the_port_of_its_register(t):
     """On a machine with two registers, one has another port than the usual one."""
     found = units("service")
-    wanted = {"desk@": "--port ${PORT}", "desk-crl@": "--address ${ADDRESS} --port ${PORT}", "desk-publish@": "http://${ADDRESS}:${PORT}/crl"}
+    wanted = {"desk@": "--port ${PORT}", "desk-follow@": "--from ${FROM} --port ${PORT}", "desk-crl@": "--address ${ADDRESS} --port ${PORT}", "desk-publish@": "http://${ADDRESS}:${PORT}/crl"}
     for name, words in wanted.items():
         [start] = re.findall(r"^ExecStart=(.*)$", found[f"{name}.service"], re.MULTILINE)
         t.has(start, f" {words} ", name)
@@ -237,7 +238,7 @@ def each_service_asks_the_desk_at_the_port_of_its_register(t):
 
 # What starts each unit that can be enabled. The other units are started by these, or by a connection to a socket.
 WANTED = {
-    "desk@.service": ["multi-user.target"], "desk-crl@.timer": ["timers.target"],
+    "desk@.service": ["multi-user.target"], "desk-follow@.service": ["multi-user.target"], "desk-crl@.timer": ["timers.target"],
     "desk-signer@.socket": ["sockets.target"], "desk-responder@.socket": ["sockets.target"],
 }
 
@@ -263,6 +264,14 @@ def a_desk_that_ends_is_started_again_unless_its_command_line_is_wrong(t):
     t.same(t.desk("open", "ca.db", "--port", "8080", "--control", "control").status, 2, "the status of `desk open` without a signer")
 
 
+@test
+def a_follower_and_a_desk_of_one_register_never_run_together(t):
+    """systemd stops one when the other is started. Like a desk, a follower is started again unless its command line is wrong."""
+    found = units("service")["desk-follow@.service"].splitlines()
+    wanted = ("Conflicts=desk@%i.service", "Restart=always", "RestartSec=2", "RestartPreventExitStatus=2", "StartLimitIntervalSec=0")
+    t.same([it for it in wanted if it not in found], [], "settings that desk-follow@.service lacks")
+
+
 @each({"signer": "signer", "responder": "responder"})
 def a_signer_that_fails_is_started_again_every_two_seconds(t, name):
     """Otherwise systemd would soon give its socket up, for example while its user can't read the key, and refuse all clients from then on."""
@@ -281,6 +290,7 @@ def only_the_desk_can_connect_to_a_signer(t, name):
 # What each unit requires, and the files without which it is left out: a unit that is enabled or wanted does not fail before these are there.
 REQUIRED = {
     "desk@.service": ["ConditionPathExists=/var/lib/durshavon/%i.db"],
+    "desk-follow@.service": [],
     "desk-crl@.service": ["Requisite=desk@%i.service"],
     "desk-crl@.timer": [],
     "desk-publish@.service": ["Requisite=desk@%i.service", "ConditionPathExists=/etc/durshavon/%i.pem"],
@@ -317,6 +327,7 @@ def a_desk_starts_after_a_check_of_both_its_signers(t):
 # The folders that each service may write, since the rest of the system is read-only to it, and their modes.
 FOLDERS = {
     "desk@": ["StateDirectory=durshavon", "StateDirectoryMode=0700", "RuntimeDirectory=durshavon/%i", "RuntimeDirectoryMode=0700", "LogsDirectory=durshavon", "LogsDirectoryMode=0750"],
+    "desk-follow@": ["StateDirectory=durshavon", "StateDirectoryMode=0700", "RuntimeDirectory=durshavon/%i", "RuntimeDirectoryMode=0700", "LogsDirectory=durshavon", "LogsDirectoryMode=0750"],
     "desk-crl@": [],
     "desk-publish@": ["StateDirectory=durshavon-crl/%i", "StateDirectoryMode=0755"],
     "desk-signer@": [],
