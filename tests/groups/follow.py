@@ -177,7 +177,7 @@ def commands_are_refused(t):
     body = '{"ground":"asked","serial":"08"}'
     t.same(parted(copy.desk.ask("POST", "/requests", body))[0], 503, "POST /requests")
     t.same(parted(copy.desk.ask("GET", "/changes"))[0], 404, "GET /changes")
-    t.same(parted(copy.desk.ask("GET", "/requests"))[0], 405, "GET /requests")
+    t.same(parted(copy.desk.ask("GET", "/requests"))[0], 503, "GET /requests")
     t.same(copy.leader["positions"], before, "positions")
 
 

@@ -1,6 +1,7 @@
 //! `GET /changes` of `desk open`: a page of the changes feed, by which clients copy the register. With `?after=POSITIONS`, it has what a copy lacks.
 
-ghost use Rattle.std.specs.Prelude.{◌≡◌, IfOk};
+ghost use Rattle.std.specs.Prelude.{◌≡◌, ◌==◌, ◌<◌, length, IfOk, IfSome};
+ghost use Rattle.std.specs.List.{position};
 ghost use Rattle.reg_office_api.specs.Calls.{LooksIn};
 ghost use Rattle.reg_http.specs.AnswerEffects.{answer_effects};
 ghost use Rattle.reg_http.specs.Changes.{RespondsChanges, changes_in, changes_request, changes_wanted, given_changes, is_follower_parameter, positions_after};
@@ -94,7 +95,7 @@ fn positions_after(query: &[u8]) -> Option<Positions>
         return None;
     }
     let rest = &query[b"after=".len()..];
-    match rest.iter().position(|byte| *byte == b'&') {
+    match first_ampersand(rest) {
         Some(at) => {
             if is_follower(&rest[at..]) {
                 Positions::read(&rest[..at])
@@ -104,6 +105,13 @@ fn positions_after(query: &[u8]) -> Option<Positions>
         }
         None => Positions::read(rest),
     }
+}
+
+fn first_ampersand(text: &[u8]) -> Option<usize>
+    ensures place { result ≡ position (λ b. b == 38) text.now }
+    ensures within { IfSome result (λ at. at < length text.now) }
+{
+    text.iter().position(|byte| *byte == b'&')
 }
 
 /// Whether a parameter is `&follower=NUMBER`, by which the desk tells followers apart.
