@@ -1,6 +1,6 @@
 //! One connection at the control socket: receives lines, passes them to the handler in their order, and sends the replies.
 
-ghost use Rattle.std.specs.Prelude.{◌≡◌, ◌≤◌, ◌⊎◌, [], length, drop, Some, None, true, false, MatchOption, IfNone, OnOk, OnErr};
+ghost use Rattle.std.specs.Prelude.{◌≡◌, ◌+◌, ◌≤◌, ◌⊎◌, [], length, drop, Some, None, true, false, MatchOption, IfNone, OnOk, OnErr};
 ghost use Rattle.reg_desk_server.specs.Buffers.{AddsTo, Receives, unsent_of};
 ghost use Rattle.reg_desk_server.specs.LineEnds.{EndsLine, FirstLineEnds, HasNoLine};
 ghost use Rattle.reg_desk_server.specs.ControlLines.{Advances, DefersFirstLine, GathersOn, IsFresh, SameStreamAndEnd, StaysEnded, AnswersFirstLines, AnswersDeferred, ends_by, fault_by, loss_of};
@@ -279,6 +279,7 @@ pub(crate) fn gather<R: Read>(
     ensures receives { Receives (R.remaining reader.old) (R.remaining reader.new)
         buffer.old.items buffer.new.items result }
     ensures waits { result ≡ Received.Blocked → buffer.new.items ≡ buffer.old.items }
+    ensures bounded { length buffer.new.items ≤ length buffer.old.items + length read_buffer.old }
 {
     match reader.read(read_buffer) {
         Ok(0) => Received::Ended,
@@ -294,6 +295,7 @@ pub(crate) fn gather<R: Read>(
 fn keep_bytes(buffer: &mut Vec<u8>, arrived: &[u8]) -> Received
     ensures adds { AddsTo buffer.old.items arrived.now buffer.new.items result }
     ensures goes { ¬ (result ≡ Received.Blocked) }
+    ensures bounded { length buffer.new.items ≤ length buffer.old.items + length arrived.now }
 {
     match buffer.extend_from_slice(arrived) {
         Ok(()) => Received::More,

@@ -11,7 +11,7 @@ use reg_http_head::{ResponseHead, ResponseStart, read_response_start};
 use std::alloc::Global;
 use std::io::{Read, Write};
 
-/// The most bytes of a response.
+/// The most bytes that are kept of a response. It is too long once a read could bring more.
 const LONGEST_RESPONSE: usize = 167_772_160;
 
 /// For how many milliseconds the exchange waits for the next byte.
@@ -28,8 +28,8 @@ pub enum FeedProgress {
     Waiting(u64),
     /// The whole response has come. This is its head.
     Arrived(ResponseHead),
-    /// No response comes: the connection failed or ended, no byte was sent or came for five seconds, the response is invalid or longer than 160 MiB,
-    /// or there was no memory for it.
+    /// No response comes: the connection failed or ended, no byte was sent or came for five seconds, the response is invalid or too long (some 160
+    /// MiB), or there was no memory for it.
     Failed,
 }
 
@@ -184,10 +184,9 @@ impl<S: Read + Write + Drop> FeedExchange<S> {
     }
 
     fn receive_once(&mut self, read_buffer: &mut [u8]) -> Received
-        requires { length read_buffer.old ≡ 16384 }
         ensures { ReceivesResponse S.remaining self.old self.new result }
     {
-        if self.received.len() > LONGEST_RESPONSE - READ_BYTES {
+        if read_buffer.len() > LONGEST_RESPONSE.saturating_sub(self.received.len()) {
             return Received::Broken;
         }
         gather(&mut self.stream, &mut self.received, read_buffer)
