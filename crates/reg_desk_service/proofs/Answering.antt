@@ -30,7 +30,7 @@ use Rattle.reg_io.specs.declared.begun.ReadyOrUnsigned.TheVariants.{Ready, Unsig
 use Rattle.reg_desk_service.specs.RequestOutcomes.{AnswersBegun, BeginsAt, MayNeedSignature, ready_of}
 use Rattle.reg_desk_service.specs.Counted.{CountsBegun}
 use Rattle.reg_desk_service.specs.Admission.{BeginsAdmitted, CountsRequest}
-use Rattle.reg_desk_service.specs.Exchanges.{AnswersBy, AnswersAtRoute, MayCount, admission_after, admission_by, dispatch}
+use Rattle.reg_desk_service.specs.Exchanges.{AnswersAs, AnswersAtRoute, MayCount, admission_after, admission_by, dispatch}
 use Rattle.reg_desk_service.specs.FinishedResponses.{FinishesAt, FinishesUnsigned, Meets}
 use Rattle.reg_desk_service.specs.declared.admission.Admission.{Admission}
 use Rattle.reg_desk_service.specs.declared.unsigned_responses.Unsigned.{Unsigned as UnsignedOf}
@@ -122,7 +122,7 @@ module _ {S : Type 0} (is_clean : S → Type 0) (stands : OfficeSigners → S �
     pub answers_meet : (clock : ℕ → Type 0) (begun : ReadyOrUnsigned Exchange UnsignedResponse) (outcome : Outcome UnsignedOf) (before_it after_answer : Tally)
         → clock now → CountsBegun now line_outcome begun outcome before_it after_answer → Leads is_clean stands (Answer begun) s t
         → Leads is_clean stands
-        (λ signers before after. Meets (FinishesUnsigned signer_answered) (λ text. AnswersBy kind signs clock admission admission' signers before line_outcome text after) outcome) s t
+        (λ signers before after. Meets (FinishesUnsigned signer_answered) (λ text. AnswersAs kind signs clock admission admission' signers before line_outcome text after) outcome) s t
     answers_meet clock (Ready exchange) (said text) first last at is moved =
         follows is_clean stands _ _
         (λ signers before after made. (now, at, record { exchange = exchange; is_exchange = made.0; text_is = is.0; adds = made.1 })) s t moved

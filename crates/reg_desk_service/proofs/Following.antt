@@ -39,7 +39,8 @@ progress_then old middle new first next = record {
   reached_at = next.reached_at ∙ first.reached_at;
 }
 
-stays_at_fault : (from : Positions) (pages : List ReceivedPage) (fault : FollowFault) (before after : Records) → FollowStep from pages (Err fault) before after → after ≡ before
+-- at a fault the records stay
+pub stays_at_fault : (from : Positions) (pages : List ReceivedPage) (fault : FollowFault) (before after : Records) → FollowStep from pages (Err fault) before after → after ≡ before
 stays_at_fault from pages fault before after (inl same) = same
 stays_at_fault from pages fault before after (inr it) = it.stays
 

@@ -39,7 +39,7 @@ dispatch_open ListOf = ToList
 dispatch_open Health = ToHealth
 dispatch_open Metrics = ToMetrics
 dispatch_open Changes = ToChanges
-dispatch_open other = ToRegister
+dispatch_open route = ToRegister
 
 -- which part of a follower answers a request: it always reports its health and metrics, and gives neither changes nor requests for revocation; once
 -- its lag is over, it refuses all else
@@ -50,7 +50,7 @@ dispatch_following follower Changes = Refuse 404
 dispatch_following follower Requests = Refuse 503
 dispatch_following follower Ocsp = cond follower.is_current (dispatch_open Ocsp) TryLater
 dispatch_following follower OcspRest = cond follower.is_current (dispatch_open OcspRest) TryLater
-dispatch_following follower other = cond follower.is_current (dispatch_open other) (Refuse 503)
+dispatch_following follower route = cond follower.is_current (dispatch_open route) (Refuse 503)
 
 -- which part answers a request, by the kind of the desk
 abbrev pub dispatch : DeskKind → Route → Dispatch

@@ -1,6 +1,6 @@
 //! The handler of `desk follow`: a desk over a copy of another desk's register, which it keeps up to date. It takes no commands.
 
-ghost use Rattle.std.specs.Prelude.{◌≡◌, ◌++◌, ◌∷◌, [], length, IfOk, IsTrue, OnErr};
+ghost use Rattle.std.specs.Prelude.{◌≡◌, ◌++◌, ◌∷◌, [], length, IfOk, IsTrue, MatchOption, OnErr};
 ghost use Rattle.reg_desk_server.specs.LineEnds.{FirstLineEnds};
 ghost use Rattle.reg_desk_cli.specs.ExitStatus.{failure_line};
 ghost use Rattle.reg_desk_service.specs.ControlReplies.{IsReplyText};
@@ -150,6 +150,7 @@ impl<'a, 'w, M: Machine> FollowDesk<'a, 'w, M> {
 
 impl<'a, 'w, M: Machine> Handler for FollowDesk<'a, 'w, M> {
     ghost use Rattle.std.specs.Prelude.{◌≡◌, true, false, IsTrue, is_some};
+    ghost use Rattle.reg_desk_server.specs.LineEnds.{IsLine};
     ghost use Rattle.reg_desk_service.specs.FinishedResponses.{FinishesUnsigned};
     ghost use Rattle.reg_desk_service.specs.Following.{FollowerAnswers, FollowerAnswersLines, FollowerDefers, FollowerWorks};
     ghost use Rattle.reg_desk_service.specs.Signers.{AnsweredByOcspSigner};
@@ -287,7 +288,21 @@ impl<'a, 'w, M: Machine> Handler for FollowDesk<'a, 'w, M> {
         last_reason: &mut Vec<u8>,
         deferred: Deferred<LineTicket>,
         request: Option<SignatureRequest>,
-    ) -> Result<Option<Vec<u8>>, EventLoopFault> {
+    ) -> Result<Option<Vec<u8>>, EventLoopFault>
+        requires control { IsTrue self.old.desk.is_open }
+        requires line { IsLine line.now }
+        ensures ok { IfOk result (λ answered. MatchOption answered
+            ((self.new.desk.is_open ≡ self.old.desk.is_open)
+            × FollowerDefers M.Machine M.Office.Office
+            (self.old.desk.office, self.old.desk.admission, self.old.follower) line.now
+            (self.new.desk.office, self.new.desk.admission, self.new.follower))
+            (λ text. (self.new.desk.is_open ≡ self.old.desk.is_open)
+            × FollowerAnswersLines M.Machine M.Office.Office
+            (self.old.desk.office, self.old.desk.admission, self.old.follower) line.now text.items
+            (self.new.desk.office, self.new.desk.admission, self.new.follower))) }
+        ensures err { OnErr result ((self.new ≡ self.old) × (last_reason.new ≡ last_reason.old)) }
+        ensures fails { OnErr result M.failed }
+    {
         let now = self.read_millis()?;
         match self.refusal_of(line, now) {
             Some(why) => match self.refuse(line, why, last_reason) {
