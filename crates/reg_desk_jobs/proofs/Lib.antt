@@ -5,3 +5,4 @@ pub mod NextLines
 pub mod Replaying
 pub mod EachRow
 pub mod ConversationLemmas
+pub mod FollowRuns

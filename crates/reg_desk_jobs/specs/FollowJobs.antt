@@ -43,6 +43,11 @@ EntersFeed pages (Ok done) before after =
     (own reached : Positions) × ArePositionsOf before own × FollowStep own pages (Ok reached) before after
 EntersFeed pages (Err why) before after = after ≡ before
 
+-- the result of the job: the failure of a follower that must end, or else how serving ended
+abbrev pub ending_by : Option Failure → Result (Unit {0}) Failure → Result (Unit {0}) Failure
+ending_by (Some why) ending = Err why
+ending_by None ending = ending
+
 module _ {M O D S R : Type 0} (machines : Machine M O D S R) (offices : Office O) where
   -- the files are removed that a run which was stopped while it filled the file at a path may have left beside it
   abbrev pub RemovesLeftovers : List ℕ → M → M → Type 0
@@ -59,16 +64,21 @@ module _ {M O D S R : Type 0} (machines : Machine M O D S R) (offices : Office O
       ⊎ UsesRegister machines offices machine machine' path (entering algorithm)
       (λ identity before after. EntersFeed pages result before after))
 
-  -- A register without records is created at a path where there was no file, and pages are entered into it; or a step fails.
-  abbrev pub FillsFile : List ℕ → List ReceivedPage → Result (Unit {0}) Failure → M → M → Type 0
-  FillsFile path pages result machine machine' =
+  -- A register without records is created at a path where there was no file, and closed; or a step fails.
+  abbrev pub CreatesEmpty : List ℕ → Result (Unit {0}) Failure → M → M → Type 0
+  CreatesEmpty path result machine machine' =
       ((machine' ≡ machine) × JobFails result)
       ⊎ ((claimed : M)
       × (machines.claimed machine path claimed ⊎ (machines.taken machine path × (claimed ≡ machine)))
       × (NotCreatedAt machines claimed machine' path result
-      ⊎ ((issuer : Issuer) × (terms : Terms) × (created : M)
-      × Creates machines offices claimed created path (no_records issuer terms)
-      × EntersAt path pages result created machine')))
+      ⊎ ((issuer : Issuer) × (terms : Terms)
+      × Creates machines offices claimed machine' path (no_records issuer terms) × (result ≡ Ok tt))))
+
+  -- Such a register is not created; or it is, and pages are entered into it.
+  abbrev pub FillsFile : List ℕ → List ReceivedPage → Result (Unit {0}) Failure → M → M → Type 0
+  FillsFile path pages result machine machine' =
+      (CreatesEmpty path result machine machine' × JobFails result)
+      ⊎ ((created : M) × CreatesEmpty path (Ok tt) machine created × EntersAt path pages result created machine')
 
   -- a filled file is copied; one that could not be filled is not
   abbrev pub CopiesFilled

@@ -4,7 +4,7 @@ ghost use Rattle.std.specs.Prelude.{◌≡◌, ◌++◌, string_bytes, IfErr, If
 ghost use Rattle.reg_core.specs.Records.{no_records};
 ghost use Rattle.reg_core.specs.declared.refusal.Fault.TheVariants as fault;
 ghost use Rattle.reg_desk_cli.specs.declared.failure.Failure.TheVariants as failure;
-ghost use Rattle.reg_desk_jobs.specs.FollowJobs.{EntersFeed, Fills, FillsFile, RemovesLeftovers};
+ghost use Rattle.reg_desk_jobs.specs.FollowJobs.{CopiesFilled, CreatesEmpty, EntersFeed, Fills, FillsFile, RemovesLeftovers};
 ghost use Rattle.reg_office_api.specs.Calls.{LeadsIn};
 ghost use Rattle.reg_office_api.specs.Follows.{FormsSign};
 
@@ -54,16 +54,31 @@ pub(crate) fn fill<M: Machine>(
     ensures { Fills M.Machine M.Office.Office job.now.file result machine.old machine.new }
 {
     let alloc = rt.alloc();
-    let path = path_with(alloc, job.file.as_str(), FILLED_SUFFIX)?;
+    let file = job.file.as_str();
+    let path = path_with(alloc, file, FILLED_SUFFIX)?;
+    let filled = path.as_str();
     let mut fetcher = Fetcher::new(rt)?;
     let pages = fetcher.fetch_all::<M>(alloc, &*machine, &job.leader)?;
-    let copied = match fill_file::<M>(alloc, machine, path.as_str(), &pages) {
-        Ok(()) => machine.copy(path.as_str(), job.file.as_str()),
-        Err(why) => Err(why),
-    };
-    machine.remove(path.as_str());
-    match copied {
-        Ok(_) => Ok(()),
+    let entered = fill_file::<M>(alloc, machine, filled, &pages);
+    let copied = copy_filled::<M>(machine, filled, file, entered);
+    machine.remove(filled);
+    copied
+}
+
+/// Copies the file at a path, if it was filled.
+fn copy_filled<M: Machine>(
+    machine: &mut M,
+    path: &str,
+    to: &str,
+    entered: Result<(), Failure>,
+) -> Result<(), Failure>
+    ensures { CopiesFilled M.Machine M.Office.Office path.now to.now entered result machine.old machine.new }
+{
+    match entered {
+        Ok(()) => match machine.copy(path, to) {
+            Ok(_) => Ok(()),
+            Err(why) => Err(why),
+        },
         Err(why) => Err(why),
     }
 }
@@ -74,7 +89,7 @@ pub(crate) fn remove_leftovers<M: Machine>(
     machine: &mut M,
     file: &str,
 ) -> Result<(), Failure>
-    ensures ok { OnOk result (RemovesLeftovers M.Machine file.now machine.old machine.new) }
+    ensures ok { OnOk result (RemovesLeftovers M.Machine M.Office.Office file.now machine.old machine.new) }
     ensures err { OnErr result (machine.new ≡ machine.old) }
     ensures faults { IfErr result (λ why. why ≡ failure.Fault fault.Memory) }
 {
@@ -91,11 +106,13 @@ fn path_with(alloc: Global, file: &str, suffix: &str) -> Result<String, Failure>
     ensures ok { IfOk result (λ path. string_bytes path ≡ file.now ++ suffix.now) }
     ensures faults { IfErr result (λ why. why ≡ failure.Fault fault.Memory) }
 {
-    let mut path = String::new(alloc);
-    if path.push_str(file).is_err() || path.push_str(suffix).is_err() {
+    let Ok(mut path) = String::from_str(alloc, file) else {
         return Err(Failure::Fault(Fault::Memory));
+    };
+    match path.push_str(suffix) {
+        Ok(()) => Ok(path),
+        Err(_) => Err(Failure::Fault(Fault::Memory)),
     }
-    Ok(path)
 }
 
 /// Creates a register at a path, and enters all pages. Its signer of CRLs signs nothing, and has the algorithm of the first CRL.
@@ -124,7 +141,9 @@ fn create_empty<M: Machine>(
     machine: &mut M,
     path: &str,
     page: &ReceivedPage,
-) -> Result<(), Failure> {
+) -> Result<(), Failure>
+    ensures { CreatesEmpty M.Machine M.Office.Office path.now result machine.old machine.new }
+{
     let issuer = match Issuer::of_stored(alloc, &page.head.stored_name, &page.head.key) {
         Ok(issuer) => issuer,
         Err(IssuerFault::Memory) => return Err(Failure::Fault(Fault::Memory)),

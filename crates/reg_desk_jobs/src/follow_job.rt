@@ -1,6 +1,7 @@
 //! The job `follow`: serves a copy of another desk's register, and keeps it up to date.
 
-ghost use Rattle.reg_desk_jobs.specs.FollowJobs.{FollowAt, FollowsRegister};
+ghost use Rattle.std.specs.Prelude.{◌≡◌, option_copied};
+ghost use Rattle.reg_desk_jobs.specs.FollowJobs.{FollowAt, FollowsRegister, Prepares, ending_by};
 
 use crate::fill_job::{fill, remove_leftovers};
 use crate::serve_job::{event_loop_at, run_event_loop};
@@ -31,13 +32,25 @@ pub fn follow<M: Machine, W: Write>(
 {
     let path = job.file.as_str();
     remove_leftovers(rt.alloc(), machine, path)?;
-    if !machine.is_there(path) {
-        fill(rt, machine, job)?;
-    }
+    prepare(rt, machine, job)?;
     let office = open_signed(machine, path, &job.signer, &job.responder)?;
     let (office, ending) = serve_copy(rt, &*machine, office, job, writer);
     machine.close(path, office);
     ending
+}
+
+/// Fills the file if there is none.
+fn prepare<M: Machine>(
+    rt: &HostRuntime,
+    machine: &mut M,
+    job: &FollowJob<'_>,
+) -> Result<(), Failure>
+    ensures { Prepares M.Machine M.Office.Office job.now.file result machine.old machine.new }
+{
+    if machine.is_there(job.file.as_str()) {
+        return Ok(());
+    }
+    fill(rt, machine, job)
 }
 
 /// Serves the register, and returns the office.
@@ -58,10 +71,7 @@ fn serve_copy<'a, 'w, M: Machine, W: Write>(
     let Ok(now) = machine.millis() else {
         return (office, Err(Failure::Fault(Fault::Read)));
     };
-    let control_path = match &job.control {
-        Some(path) => Some(path.as_str()),
-        None => None,
-    };
+    let control_path = control_path_of(job);
     let event_loop: EventLoop<FollowDesk<'_, '_, M>> = match event_loop_at(
         rt,
         machine,
@@ -74,6 +84,9 @@ fn serve_copy<'a, 'w, M: Machine, W: Write>(
     let signing = signing_of(&CrlSignerChoice::of(&job.signer, &job.responder));
     let tally = Cell::new(Tally::new(signing, responder_not_after(machine, &job.responder)));
     let connection_totals = Cell::new(ConnectionTotals::nothing());
+    let admission = Admission::new();
+    let number = machine.micros();
+    let follower = Follower::new(alloc, &job.leader, job.lag, positions, number, now);
     let mut follow_desk: FollowDesk<'_, '_, M> = FollowDesk {
         desk: Desk {
             office,
@@ -86,17 +99,10 @@ fn serve_copy<'a, 'w, M: Machine, W: Write>(
             backoff: Backoff::none(),
             tally: &tally,
             connection_totals: &connection_totals,
-            admission: Admission::new(),
+            admission,
             confirmation: Confirmation::by(0),
         },
-        follower: Follower::new(
-            alloc,
-            &job.leader,
-            job.lag,
-            positions,
-            machine.micros(),
-            now,
-        ),
+        follower,
         has_control: control_path.is_some(),
     };
     let ending = run_event_loop(
@@ -111,8 +117,23 @@ fn serve_copy<'a, 'w, M: Machine, W: Write>(
         follower,
         has_control: _,
     } = follow_desk;
-    match follower.stop() {
-        Some(why) => (desk.office, Err(why)),
-        None => (desk.office, ending),
+    let result = ending_of(follower.stop(), ending);
+    (desk.office, result)
+}
+
+/// The result of the job: the failure of a follower that must end, or else how serving ended.
+fn ending_of(stop: Option<Failure>, ending: Result<(), Failure>) -> Result<(), Failure>
+    ensures { result ≡ ending_by stop ending }
+{
+    match stop {
+        Some(why) => Err(why),
+        None => ending,
     }
+}
+
+/// The path of the control socket, if one is named.
+fn control_path_of<'w>(job: &FollowJob<'w>) -> Option<&'w str>
+    ensures { job.now.control ≡ option_copied result }
+{
+    Some(job.control.as_ref()?.as_str())
 }

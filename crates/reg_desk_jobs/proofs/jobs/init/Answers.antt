@@ -1,12 +1,6 @@
-use Rattle.std.proofs.Common.{rules, ◌≡◌, ◌⊎◌, Bool, true, false, inl, inr, refl}
-use Rattle.std.specs.Prelude.{IsTrue, IsFalse}
+use Rattle.std.proofs.Common.{rules, inl, inr, refl}
+use Rattle.reg_desk_jobs.proofs.FollowRuns.{claims}
 use Rattle.reg_desk_jobs.proofs.jobs.init.Goals as goal
-
--- a path was claimed, or something lay there and the machine is as it was
-claims : {M : Type 0} (Claimed Lies : Type 0) (machine start : M) (is_ours : Bool) → (IsTrue is_ours → Claimed) → (IsFalse is_ours → Lies)
-    → (IsFalse is_ours → start ≡ machine) → Claimed ⊎ (Lies × (start ≡ machine))
-claims Claimed Lies machine start true claimed taken same = inl (claimed refl)
-claims Claimed Lies machine start false claimed taken same = inr (taken refl, same refl)
 
 pub returns-then-is_ours : goal.returns-then-is_ours
 returns-then-is_ours g c =
