@@ -8,3 +8,4 @@ pub mod Opened
 pub mod OpeningFaults
 pub mod PresetSignatures
 pub mod Signers
+pub mod Expecting

@@ -2,13 +2,14 @@
 use Rattle.std.proofs.Common.{◌≡◌, List, ℕ, sym, subst}
 use Rattle.sqlite.specs.Held.{Held}
 use Rattle.sqlite_trees.specs.declared.store.Store.{Ghosts}
-use Rattle.reg_office_api.specs.Signers.{Responder}
+use Rattle.reg_office_api.specs.CallSteps.{Signs}
+use Rattle.reg_office_api.specs.Signers.{OfficeSigners, Responder}
 use Rattle.reg_crl.specs.Signing.{Identity}
 use Rattle.reg_desk_service.specs.Signers.{EmbeddedKeyFits}
 use Rattle.reg_desk_service.specs.declared.crl_signer.CrlSignerChoice.{CrlSignerChoice}
 use Rattle.reg_office_reads.specs.Answering.{answers_by}
 use Rattle.reg_office_reads.specs.declared.responder.Responder.{Responder as Held_by}
-use Rattle.reg_desk_program.specs.StoreSigners.{FitsRegister}
+use Rattle.reg_desk_program.specs.StoreSigners.{FitsRegister, MayExpectCrls}
 use Rattle.reg_store_tables.specs.Stays.{Looked}
 
 -- a certificate that stands with answers is of the issuer's key, whoever signs CRLs
@@ -26,3 +27,6 @@ module _ {C : Type 0} {g : Ghosts C} {store tables new : Held C} (same : tables 
   pub lent_signs : {answers : Identity → Responder} {identity : Identity} {crls : CrlSignerChoice}
       → FitsRegister g tables new answers identity crls → FitsRegister g store new answers identity crls
   lent_signs {answers} {identity} {crls} signs = subst (λ those. FitsRegister g those new answers identity crls) same signs
+
+  pub lent_expects : (signs : Signs) (was becomes : OfficeSigners) → MayExpectCrls g signs tables new was becomes → MayExpectCrls g signs store new was becomes
+  lent_expects signs was becomes expects = subst (λ (those : Held C). MayExpectCrls g signs those new was becomes) same expects

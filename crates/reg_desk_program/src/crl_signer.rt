@@ -7,19 +7,22 @@ ghost use Rattle.reg_core.specs.Crls.{latest};
 ghost use Rattle.reg_core.specs.Records.{Records};
 ghost use Rattle.reg_core.specs.Sound.{SoundRows};
 ghost use Rattle.reg_desk_service.specs.RegisterFailures.{IsOpenFailure};
-ghost use Rattle.reg_desk_service.specs.Signers.{MayFollow, identity_of_signer, unreachable_signer};
-ghost use Rattle.reg_office_reads.specs.Answering.{answers_by};
+ghost use Rattle.reg_desk_service.specs.Signers.{MayFollow, identity_of_signer};
+ghost use Rattle.reg_office_reads.specs.Answering.{answers_by, signers_of};
+ghost use Rattle.reg_crl.specs.Signing.{Identity};
 ghost use Rattle.reg_crl_signer.specs.Forms.{identity_of};
+ghost use Rattle.reg_crl_signer.specs.KeyOrDigestSignatures.{digest};
 ghost use Rattle.reg_crl_signer.specs.RegisterSigners.{register_signer_path};
 ghost use Rattle.reg_crl_signer.specs.Signed.{IsCrlWithAlgorithm};
 ghost use Rattle.reg_desk_program.specs.Mismatches.{Differs, IsKnownAlgorithm, IsMismatch, IsMismatchAfter};
-ghost use Rattle.reg_desk_program.specs.StoreSigners.{SignerAtPath, FitsLatest, FitsRegister};
+ghost use Rattle.reg_desk_program.specs.StoreSigners.{SignerAtPath, FitsLatest, FitsRegister, MayExpectCrls};
 ghost use Rattle.reg_store_tables.specs.Shows.{Shows};
 ghost use Rattle.reg_desk_cli.specs.declared.job.SignerAddress.{SignerAddress};
 ghost use Rattle.reg_store_tables.specs.Stays.{Looked};
 
 use crate::file_office::{FileDevice, FileSigner};
 use crate::host::SystemHost;
+use crate::laws::without_a_key_only_digests_are_made;
 use crate::ocsp_responder::embedded_key_fits;
 use reg_core::{Cause, Fault};
 use reg_crl::{DigestSeal, Signer};
@@ -30,6 +33,7 @@ use reg_crl_signer::{
 use reg_desk_cli::{Argument, Failure, SignerAddress};
 use reg_desk_service::{CrlSignerChoice, Machine};
 use reg_office::Responder;
+use reg_office::laws::a_key_follows_the_digest;
 use reg_store::{DatabaseFault, Tables};
 use sqlite::Alter;
 
@@ -199,19 +203,61 @@ pub(crate) fn expect_algorithm<C: Alter>(
     responder: &Responder<FileSigner>,
     algorithm: Algorithm,
 )
-    ensures signs { (signer.new ≡ signer.old) ⊎ FitsRegister C.Store tables.old tables.new
-        (λ signers. answers_by ⟦<FileSigner as Signer>⟧.identity signers responder.now)
-        (⟦<FileSigner as Signer>⟧.identity signer.new) (unreachable_signer (Some algorithm)) }
-    ensures looked { Looked C.Store tables.old tables.new }
+    ensures { MayExpectCrls C.Store ⟦<FileSigner as Signer>⟧.signs tables.old tables.new
+        (signers_of ⟦<FileSigner as Signer>⟧.identity (⟦<FileSigner as Signer>⟧.identity signer.old)
+        responder.now)
+        (signers_of ⟦<FileSigner as Signer>⟧.identity (⟦<FileSigner as Signer>⟧.identity signer.new)
+        responder.now) }
+{
+    if may_be_replaced(signer, responder) {
+        replace_signer(host, tables, signer, responder, algorithm);
+    }
+}
+
+/// Whether there is no signer of CRLs, and the responder has a key of its own.
+fn may_be_replaced(signer: &FileSigner, responder: &Responder<FileSigner>) -> bool
+    ensures digest { IsTrue result → ⟦<FileSigner as Signer>⟧.identity signer.now ≡ digest }
+    ensures answers { IsTrue result → (crls other : Identity)
+        → answers_by ⟦<FileSigner as Signer>⟧.identity crls responder.now
+        ≡ answers_by ⟦<FileSigner as Signer>⟧.identity other responder.now }
+{
+    match signer {
+        RegisterSigner::NoSigner(_, _) => has_own_key(responder),
+        _ => false,
+    }
+}
+
+fn has_own_key(responder: &Responder<FileSigner>) -> bool
+    ensures { IsTrue result → (crls other : Identity)
+        → answers_by ⟦<FileSigner as Signer>⟧.identity crls responder.now
+        ≡ answers_by ⟦<FileSigner as Signer>⟧.identity other responder.now }
 {
     match responder {
-        Responder::Delegate(_, _) => {}
-        Responder::Issuer(_) => return,
+        Responder::Delegate(_, _) => true,
+        Responder::Issuer(_) => false,
     }
-    match signer {
-        RegisterSigner::NoSigner(_, _) => {}
-        _ => return,
-    }
+}
+
+fn replace_signer<C: Alter>(
+    host: &SystemHost<'_>,
+    tables: &mut Tables<C>,
+    signer: &mut FileSigner,
+    responder: &Responder<FileSigner>,
+    algorithm: Algorithm,
+)
+    requires digest { ⟦<FileSigner as Signer>⟧.identity signer.old ≡ digest }
+    requires answers { (crls other : Identity)
+        → answers_by ⟦<FileSigner as Signer>⟧.identity crls responder.now
+        ≡ answers_by ⟦<FileSigner as Signer>⟧.identity other responder.now }
+    ensures { MayExpectCrls C.Store ⟦<FileSigner as Signer>⟧.signs tables.old tables.new
+        (signers_of ⟦<FileSigner as Signer>⟧.identity (⟦<FileSigner as Signer>⟧.identity signer.old)
+        responder.now)
+        (signers_of ⟦<FileSigner as Signer>⟧.identity (⟦<FileSigner as Signer>⟧.identity signer.new)
+        responder.now) }
+{
+    // These do nothing. Their contracts tell the prover that CRLs with placeholder digests suit any next signer.
+    a_key_follows_the_digest::<C, FileSigner>();
+    without_a_key_only_digests_are_made::<FileDevice>();
     let expected = CrlSignerChoice::unreachable(Some(algorithm));
     match signer_for(host, tables, &expected, responder) {
         Ok(fitting) => *signer = fitting,

@@ -1,0 +1,5 @@
+use Rattle.reg_desk_program.proofs.Opened.{lent_expects}
+use Rattle.reg_desk_program.proofs.host.SystemHostMachine.expect_crls.Goals as goal
+
+pub returns : goal.returns
+returns c = lent_expects c.deref_mut.ensures.shows _ _ _ c.expect_algorithm.ensures
