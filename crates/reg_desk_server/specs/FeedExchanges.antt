@@ -1,7 +1,7 @@
 -- One request to another desk, and its response: the bytes that were sent and that came, and what the progress states.
-use Rattle.std.specs.Prelude.{◌≡◌, ◌⊎◌, ℕ, ◌+◌, ◌<◌, ◌≤◌, Bool, true, false, List, [], ◌++◌, Option, length, ⊤}
+use Rattle.std.specs.Prelude.{◌≡◌, ◌⊎◌, ℕ, ◌+◌, ◌<◌, ◌≤◌, Bool, true, false, List, [], ◌++◌, Option, length}
 use Rattle.std.specs.Io.KnownBytes.{Appends}
-use Rattle.reg_http_head.specs.ResponseStart.{HasHead}
+use Rattle.reg_http_head.specs.ResponseStart.{HasHead, NeverAccepted}
 use Rattle.reg_http_head.specs.declared.response_head.ResponseHead.{ResponseHead}
 use Rattle.reg_desk_server.specs.Buffers.{Receives, SendsUnsent, unsent_of}
 use Rattle.reg_desk_server.specs.ControlLines.{Gathers}
@@ -9,6 +9,7 @@ use Rattle.reg_desk_server.specs.declared.feed_exchange.FeedExchange.{FeedExchan
 use Rattle.reg_desk_server.specs.declared.feed_exchange.FeedProgress.{FeedProgress}
 use Rattle.reg_desk_server.specs.declared.feed_exchange.FeedProgress.TheVariants.{Waiting, Arrived, Failed}
 use Rattle.reg_desk_server.specs.declared.request_bytes.Received.{Received}
+use Rattle.reg_desk_server.specs.declared.request_bytes.Received.TheVariants as received
 use Rattle.reg_desk_server.specs.declared.unsent.Sent.{Sent}
 
 -- the most bytes of a response: 160 MiB
@@ -31,13 +32,32 @@ module _ {S : Type 0} where
       (unsent_of exchange.request ≡ []) × HasHead exchange.received.items head
       × (length exchange.received.items ≡ head.end + head.length)
 
-  -- The facts that the progress at a moment states. An exchange waits until its response has come, for at most five seconds after the last byte.
+  -- why no response comes: no byte was sent or came for five seconds, no accepted head begins with what came, or more came than the head states
+  abbrev pub FailsBy : ℕ → FeedExchange S → Type 0
+  FailsBy now exchange =
+      (exchange.moved_at + patience ≤ now) ⊎ (NeverAccepted exchange.received.items
+      ⊎ ((head : ResponseHead) × HasHead exchange.received.items head × (head.end + head.length < length exchange.received.items)))
+
+  -- The facts that the progress at a moment states, if more may come. An exchange waits until its response has come, for at most five seconds after
+  -- the last byte.
   abbrev pub HasProgress : ℕ → FeedExchange S → FeedProgress → Type 0
   HasProgress now exchange (Waiting millis) =
       (now < exchange.moved_at + patience) × (now + millis ≤ exchange.moved_at + patience)
       × ((head : ResponseHead) → ¬ HasResponse exchange head)
   HasProgress now exchange (Arrived head) = HasResponse exchange head
-  HasProgress now exchange Failed = ⊤
+  HasProgress now exchange Failed = FailsBy now exchange
+
+  -- the facts that the last progress states: no more comes
+  abbrev pub HasLastProgress : FeedExchange S → FeedProgress → Type 0
+  HasLastProgress exchange (Waiting millis) = ⊥
+  HasLastProgress exchange (Arrived head) = HasResponse exchange head
+  HasLastProgress exchange Failed = Unit {0}
+
+  -- the facts that the progress states after bytes were received with this result
+  abbrev pub HasProgressAfter : Received → ℕ → FeedExchange S → FeedProgress → Type 0
+  HasProgressAfter received.Blocked now exchange progress = HasProgress now exchange progress
+  HasProgressAfter received.More now exchange progress = HasProgress now exchange progress
+  HasProgressAfter other now exchange progress = HasLastProgress exchange progress
 
   -- the next bytes were received, as long as the response is not too long
   pub record ReceivesResponse (remaining : S → Option (List ℕ)) (old new : FeedExchange S) (result : Received) : Type 0 where
@@ -66,3 +86,10 @@ module _ {S : Type 0} where
     pub parted : unsent_of old.request ≡ went ++ unsent_of new.request
     pub gathered : Gathers (remaining between) (remaining new.stream) old.received.items new.received.items
         failed
+
+  -- bytes were sent and received, and the progress states what they are, or that the connection ended or failed, or that there was no memory
+  pub record Progresses (contents remaining : S → Option (List ℕ)) (now : ℕ) (old new : FeedExchange S)
+      (progress : FeedProgress) : Type 0 where
+    pub result : Received
+    pub transfers : Transfers contents remaining old new result
+    pub states : HasProgressAfter result now new progress

@@ -1,8 +1,9 @@
 //! One request to another desk, and its response, without blocking.
 
 ghost use Rattle.std.specs.Prelude.{◌≡◌, ◌≤◌, ◌⊎◌, [], drop, length};
-ghost use Rattle.reg_desk_server.specs.Buffers.{Receives, unsent_of};
-ghost use Rattle.reg_desk_server.specs.FeedExchanges.{HasProgress, HasResponse, Proceeds, ReceivesResponse, Transfers, has_failed, longest_response};
+ghost use Rattle.reg_desk_server.specs.Buffers.{unsent_of};
+ghost use Rattle.reg_desk_server.specs.FeedExchanges.{HasLastProgress, HasProgress, HasResponse};
+ghost use Rattle.reg_desk_server.specs.FeedExchanges.{Proceeds, Progresses, ReceivesResponse, Transfers, has_failed, longest_response};
 
 use crate::control_connection::gather;
 use crate::request_bytes::Received;
@@ -80,7 +81,8 @@ impl<S: Drop> FeedExchange<S> {
                 Some(needed) if needed == self.received.len() as u64 => {
                     FeedProgress::Arrived(head)
                 }
-                _ => FeedProgress::Failed,
+                Some(_) => FeedProgress::Failed,
+                None => self.waiting(now),
             },
             ResponseStart::Bad => FeedProgress::Failed,
         }
@@ -99,7 +101,7 @@ impl<S: Drop> FeedExchange<S> {
 
     /// The progress if the connection has ended.
     fn progress_at_end(&self, now: u64) -> FeedProgress
-        ensures { HasProgress now self.now result }
+        ensures { HasLastProgress self.now result }
     {
         match self.progress(now) {
             FeedProgress::Waiting(_) => FeedProgress::Failed,
@@ -125,7 +127,7 @@ impl<S: Read + Write + Drop> FeedExchange<S> {
     /// Sends and receives what can be sent and received at once. `now` is in milliseconds of the handler's clock.
     pub fn advance(&mut self, now: u64) -> FeedProgress
         ensures proceeds { Proceeds S.contents S.remaining self.old self.new (has_failed result) }
-        ensures progress { HasProgress now self.new result }
+        ensures progress { Progresses S.contents S.remaining now self.old self.new result }
         ensures idle { unsent_of self.new.request ≡ unsent_of self.old.request → self.new.received.items ≡ self.old.received.items
             → self.new.moved_at ≡ self.old.moved_at }
         ensures moved { (self.new.moved_at ≡ self.old.moved_at) ⊎ (self.new.moved_at ≡ now) }
