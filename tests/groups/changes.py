@@ -400,7 +400,7 @@ BAD = {
     "empty": "after=", "without a digest": "after=2.5.4.4.2.3.1.2.", "seven numbers": "after=2.5.4.4.2.3.1." + "0" * 64,
     "nine numbers": f"after=1.{GOOD}", "a short digest": f"after={GOOD[:-1]}", "a long digest": f"after={GOOD}0",
     "a digest with a g": f"after={GOOD[:-1]}g", "a sign": f"after=+{GOOD}", "an encoded space": f"after=%20{GOOD}",
-    "19 digits": "after=" + "0" * 19 + GOOD[1:], "another name": f"since={GOOD}", "a second parameter": f"after={GOOD}&wait=1",
+    "19 digits": "after=" + "0" * 19 + GOOD[1:], "another name": f"since={GOOD}", "a second parameter": f"after={GOOD}&wait=2",
     "no value": "after", "a letter": "after=2.5.4.4.2.3.1.x." + "0" * 64, "a name in capital letters": f"After={GOOD}", "no name": "x",
 }  # fmt: skip
 

@@ -9,6 +9,7 @@ import signal
 import socket
 import subprocess
 import threading
+import time
 from random import Random
 
 from groups.changes import DAY, KINDS, LINES, Tables, asked, taken
@@ -801,7 +802,8 @@ def through_ssh(t):
     ], stderr=subprocess.DEVNULL)  # fmt: skip
     t.callback(end, server)
     words = ["ssh", "-N", "-F", "/dev/null", "-p", str(port), "-i", t.room / "user", "-o", "StrictHostKeyChecking=no",
-             "-o", f"UserKnownHostsFile={t.room}/known", "-o", "ExitOnForwardFailure=yes", "-L", f"{t.room}/lead:127.0.0.1:{leader.port}", "127.0.0.1"]  # fmt: skip
+             "-o", f"UserKnownHostsFile={t.room}/known", "-o", "ExitOnForwardFailure=yes",
+             "-L", f"{t.room}/lead:127.0.0.1:{leader.port}", "127.0.0.1"]  # fmt: skip
     client = subprocess.Popen(list(map(str, words)), stderr=subprocess.DEVNULL)
     t.callback(end, client)
     until((t.room / "lead").exists, "the socket of ssh")
@@ -998,11 +1000,53 @@ def no_acknowledged_command_is_lost(t):
 
 @test(seconds=3)
 def a_client_that_asks_for_changes_by_hand(t):
-    """The number of a follower is optional, and anything else after the positions can't be read."""
+    """The number of a follower and `wait` are optional, and anything else after the positions can't be read."""
     leader, control, copy = led(t)
     copy.follows(leader)
     positions = copy.leader["positions"]
     copy.desk.end()
-    wrong = ("&follower=", "&follower=x", "&wait=1", "&follower=7&follower=8")
-    for more, status in (("", 200), ("&follower=7", 200), *[(it, 400) for it in wrong]):
+    wrong = ("&follower=", "&follower=x", "&wait=2", "&wait=1&follower=7", "&follower=7&follower=8")
+    for more, status in (("", 200), ("&follower=7", 200), ("&wait=1", 200), ("&follower=7&wait=1", 200), *[(it, 400) for it in wrong]):
         t.same(parted(leader.ask("GET", f"/changes?after={positions}{more}"))[0], status, f"status with {more!r}")
+
+
+@test(seconds=5)
+def a_request_without_news_waits(t):
+    """With `wait=1` the desk answers after a second, or once a line or a request for revocation has added a row. Others are answered meanwhile."""
+    t.register(lines=LINES)
+    t.clock(CLOCK)
+    leader, control = t.open(), t.control()
+    body = '{"ground":"asked","serial":"08"}'
+    for add in (lambda: control.ask("subscriber third"), lambda: leader.ask("POST", "/requests", body)):
+        positions = Tables(taken(t, control)).positions()
+        waiting_for = lambda: asked(t, leader, f"{positions}&wait=1")
+        # Now the desk knows that its feed ends there.
+        t.same(asked(t, leader, positions)[1:4], ([], {}, True), "a page without rows")
+        took, page = timed(waiting_for)
+        t.true(0.9 < took < 4 * program.PATIENCE, f"{took} seconds without news")
+        t.same(page[1:4], ([], {}, True), "a page without rows, a second later")
+        waiting = Waiting(waiting_for)
+        waiting.join(0.3)
+        t.true(waiting.is_alive(), "an answer at once, without news")
+        t.same(parted(leader.ask("GET", "/counts"))[0], 200, "another request meanwhile")
+        add()
+        waiting.join(60 * program.PATIENCE)
+        t.same(len(waiting.answer[1]), 1, "rows of the page that waited")
+
+
+def timed(call):
+    began = time.monotonic()
+    answer = call()
+    return time.monotonic() - began, answer
+
+
+class Waiting(threading.Thread):
+    """A call in a thread of its own, and its result once that has come."""
+
+    def __init__(self, call):
+        super().__init__(daemon=True)
+        self.call, self.answer = call, None
+        self.start()
+
+    def run(self):
+        self.answer = self.call()

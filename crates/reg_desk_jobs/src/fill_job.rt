@@ -288,7 +288,7 @@ impl Fetcher {
         if stream.register(self.poll.registry()).is_err() {
             return Ok(Err(FeedFailure::Unreachable));
         }
-        let Ok(request) = changes_request(alloc, after, machine.micros()) else {
+        let Ok(request) = changes_request(alloc, after, machine.micros(), false) else {
             return Err(Failure::Fault(Fault::Memory));
         };
         let mut exchange: FeedExchange<LeaderStream> = FeedExchange::new(

@@ -11,8 +11,8 @@ use reg_desk_cli::{Failure, FollowJob};
 use reg_desk_metrics::{ConnectionTotals, Tally};
 use reg_desk_server::EventLoop;
 use reg_desk_service::{
-    Admission, Confirmation, CrlSignerChoice, Desk, FollowDesk, Follower, Machine, open_signed,
-    responder_not_after, signing_of,
+    Admission, Confirmation, CrlSignerChoice, Desk, FeedEnd, FollowDesk, Follower, Machine,
+    open_signed, responder_not_after, signing_of,
 };
 use reg_office_api::Office;
 use std::cell::Cell;
@@ -101,6 +101,7 @@ fn serve_copy<'a, 'w, M: Machine, W: Write>(
             connection_totals: &connection_totals,
             admission,
             confirmation: Confirmation::by(0),
+            feed_end: FeedEnd::unknown(alloc),
         },
         follower,
         has_control: control_path.is_some(),

@@ -21,8 +21,8 @@ use reg_desk_cli::{Endpoint, Failure, Loopback, ResponderChoice, ServeJob, Signe
 use reg_desk_metrics::{ConnectionTotals, Tally};
 use reg_desk_server::{EventLoop, Handler, MOST_HTTP_CONNECTIONS};
 use reg_desk_service::{
-    Admission, Confirmation, CrlSignerChoice, Desk, Machine, open_signed, responder_not_after,
-    signing_of,
+    Admission, Confirmation, CrlSignerChoice, Desk, FeedEnd, Machine, open_signed,
+    responder_not_after, signing_of,
 };
 use reg_io::{Sink, Source};
 use std::cell::Cell;
@@ -172,6 +172,7 @@ fn serve_desk<'a, 'w, M: Machine, W: Write>(
         connection_totals: &connection_totals,
         admission,
         confirmation: Confirmation::by(confirm_by),
+        feed_end: FeedEnd::unknown(rt.alloc()),
     };
     let ending = run_event_loop(event_loop, &mut desk, endpoint.port, requests, writer);
     (desk.office, ending)

@@ -87,6 +87,7 @@ impl<H: Handler> EventLoop<H> {
             until_work = handler.work(self.shared.poller.registry(), now)?;
             self.control
                 .answer_all_lines(&mut self.shared, handler, now)?;
+            self.http.wake();
             let outcome = self.answer_all(handler, answered, limit, now);
             self.request_all(handler, now);
             self.control.release(&mut self.shared, handler);
@@ -211,7 +212,8 @@ impl<H: Handler> EventLoop<H> {
         Ok(())
     }
 
-    /// Answers the connection whose slot is at this index of `due`, if it still receives. Sends the answer, or has it signed first.
+    /// Answers the connection whose slot is at this index of `due`, if it still receives, unless its request waits. Sends the answer, or has it signed
+    /// first.
     #[tactic(auto, using(crate::proofs::Exchanges::exchanged_none))]
     fn answer_due(
         &mut self,
@@ -231,6 +233,10 @@ impl<H: Handler> EventLoop<H> {
         let Some(mut connection) = self.http.slots.take(slot) else {
             return Ok(());
         };
+        if connection.waits(handler, now) {
+            self.http.put_waiting(slot, connection);
+            return Ok(());
+        }
         let before = connection.unsent();
         // Even after a fault, such as a timeout, the handler answers what was received.
         if let Some(why) = connection.record_fault(now) {

@@ -188,6 +188,9 @@ pub trait Handler {
     fn is_confirmed(&self) -> bool
         ensures { result ≡ confirmed self.now };
 
+    /// Whether a whole request waits: the event loop answers it once this is no longer so, or after a second.
+    fn waits(&self, request: &Collected) -> bool;
+
     /// Does work of its own, without blocking, once in each iteration of `serve_all` before anything is answered. `now` is in milliseconds of the
     /// handler's clock. Returns the most milliseconds until it is called again. [`EventLoopFault`] if the loop is to end.
     fn work(&mut self, registry: &Registry, now: u64) -> Result<u64, EventLoopFault>

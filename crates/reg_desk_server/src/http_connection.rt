@@ -25,6 +25,9 @@ const LINGER_MILLIS: u64 = 1_000;
 
 const MOST_DROP_READS: usize = 32;
 
+/// How many milliseconds a request waits at most ([`Handler::waits`]), and the time until the next iteration of the loop.
+const WAIT_MILLIS: u64 = 1_000;
+
 /// The stage of a connection, in the order in which a connection reaches them. An answer that needs no signature skips `Signing`.
 #[derive(Drop)]
 pub(crate) enum Stage<T> {
@@ -83,6 +86,8 @@ pub struct HttpConnection<S: ClientStream, H: Handler> {
     pub(crate) deadline: u64,
     pub(crate) number: u64,
     pub(crate) is_registered: bool,
+    /// When the request has waited long enough, in milliseconds of the handler's clock. `None`: it has not waited.
+    pub(crate) waits_until: Option<u64>,
 }
 
 impl<S: ClientStream, H: Handler> HttpConnection<S, H> {
@@ -107,6 +112,7 @@ impl<S: ClientStream, H: Handler> HttpConnection<S, H> {
             deadline: now.saturating_add(TIMEOUT_MILLIS),
             number,
             is_registered: false,
+            waits_until: None,
         }
     }
 
@@ -267,6 +273,28 @@ impl<S: ClientStream, H: Handler> HttpConnection<S, H> {
         match drop_all(&mut self.stream, read_buffer) {
             Received::Blocked | Received::More => NextStep::Poll(Interest::READABLE),
             _ => NextStep::Close,
+        }
+    }
+
+    /// Whether the request waits before it is answered: the handler lets it, and it has not waited for `WAIT_MILLIS`.
+    pub fn waits(&mut self, handler: &H, now: u64) -> bool {
+        let may_wait = match &self.stage {
+            Stage::Receiving(collected) => self.fault.is_none()
+                && collected.is_exact()
+                && handler.waits(collected),
+            Stage::Signing(..) => false,
+            Stage::Sending(..) => false,
+            Stage::Draining => false,
+        };
+        if !may_wait {
+            return false;
+        }
+        match self.waits_until {
+            Some(until) => now < until,
+            None => {
+                self.waits_until = Some(now.saturating_add(WAIT_MILLIS));
+                true
+            }
         }
     }
 

@@ -48,6 +48,8 @@ pub(crate) struct HttpConnections<H: Handler> {
     pub(crate) slots: Slots<HttpConnection<TcpStream, H>>,
     /// The slots of the connections that are to be answered in this iteration.
     pub(crate) due: Vec<usize>,
+    /// The connections whose requests wait ([`Handler::waits`]).
+    waiting: Vec<Requester>,
     unsent: usize,
     /// When the last sweep was, in milliseconds of the handler's clock.
     swept: u64,
@@ -58,10 +60,12 @@ impl<H: Handler> HttpConnections<H> {
         ensures { IfOk result (λ connections. connections.due.items ≡ []) }
     {
         let due = Vec::with_capacity(alloc, count)?;
+        let waiting = Vec::new(alloc);
         let slots = Slots::new(alloc, count)?;
         Ok(HttpConnections {
             slots,
             due,
+            waiting,
             unsent: 0,
             swept: 0,
         })
@@ -125,6 +129,34 @@ impl<H: Handler> HttpConnections<H> {
         self.slots.put(slot, connection);
         // Out of memory: a sweep after the connection's deadline makes it due again.
         let _ = self.due.push(slot);
+    }
+
+    /// Lets a connection whose request waits, and that was taken out of its slot, wait until the next iteration.
+    pub(crate) fn put_waiting(&mut self, slot: usize, connection: HttpConnection<TcpStream, H>) {
+        let number = connection.number;
+        self.slots.put(slot, connection);
+        // Out of memory: a sweep after the connection's deadline makes it due again.
+        let _ = self.waiting.push(Requester { slot, number });
+    }
+
+    /// Makes the connections due whose requests waited in the iteration before this one, and that still receive.
+    pub(crate) fn wake(&mut self) {
+        for index in 0..self.waiting.len() {
+            if let Some(requester) = self.waiting.get(index).copied() {
+                self.wake_one(requester);
+            }
+        }
+        self.waiting.clear();
+    }
+
+    fn wake_one(&mut self, requester: Requester) {
+        let is_there = match self.slots.get(requester.slot) {
+            Some(connection) => connection.number == requester.number && connection.is_receiving(),
+            None => false,
+        };
+        if is_there && !self.due.contains(&requester.slot) {
+            let _ = self.due.push(requester.slot);
+        }
     }
 
     /// Closes a connection taken out of its slot. If its answer is unsigned or not wholly sent, reports `why`, unless a `fault` was reported before.

@@ -30,10 +30,15 @@ confirming_at query response (Some at) =
 abbrev pub confirming_in : List ℕ → List ℕ → Option ℕ
 confirming_in query response = confirming_at query response (position (λ b. b == 38) query)
 
+-- a query without its last parameter `&wait=1`
+abbrev pub unwaiting : List ℕ → List ℕ
+unwaiting query =
+    if ends_with (λ a b. a == b) query (codes "&wait=1") then take (length query - 7) query else query
+
 -- the same by the rest of the request after `after=`, and the index of its first space (32)
 abbrev pub confirming_before : List ℕ → List ℕ → Option ℕ → Option ℕ
 confirming_before rest response None = None
-confirming_before rest response (Some end) = confirming_in (take end rest) response
+confirming_before rest response (Some end) = confirming_in (unwaiting (take end rest)) response
 
 -- the follower whose request, with this response, confirms that it has all rows
 abbrev pub confirming_number : List ℕ → List ℕ → Option ℕ

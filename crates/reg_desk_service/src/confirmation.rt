@@ -3,7 +3,7 @@
 ghost use Rattle.std.specs.Prelude.{◌≡◌, ◌==◌, ◌<◌, length, IsTrue, IfSome};
 ghost use Rattle.std.specs.List.{position};
 ghost use Rattle.reg_desk_server.specs.Outcomes.{outcome_of};
-ghost use Rattle.reg_desk_service.specs.Confirmations.{after_lines, after_outcome, after_request, confirming_in, confirming_number, ends_feed, follower_in, has_follower, holds_reply, is_confirmed, is_wanted, with_follower};
+ghost use Rattle.reg_desk_service.specs.Confirmations.{after_lines, after_outcome, after_request, confirming_in, confirming_number, ends_feed, follower_in, has_follower, holds_reply, is_confirmed, is_wanted, unwaiting, with_follower};
 
 use crate::line_kinds::{LineKind, before_line_end, kind_of};
 use crate::unsigned_responses::Unsigned;
@@ -19,6 +19,9 @@ const ASKED: &[u8] = b"GET /changes?after=";
 
 /// The name of the parameter after the positions, by which followers are told apart.
 const NAMED: &[u8] = b"&follower=";
+
+/// The last parameter of a request that waits while there is no news.
+const WAIT: &[u8] = b"&wait=1";
 
 /// The followers that have all records since the last command at the control socket.
 #[derive(Clone, Copy)]
@@ -164,8 +167,18 @@ fn confirming(request: &[u8], response: &[u8]) -> Option<u64>
     }
     let rest = &request[ASKED.len()..];
     match first_space(rest) {
-        Some(end) => confirming_in(&rest[..end], response),
+        Some(end) => confirming_in(unwaiting(&rest[..end]), response),
         None => None,
+    }
+}
+
+fn unwaiting(query: &[u8]) -> &[u8]
+    ensures { result.now ≡ unwaiting query.now }
+{
+    if query.ends_with(WAIT) {
+        &query[..query.len() - WAIT.len()]
+    } else {
+        query
     }
 }
 
@@ -190,7 +203,7 @@ fn confirming_in(query: &[u8], response: &[u8]) -> Option<u64>
     }
 }
 
-fn first_space(text: &[u8]) -> Option<usize>
+pub(crate) fn first_space(text: &[u8]) -> Option<usize>
     ensures place { result ≡ position (λ b. b == 32) text.now }
     ensures within { IfSome result (λ at. at < length text.now) }
 {

@@ -7,6 +7,7 @@ use crate::confirmation::Confirmation;
 use crate::control_lines::answer_first_lines;
 use crate::deferred_commands::{LineTicket, SignatureKind, line_signature_of, socket_of};
 use crate::exchange_log::log_lost;
+use crate::feed_end::FeedEnd;
 use crate::http_exchanges::{DeskKind, answer_http};
 use crate::machine::Machine;
 use crate::unsigned_responses::{Unsigned, finish_http};
@@ -50,6 +51,8 @@ pub struct Desk<'a, 'w, M: Machine> {
     pub admission: Admission,
     /// Whether followers have the commands of the control socket (`--confirm-by`).
     pub confirmation: Confirmation,
+    /// The end of the changes feed, while nothing came after it: a follower's request for changes then waits.
+    pub feed_end: FeedEnd,
 }
 
 impl<'a, 'w, M: Machine> Desk<'a, 'w, M> {
@@ -165,6 +168,7 @@ impl<'a, 'w, M: Machine> Handler for Desk<'a, 'w, M> {
             request,
         );
         self.confirmation.request_begun(request.as_slice(), &begun);
+        self.feed_end.request_begun(request.as_slice(), &begun);
         self.tally.set(tally);
         Ok(begun)
     }
@@ -227,6 +231,7 @@ impl<'a, 'w, M: Machine> Handler for Desk<'a, 'w, M> {
         self.tally.set(tally);
         self.confirmation
             .first_lines_answered(self.alloc, lines, now);
+        self.feed_end.forget();
         Ok(replies)
     }
 
@@ -292,6 +297,7 @@ impl<'a, 'w, M: Machine> Handler for Desk<'a, 'w, M> {
                 let text = self.answer_with_signature(line, last_reason, ticket, signature);
                 self.confirmation
                     .first_lines_answered(self.alloc, line, signed_at);
+                self.feed_end.forget();
                 Ok(Some(text))
             }
             None => Ok(None),
@@ -304,6 +310,11 @@ impl<'a, 'w, M: Machine> Handler for Desk<'a, 'w, M> {
 
     fn is_confirmed(&self) -> bool {
         self.confirmation.is_confirmed()
+    }
+
+    // A request that confirms commands doesn't wait.
+    fn waits(&self, request: &Collected) -> bool {
+        self.confirmation.is_confirmed() && self.feed_end.holds(request.as_slice())
     }
 
     fn work(&mut self, registry: &Registry, now: u64) -> Result<u64, EventLoopFault> {

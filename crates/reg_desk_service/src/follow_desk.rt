@@ -323,6 +323,10 @@ impl<'a, 'w, M: Machine> Handler for FollowDesk<'a, 'w, M> {
         true
     }
 
+    fn waits(&self, request: &Collected) -> bool {
+        false
+    }
+
     fn report_lost(&self, client: Option<SocketAddr>, why: ConnectionFault) {
         self.desk.report_lost(client, why);
     }

@@ -18,8 +18,11 @@ use reg_http_head::{ResponseHead, status};
 use reg_office_api::{BrokenFeed, FeedPart, FeedRule, FollowFault, Office};
 use std::alloc::{AllocError, Global};
 
-/// How many milliseconds pass after the end of the feed before the follower asks again, if there was no news.
+/// How many milliseconds pass at least between two requests, if there was no news.
 const PAUSE_MILLIS: u64 = 200;
+
+/// The least lag, in milliseconds, with which a request without news may wait at the leader.
+const LEAST_WAITING_LAG: u64 = 5_000;
 
 /// The same after a failure.
 const RETRY_MILLIS: u64 = 1_000;
@@ -187,7 +190,8 @@ impl<'a, 'w> Follower<'a, 'w> {
     ) -> Option<FeedExchange<LeaderStream>> {
         let mut stream = machine.connect_to_leader(self.leader).ok()?;
         stream.register(registry).ok()?;
-        let request = changes_request(self.alloc, &Some(self.after), self.number).ok()?;
+        let waits = self.lag >= LEAST_WAITING_LAG;
+        let request = changes_request(self.alloc, &Some(self.after), self.number, waits).ok()?;
         Some(FeedExchange::new(self.alloc, stream, request, now))
     }
 
@@ -279,7 +283,7 @@ impl<'a, 'w> Follower<'a, 'w> {
         let ends = page.ends;
         self.keep_page(page, body.len(), now)?;
         if ends {
-            self.enter::<M>(office, machine, now)
+            self.enter::<M>(office, machine)
         } else {
             self.check_room()
         }
@@ -316,12 +320,7 @@ impl<'a, 'w> Follower<'a, 'w> {
     }
 
     /// Enters the pages that are kept.
-    fn enter<M: Machine>(
-        &mut self,
-        office: &mut M::Office,
-        machine: &M,
-        now: u64,
-    ) -> Result<(), FeedFailure>
+    fn enter<M: Machine>(&mut self, office: &mut M::Office, machine: &M) -> Result<(), FeedFailure>
         requires { LastEnds self.old.pages.items }
         ensures ok { OnOk result (Reaches M.Office.Office self.old self.new office.old office.new) }
         ensures err { OnErr result (self.new ≡ self.old) }
@@ -329,7 +328,7 @@ impl<'a, 'w> Follower<'a, 'w> {
     {
         match self.enter_pages::<M>(office, machine) {
             Ok(positions) => {
-                self.keep_reached(positions, now);
+                self.keep_reached(positions);
                 Ok(())
             }
             Err(fault) => Err(FeedFailure::from(fault)),
@@ -350,7 +349,7 @@ impl<'a, 'w> Follower<'a, 'w> {
     }
 
     /// The pages that are kept were entered.
-    fn keep_reached(&mut self, positions: Positions, now: u64)
+    fn keep_reached(&mut self, positions: Positions)
         ensures own { self.new.own ≡ positions }
         ensures lag { self.new.lag ≡ self.old.lag }
         ensures asked_at { self.new.asked_at ≡ self.old.asked_at }
@@ -370,7 +369,7 @@ impl<'a, 'w> Follower<'a, 'w> {
         self.stop = None;
         self.pages.clear();
         self.bytes = 0;
-        self.next_at = now.saturating_add(pause);
+        self.next_at = self.asked_at.saturating_add(pause);
     }
 }
 
@@ -412,11 +411,13 @@ pub fn algorithm_in(pages: &[ReceivedPage]) -> Option<Algorithm> {
     None
 }
 
-/// The request of the follower with this number for the changes after some positions; for `None`, from the first row on.
+/// The request of the follower with this number for the changes after some positions; for `None`, from the first row on. `waits`: without news, the
+/// leader may answer a second later.
 pub fn changes_request(
     alloc: Global,
     after: &Option<Positions>,
     follower: u64,
+    waits: bool,
 ) -> Result<Vec<u8>, AllocError> {
     let mut request = Vec::from_slice(alloc, b"GET /changes")?;
     if let Some(positions) = after {
@@ -424,6 +425,9 @@ pub fn changes_request(
         put_positions(alloc, &mut request, positions)?;
         request.extend_from_slice(b"&follower=")?;
         request.extend_from_slice(Decimal::of(follower).as_bytes())?;
+        if waits {
+            request.extend_from_slice(b"&wait=1")?;
+        }
     }
     request.extend_from_slice(b" HTTP/1.1\r\nHost: 127.0.0.1\r\nConnection: close\r\n\r\n")?;
     Ok(request)

@@ -1,6 +1,6 @@
 -- Requests for the changes of the register and their answers: this route exists only at an open desk.
-use Rattle.std.specs.Prelude.{◌≡◌, ℕ, ◌==◌, ◌&&◌, Bool, List, drop, take, length, is_some, codes, bytes_eq, if◌then◌else◌, Option, Some, None, Result, Ok, Err}
-use Rattle.std.specs.List.{after_first, position, starts_with}
+use Rattle.std.specs.Prelude.{◌≡◌, ℕ, ◌-◌, ◌==◌, ◌&&◌, Bool, List, drop, take, length, is_some, codes, bytes_eq, if◌then◌else◌, Option, Some, None, Result, Ok, Err}
+use Rattle.std.specs.List.{after_first, ends_with, position, starts_with}
 use Rattle.reg_core.specs.Number.{number_of}
 use Rattle.reg_core.specs.Records.{Records}
 use Rattle.reg_core.specs.declared.refusal.Fault.{Fault}
@@ -42,9 +42,14 @@ after_or_unreadable None = Unreadable
 abbrev pub changes_wanted : List ℕ → ChangesRequest
 changes_wanted query = if length query == 0 then FromFirst else after_or_unreadable (positions_after query)
 
+-- a query without its last parameter `&wait=1`
+abbrev pub without_wait : List ℕ → List ℕ
+without_wait query =
+    if ends_with (λ a b. a == b) query (codes "&wait=1") then take (length query - 7) query else query
+
 -- the changes that a target requests, by the query after its first `?` (63; RFC 3986 3.4)
 unfoldable pub changes_in : List ℕ → ChangesRequest
-changes_in target = changes_wanted (after_first (λ b. b == 63) target)
+changes_in target = changes_wanted (without_wait (after_first (λ b. b == 63) target))
 
 -- the meaning of a request for changes
 abbrev pub changes_request : List ℕ → List ℕ → ChangesRequest

@@ -4,7 +4,7 @@ ghost use Rattle.std.specs.Prelude.{◌≡◌, ◌==◌, ◌<◌, length, IfOk, 
 ghost use Rattle.std.specs.List.{position};
 ghost use Rattle.reg_office_api.specs.Calls.{LooksIn};
 ghost use Rattle.reg_http.specs.AnswerEffects.{answer_effects};
-ghost use Rattle.reg_http.specs.Changes.{RespondsChanges, changes_in, changes_request, changes_wanted, given_changes, is_follower_parameter, positions_after};
+ghost use Rattle.reg_http.specs.Changes.{RespondsChanges, changes_in, changes_request, changes_wanted, given_changes, is_follower_parameter, positions_after, without_wait};
 
 use crate::answered::HttpAnswer;
 use crate::bodies::{der, diverged_answer, json_buffer};
@@ -18,11 +18,14 @@ use std::alloc::Global;
 /// The media type of a page: its lines are text, but a CRL in it may have any octets. ([`der`] makes an answer of any body that isn't JSON.)
 const PAGE: &str = "application/octet-stream";
 
+/// The last parameter of a request that may be answered a second later if there is no news.
+const WAIT: &[u8] = b"&wait=1";
+
 #[derive(Clone, Copy)]
 pub(crate) enum ChangesRequest {
     /// The method is not GET, the only one of the route.
     OnlyGet,
-    /// The query is not `after=POSITIONS` or `after=POSITIONS&follower=NUMBER`.
+    /// The query is not `after=POSITIONS` or `after=POSITIONS&follower=NUMBER`, or one of these and `&wait=1`.
     Unreadable,
     /// From the first row on; or (`After`) after these positions, by which a client says how far its copy has got.
     FromFirst,
@@ -73,7 +76,17 @@ fn changes_at(target: &str) -> ChangesRequest
         Some((_, query)) => query,
         None => "",
     };
-    changes_wanted(query.as_bytes())
+    changes_wanted(without_wait(query.as_bytes()))
+}
+
+fn without_wait(query: &[u8]) -> &[u8]
+    ensures { result.now ≡ without_wait query.now }
+{
+    if query.ends_with(WAIT) {
+        &query[..query.len() - WAIT.len()]
+    } else {
+        query
+    }
 }
 
 fn changes_wanted(query: &[u8]) -> ChangesRequest
