@@ -258,10 +258,10 @@ def over_a_unix_socket(t):
 
 
 class Forward:
-    """Passes each connection at a Unix socket on to a port."""
+    """Passes each connection at a Unix socket on to a port; each piece takes so many seconds."""
 
-    def __init__(self, path, port):
-        self.port, self.server = port, socket.socket(socket.AF_UNIX)
+    def __init__(self, path, port, delay=0.0):
+        self.port, self.delay, self.server = port, delay, socket.socket(socket.AF_UNIX)
         self.server.bind(str(path))
         self.server.listen(8)
         threading.Thread(target=self.serve, daemon=True).start()
@@ -271,8 +271,11 @@ class Forward:
             while True:
                 client, _ = self.server.accept()
                 with client, contextlib.suppress(OSError), socket.create_connection(("127.0.0.1", self.port)) as to:
-                    to.sendall(client.recv(65536))
+                    asked = client.recv(65536)
+                    time.sleep(self.delay)
+                    to.sendall(asked)
                     while piece := to.recv(65536):
+                        time.sleep(self.delay)
                         client.sendall(piece)
 
     def __enter__(self):
@@ -839,6 +842,12 @@ class Link:
     def cut(self, is_cut):
         ran("ip", "-n", self.hosts[0], "link", "set", self.ends[0], "down" if is_cut else "up")
 
+    def lose(self, percent):
+        """Drops this share of the packets that come to the second host, by a rule of `nft`; whether this kernel can."""
+        rule = f"add rule inet link in numgen random mod 100 < {percent} drop"
+        lines = ("add table inet link", "add chain inet link in { type filter hook input priority 0; }", rule)
+        return ran(*inside_of(self.hosts[1]), "nft", "; ".join(lines)) == 0
+
     def quality(self, *words):
         """Sets the quality of the link by a queue of `tc`; whether this kernel has it."""
         return ran(*inside_of(self.hosts[1]), "tc", "qdisc", "replace", "dev", self.ends[1], "root", *words) == 0
@@ -877,6 +886,34 @@ def over_a_bad_link(t):
             raise Skipped("no tc netem in this kernel")
         enter_all(t, control, range(3 + 20 * turn, 23 + 20 * turn))
         copy.is_like(control)
+
+
+@test(seconds=30)
+def over_a_link_that_loses_packets(t):
+    """Each tenth packet to the copy is lost, and later a third of the others, too: the copy catches up."""
+    need("nft")
+    it, control, copy = at_a_link(t)
+    copy.is_like(control)
+    for first, percent in ((3, 10), (23, 33)):
+        if not it.lose(percent):
+            raise Skipped("no nft numgen in this kernel")
+        enter_all(t, control, range(first, first + 20))
+        copy.is_like(control)
+
+
+@test(seconds=15)
+def over_a_link_with_a_delay(t):
+    """Each piece takes 300 ms in each direction. A reply that waits for the copy comes, too."""
+    t.register(lines=LINES)
+    t.clock(CLOCK)
+    leader = t.open("ca.db", "--confirm-by", "1")
+    t.enter_context(Forward(t.room / "lead", leader.port, 0.3))
+    copy, control = Copy(t, "lead"), t.control()
+    until(lambda: copy.leader["current"], "the leader")
+    took, reply = timed(lambda: control.ask("subscriber third"))
+    t.same((reply, copy.leader["positions"][:2]), ("subscriber 3", "3."), "the reply, and the positions of the copy")
+    t.true(took > 0.5, f"{took} seconds to a reply, with two ways of 300 ms")
+    copy.is_like(control)
 
 
 @test(seconds=20)
