@@ -137,6 +137,14 @@ impl Confirmation {
         }
     }
 
+    /// Whether a request can confirm nothing: each command is confirmed, or its follower is counted already.
+    pub(crate) fn is_done_with(&self, request: &[u8]) -> bool {
+        match follower_of(request) {
+            Some(follower) => self.is_confirmed() || self.has(follower),
+            None => self.is_confirmed(),
+        }
+    }
+
     fn add(&mut self, follower: u64)
         ensures { self.new ≡ with_follower follower self.old }
     {
@@ -154,6 +162,17 @@ impl Confirmation {
         ensures { result ≡ has_follower follower self.now }
     {
         self.followers[..self.count.min(MOST_FOLLOWERS)].contains(&follower)
+    }
+}
+
+/// The number of the follower that sends a request for changes; 0 if it has none.
+fn follower_of(request: &[u8]) -> Option<u64> {
+    let rest = request.strip_prefix(ASKED)?;
+    let end = first_space(rest)?;
+    let query = unwaiting(&rest[..end]);
+    match first_ampersand(query) {
+        Some(at) => follower_in(&query[at..]),
+        None => Some(0),
     }
 }
 

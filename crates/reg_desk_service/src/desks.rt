@@ -231,7 +231,7 @@ impl<'a, 'w, M: Machine> Handler for Desk<'a, 'w, M> {
         self.tally.set(tally);
         self.confirmation
             .first_lines_answered(self.alloc, lines, now);
-        self.feed_end.forget();
+        self.feed_end.first_lines_answered(self.alloc, lines);
         Ok(replies)
     }
 
@@ -297,7 +297,7 @@ impl<'a, 'w, M: Machine> Handler for Desk<'a, 'w, M> {
                 let text = self.answer_with_signature(line, last_reason, ticket, signature);
                 self.confirmation
                     .first_lines_answered(self.alloc, line, signed_at);
-                self.feed_end.forget();
+                self.feed_end.first_lines_answered(self.alloc, line);
                 Ok(Some(text))
             }
             None => Ok(None),
@@ -314,7 +314,8 @@ impl<'a, 'w, M: Machine> Handler for Desk<'a, 'w, M> {
 
     // A request that confirms commands doesn't wait.
     fn waits(&self, request: &Collected) -> bool {
-        self.confirmation.is_confirmed() && self.feed_end.holds(request.as_slice())
+        self.feed_end.holds(request.as_slice())
+            && self.confirmation.is_done_with(request.as_slice())
     }
 
     fn work(&mut self, registry: &Registry, now: u64) -> Result<u64, EventLoopFault> {

@@ -1,6 +1,7 @@
 //! Whether a request for changes has to wait: the last page ended the changes feed with the positions that it asks for, and nothing came since.
 
 use crate::confirmation::first_space;
+use crate::line_kinds::{LineKind, before_line_end, kind_of};
 use crate::unsigned_responses::Unsigned;
 use reg_io::ReadyOrUnsigned;
 use std::alloc::Global;
@@ -14,8 +15,8 @@ const ADDS: &[u8] = b"POST /requests";
 /// The last parameter of a request that waits while there is no news.
 const WAITS: &[u8] = b"&wait=1";
 
-/// The positions after which the changes feed has nothing, as text: those of the last page that ended it. None once a line, or a request that may add
-/// a row, was answered since.
+/// The positions after which the changes feed has nothing, as text: those of the last page that ended it. None once a command, or a request that may
+/// add a row, was answered since.
 #[derive(Drop)]
 pub struct FeedEnd {
     positions: Vec<u8>,
@@ -29,9 +30,22 @@ impl FeedEnd {
         }
     }
 
-    /// A line was answered: there may be news.
-    pub(crate) fn forget(&mut self) {
+    fn forget(&mut self) {
         self.positions.clear();
+    }
+
+    /// The first of these lines was answered, or the first several, which are then commands. After a command there may be news.
+    pub(crate) fn first_lines_answered(&mut self, alloc: Global, lines: &[u8]) {
+        if self.positions.is_empty() {
+            return;
+        }
+        // A line for which there was no memory may have been a command.
+        match kind_of(alloc, before_line_end(lines)) {
+            Ok(LineKind::Query) => {}
+            Ok(LineKind::Other) => {}
+            Ok(LineKind::Command) => self.forget(),
+            Err(_) => self.forget(),
+        }
     }
 
     /// An HTTP request was answered, or the response to it is to be signed.

@@ -21,6 +21,9 @@ use std::alloc::{AllocError, Global};
 /// How many milliseconds pass at least between two requests, if there was no news.
 const PAUSE_MILLIS: u64 = 200;
 
+/// The same if the leader lets such a request wait: the next one then waits there.
+const WAITING_PAUSE_MILLIS: u64 = 10;
+
 /// The least lag, in milliseconds, with which a request without news may wait at the leader.
 const LEAST_WAITING_LAG: u64 = 5_000;
 
@@ -190,9 +193,23 @@ impl<'a, 'w> Follower<'a, 'w> {
     ) -> Option<FeedExchange<LeaderStream>> {
         let mut stream = machine.connect_to_leader(self.leader).ok()?;
         stream.register(registry).ok()?;
-        let waits = self.lag >= LEAST_WAITING_LAG;
+        let waits = self.may_wait();
         let request = changes_request(self.alloc, &Some(self.after), self.number, waits).ok()?;
         Some(FeedExchange::new(self.alloc, stream, request, now))
+    }
+
+    /// Whether its requests may wait at the leader: its lag is long enough.
+    fn may_wait(&self) -> bool {
+        self.lag >= LEAST_WAITING_LAG
+    }
+
+    /// How many milliseconds after a request without news the next one is due.
+    fn pause(&self) -> u64 {
+        if self.may_wait() {
+            WAITING_PAUSE_MILLIS
+        } else {
+            PAUSE_MILLIS
+        }
     }
 
     fn advance(&mut self, now: u64) -> FeedProgress
@@ -357,7 +374,7 @@ impl<'a, 'w> Follower<'a, 'w> {
     {
         // After news, the follower asks again at once: by that the leader knows that they are on the follower's disk.
         let pause = if positions == self.own {
-            PAUSE_MILLIS
+            self.pause()
         } else {
             0
         };
