@@ -1,13 +1,20 @@
 -- Lemmas about what comes on a connection to a signer.
-use Rattle.std.proofs.Common.{◌≡◌, ℕ, List, [], ◌++◌, ◌⊎◌, refl, sym, subst, ap, ◌∙◌, inl, inr}
-use Rattle.std.specs.Prelude.{Option}
-use Rattle.std.specs.Io.KnownBytes.{Keeps}
+use Rattle.std.proofs.Common.{◌≡◌, ℕ, ◌<◌, ◌≤◌, List, [], ◌++◌, ◌⊎◌, length, length-append, refl, sym, subst, ap, ◌∙◌, arith, inl, inr}
+use Rattle.std.specs.Prelude.{Option, Bool, true, false}
+use Rattle.std.specs.Io.KnownBytes.{Consumes, IsAtEnd, Keeps}
 use Rattle.std.proofs.KnownBytes.{Consumes-kept, Consumes-nil, Consumes-trans}
 use Rattle.std.proofs.lemmas.List.{append-nil, append_assoc}
-use Rattle.reg_crl_signer.specs.SignerConnections.{LeadsOn, Receives}
+use Rattle.reg_crl_signer.specs.SignerConnections.{FailsAfterRead, FailsToReceive, HoldsAnswer, LeadsOn, Receives, read, memory, unawaited, short, long}
 use Rattle.reg_crl_signer.specs.declared.signer_connection.Progress.{Progress}
 use Rattle.reg_crl_signer.specs.declared.signer_connection.Progress.TheVariants.{Idle, Waiting, Arrived, Failed}
 use Rattle.reg_crl_signer.specs.declared.signer_connection.SignerConnection.{SignerConnection}
+
+abbrev is_false : Bool → Type 0
+is_false false = Unit {0}
+is_false true = ⊥
+
+bool_differs : false ≡ true → ⊥
+bool_differs is = subst is_false is tt
 
 -- an answer is awaited
 abbrev waiting : Progress → Type 0
@@ -45,7 +52,55 @@ leads_further old Idle new first waits second = absurd (subst waiting (sym waits
 leads_further old Arrived new first waits second = absurd (subst waiting (sym waits) tt)
 leads_further old Failed new first waits second = absurd (subst waiting (sym waits) tt)
 
+-- the connection is the same, after no read, or waits for more
+pub same_or_waiting : {S : Type 0} (middle old : SignerConnection S) (reads : ℕ)
+    → ((middle ≡ old) × (reads ≡ 0)) ⊎ ((middle.progress ≡ Waiting) × (length middle.received.items ≤ 4100)) → (middle ≡ old) ⊎ (middle.progress ≡ Waiting)
+same_or_waiting middle old reads (inl same) = inl same.0
+same_or_waiting middle old reads (inr waits) = inr waits.0
+
+-- there are never as many reads as the longest answer has octets with its length, and two more
+pub too_many : {S : Type 0} (middle old : SignerConnection S) (reads : ℕ)
+    → ((middle ≡ old) × (reads ≡ 0)) ⊎ ((middle.progress ≡ Waiting) × (length middle.received.items ≤ 4100)) → reads ≤ length middle.received.items
+    → 4102 ≤ reads → ⊥
+too_many middle old reads (inl same) grows many = omega (arith, same.1)
+too_many middle old reads (inr waits) grows many = omega (arith, waits.1)
+
+-- an answer that is awaited now was awaited before
+waited : (old middle : Progress) → LeadsOn old middle → middle ≡ Waiting → old ≡ Waiting
+waited Waiting _ leads is = refl
+waited Idle Waiting leads is = absurd leads
+waited Arrived Waiting leads is = absurd leads
+waited Failed Waiting leads is = absurd leads
+waited old Idle leads is = absurd (subst waiting (sym is) tt)
+waited old Arrived leads is = absurd (subst waiting (sym is) tt)
+waited old Failed leads is = absurd (subst waiting (sym is) tt)
+
+-- an answer is awaited or not
+waits_or_not : (progress : Progress) → (progress ≡ Waiting) ⊎ (¬ (progress ≡ Waiting))
+waits_or_not Waiting = inl refl
+waits_or_not Idle = inr (λ is. subst waiting (sym is) tt)
+waits_or_not Arrived = inr (λ is. subst waiting (sym is) tt)
+waits_or_not Failed = inr (λ is. subst waiting (sym is) tt)
+
 module _ {S : Type 0} (remaining : S → Option (List ℕ)) where
+  -- the connection failed after a read at the end
+  pub fails_at_end : (read_failed : Type 0) (old new : SignerConnection S) (came : List ℕ) → Consumes (remaining old.stream) (remaining new.stream) came
+      → IsAtEnd (remaining new.stream) → (old.progress ≡ Waiting → FailsAfterRead new true) → FailsToReceive read_failed remaining old new
+  fails_at_end read_failed old new came consumed ended why =
+      elim (waits_or_not old.progress) [
+        | inl waits ↦ elim (why waits) [ inl early ↦ short ended early.1 | inr many ↦ long many ]
+        | inr none ↦ unawaited none came consumed (inr ended)
+      ]
+
+  -- the connection failed after a read that gave some octets
+  pub fails_after : (read_failed : Type 0) (old new : SignerConnection S) (came : List ℕ) → Consumes (remaining old.stream) (remaining new.stream) came
+      → 0 < length came → (old.progress ≡ Waiting → FailsAfterRead new false) → FailsToReceive read_failed remaining old new
+  fails_after read_failed old new came consumed some why =
+      elim (waits_or_not old.progress) [
+        | inl waits ↦ elim (why waits) [ inl early ↦ absurd (bool_differs early.0) | inr many ↦ long many ]
+        | inr none ↦ unawaited none came consumed (inl some)
+      ]
+
   -- nothing was read
   pub receives_none : (it : SignerConnection S) → Receives remaining it it
   receives_none it = record {
@@ -91,3 +146,38 @@ module _ {S : Type 0} (remaining : S → Option (List ℕ)) where
       → Receives remaining middle new → Receives remaining old new
   receives_on old middle new first (inl same) second = subst (λ (it : SignerConnection S). Receives remaining it new) same second
   receives_on old middle new first (inr waits) second = receives_more old middle new first waits second
+
+  -- where the last read left the connection resting, a read failed
+  pub rests_on : (read_failed : Type 0) (old middle new : SignerConnection S) → Receives remaining old middle → (middle ≡ old) ⊎ (middle.progress ≡ Waiting)
+      → (new.progress ≡ middle.progress → ¬ (new.progress ≡ Failed) → read_failed) → new.progress ≡ old.progress → ¬ (new.progress ≡ Failed) → read_failed
+  rests_on read_failed old middle new first (inl same) last =
+      subst (λ (it : SignerConnection S). new.progress ≡ it.progress → ¬ (new.progress ≡ Failed) → read_failed) same last
+  rests_on read_failed old middle new first (inr waits) last = λ is. last (is ∙ waited old.progress middle.progress first.leads waits ∙ sym waits)
+
+  -- the answer that has arrived is whole
+  pub whole_on : (old middle new : SignerConnection S) → (middle ≡ old) ⊎ (middle.progress ≡ Waiting)
+      → (middle.progress ≡ Waiting → new.progress ≡ Arrived → HoldsAnswer new) → old.progress ≡ Waiting → new.progress ≡ Arrived → HoldsAnswer new
+  whole_on old middle new (inl same) last =
+      subst (λ (it : SignerConnection S). it.progress ≡ Waiting → new.progress ≡ Arrived → HoldsAnswer new) same last
+  whole_on old middle new (inr waits) last = λ waited. last waits
+
+  -- why the connection failed after more than one read
+  fails_later : (read_failed : Type 0) (old middle new : SignerConnection S) → Receives remaining old middle → middle.progress ≡ Waiting
+      → FailsToReceive read_failed remaining middle new → FailsToReceive read_failed remaining old new
+  fails_later read_failed old middle new first waits (read why) = read why
+  fails_later read_failed old middle new first waits (memory came consumed lost) =
+      let kept : length middle.received.items ≡ length (old.received.items ++ first.came) =
+      ap length (first.kept (λ failed. subst waiting (sym waits ∙ failed) tt)) in
+      memory (first.came ++ came) (Consumes-trans (remaining old.stream) (remaining middle.stream) (remaining new.stream) first.came came first.consumed consumed)
+      (omega (arith, length-append old.received.items first.came, length-append first.came came))
+  fails_later read_failed old middle new first waits (unawaited none came consumed some) = absurd (none waits)
+  fails_later read_failed old middle new first waits (short ended none) = short ended none
+  fails_later read_failed old middle new first waits (long above) = long above
+
+  pub fails_on : (read_failed : Type 0) (old middle new : SignerConnection S) → Receives remaining old middle → (middle ≡ old) ⊎ (middle.progress ≡ Waiting)
+      → (¬ (middle.progress ≡ Failed) → new.progress ≡ Failed → FailsToReceive read_failed remaining middle new)
+      → ¬ (old.progress ≡ Failed) → new.progress ≡ Failed → FailsToReceive read_failed remaining old new
+  fails_on read_failed old middle new first (inl same) last =
+      subst (λ (it : SignerConnection S). ¬ (it.progress ≡ Failed) → new.progress ≡ Failed → FailsToReceive read_failed remaining it new) same last
+  fails_on read_failed old middle new first (inr waits) last = λ works is.
+      fails_later read_failed old middle new first waits (last (λ failed. subst waiting (sym waits ∙ failed) tt) is)

@@ -14,9 +14,9 @@ IsBackedOff (Some since) now = as_nanos now - as_nanos since < 10000000000
 
 module _ {D C : Type 0} (g : Ghosts D) where
   -- the device failed to answer the message; or the back-off is active at some time, and nothing changed
-  abbrev pub FailsOrIsBackedOff : BackoffDevice D C → List ℕ → BackoffDevice D C → Type 0
-  FailsOrIsBackedOff it message after =
-      g.fails it.device message after.device
+  abbrev pub FailsOrIsBackedOff : BackoffDevice D C → List ℕ → ℕ → BackoffDevice D C → Type 0
+  FailsOrIsBackedOff it message size after =
+      g.fails it.device message size after.device
       ⊎ (((now : Duration) × IsBackedOff it.backoff.since now) × (after ≡ it))
 
   -- one exchange with the device, which fails only if the device fails or the back-off is active at some time

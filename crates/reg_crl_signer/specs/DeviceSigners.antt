@@ -33,10 +33,10 @@ module _ {D : Type 0} (g : Ghosts D) where
       → Result (Vec ℕ Global) SignFault → Type 0
   SigningByDevice = SignsOrFails device_identity SignsByDevice (λ it. it.failures)
 
-  -- the device failed to answer the message, or it gave an answer that doesn't have the form of a signature under its key
-  abbrev pub FailsToSign : DeviceSigner D g → List ℕ → DeviceSigner D g → Type 0
-  FailsToSign it message after =
-      g.fails it.device message after.device
+  -- the device failed to answer the message, with room for `size` octets, or its answer doesn't have the form of a signature under its key
+  abbrev pub FailsToSign : DeviceSigner D g → List ℕ → ℕ → DeviceSigner D g → Type 0
+  FailsToSign it message size after =
+      g.fails it.device message size after.device
       ⊎ ((answer : List ℕ) × g.answers (g.public_key it.device) message answer
       × ¬ (HasSignatureForm it.algorithm (g.public_key it.device) answer))
 
@@ -49,5 +49,5 @@ module _ {D : Type 0} (g : Ghosts D) where
     pub given : ¬ (old.preset_signature ≡ None) → IfOk result
         (λ signature. ∥ g.answered_another_caller (g.device_path old.device) message signature.items ∥₁)
     pub within : IfOk result (λ signature. length signature.items ≤ 4096)
-    pub why : old.preset_signature ≡ None → IsErrOf result Device → FailsToSign old message new
+    pub why : old.preset_signature ≡ None → IsErrOf result Device → FailsToSign old message 4097 new
     pub same_path : g.device_path new.device ≡ g.device_path old.device

@@ -80,7 +80,7 @@ impl<D: Device, C: Clock> BackoffDevice<D, C> {
         ensures exchanged { ExchangesUnlessBackedOff D.Device self.old self.new message.now room.new result }
         ensures refused { IsBackedOff self.old.backoff.since began → OnOk result ⊥ × (self.new ≡ self.old) }
         ensures device_failed { ¬ IsBackedOff self.old.backoff.since began
-            → OnErr result (D.fails self.old.device message.now self.new.device) }
+            → OnErr result (D.fails self.old.device message.now (length room.old) self.new.device) }
         ensures late { ¬ IsBackedOff self.old.backoff.since began
             → IfSome self.new.backoff.since (λ since. 10000000000 ≤ as_nanos since - as_nanos began) }
         ensures reset { OnOk result (self.new.backoff.since ≡ None) }

@@ -1,6 +1,8 @@
 //! Messages and answers on persistent connections to a signer: the length in four bytes, big-endian, and then that many bytes.
 
-ghost use Rattle.std.specs.Prelude.{◌≡◌, ◌≤◌, IfOk, IfSome, length};
+ghost use Rattle.std.specs.Prelude.{◌≡◌, ◌≢◌, ◌≤◌, ◌<◌, ◌^◌, ℕ, List, IfOk, IsTrue, MatchOption, length};
+ghost use Rattle.std.specs.Bool.{OnTrue};
+ghost use Rattle.std.specs.Int.{w32, to_be_bytes};
 ghost use Rattle.reg_crl_signer.specs.CountedBytes.{counted_bytes};
 
 use std::alloc::{AllocError, Global};
@@ -9,14 +11,29 @@ pub(crate) const LENGTH_BYTES: usize = 4;
 
 /// The bytes after the length. `None` if the length is incomplete, or is not the number of these bytes.
 pub(crate) fn without_length(counted: &[u8]) -> Option<&[u8]>
-    ensures { IfSome result (λ bytes. counted.now ≡ counted_bytes bytes.now) }
+    ensures { MatchOption result
+        ((bytes : List ℕ) → length bytes < 2 ^ 32 → counted.now ≢ counted_bytes bytes)
+        (λ bytes. counted.now ≡ counted_bytes bytes.now) }
 {
-    let length = u32::try_from(counted.len().checked_sub(LENGTH_BYTES)?).ok()?;
+    if counted.len() < LENGTH_BYTES {
+        return None;
+    }
     let (head, bytes) = counted.split_at(LENGTH_BYTES);
-    if head == length.to_be_bytes().as_slice() {
+    if is_length(head, bytes.len()) {
         Some(bytes)
     } else {
         None
+    }
+}
+
+/// Whether `head` is `count` in four bytes.
+fn is_length(head: &[u8], count: usize) -> bool
+    ensures is { OnTrue result (head.now ≡ to_be_bytes w32 count) }
+    ensures only { count < 2 ^ 32 → head.now ≡ to_be_bytes w32 count → IsTrue result }
+{
+    match u32::try_from(count) {
+        Ok(length) => head == length.to_be_bytes().as_slice(),
+        Err(_) => false,
     }
 }
 

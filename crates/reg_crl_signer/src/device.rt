@@ -28,8 +28,8 @@ pub trait Device {
     ghost others_answers_are_answers: { (key device_path message answer : List ℕ)
         → ∥ answered_another_caller device_path message answer ∥₁ → answers key message answer };
 
-    // The device before, a message that it failed to answer, and the device after.
-    ghost fails: { Self → List ℕ → Self → Type 0 };
+    // The device before, a message that it failed to answer, the size of the room for the answer, and the device after.
+    ghost fails: { Self → List ℕ → ℕ → Self → Type 0 };
 
     /// The bits of the subjectPublicKey (RFC 5280 4.1.2.7) with which its signatures are verified. No call changes them.
     fn public_key(&self) -> &[u8]

@@ -1,16 +1,17 @@
 //! A device (which has the key, such as a signer process) at a Unix socket, and one exchange with it: a message to sign, and its answer, a signature.
 
-ghost use Rattle.std.specs.Prelude.{◌≡◌, ◌<◌, IfOk, length, take};
-ghost use Rattle.reg_crl_signer.specs.Exchange.{ExchangesMessage};
+ghost use Rattle.std.specs.Prelude.{◌≡◌, ◌<◌, IfOk, OnErr, length, take};
+ghost use Rattle.reg_crl_signer.specs.Exchange.{ExchangesMessage, FailsToExchange};
 
 use crate::announcement::keep_signature;
 use crate::device::{Device, DeviceFault};
-use reg_io::{fill_to_end, write_whole};
+use reg_io::{Sink, Source, fill_to_end, write_whole};
 use std::io;
 use std::io::{Read, Write};
 use std::marker::PhantomData;
 
-/// A connection to a device, for one exchange. Proofs over any such connection use the relations below; in `UnixConnection` each is always true.
+/// A connection to a device, for one exchange. Proofs over any such connection use the relations below; in `UnixConnection` each is always true. Each
+/// connection is a [`Source`] and a [`Sink`]. Only with these bounds can a contract state that a read or a write failed (`failed`).
 pub trait DeviceConnection: Read + Write {
     ghost use Rattle.std.specs.Prelude.{ℕ, List, IfOk, OnErr, OnOk};
 
@@ -23,6 +24,9 @@ pub trait DeviceConnection: Read + Write {
     // The connection before its sending side was shut down, and after.
     ghost finished: { Self → Self → Type 0 };
 
+    // The sending side of this connection could not be shut down.
+    ghost unfinished: { Self → Type 0 };
+
     // The listener at this path gave another caller, such as the event loop by its `SignerConnection`, this answer to this message.
     ghost answered_another_caller: { List ℕ → List ℕ → List ℕ → Type 0 };
 
@@ -33,7 +37,8 @@ pub trait DeviceConnection: Read + Write {
 
     /// Shuts down the sending side, because the message is whole. The errors are those of shutdown(2).
     fn finish(&mut self) -> io::Result<()>
-        ensures { OnOk result (finished self.old self.new) };
+        ensures ok { OnOk result (finished self.old self.new) }
+        ensures err { OnErr result (unfinished self.old) };
 }
 
 /// A device that listens at a path. Each exchange opens a connection, sends the message, shuts down the sending side, and reads up to the end, which
@@ -61,10 +66,10 @@ impl<L: DeviceConnection> SocketDevice<L> {
     }
 }
 
-impl<L: DeviceConnection + Drop> Device for SocketDevice<L> {
+impl<L: DeviceConnection + Source + Sink + Drop> Device for SocketDevice<L> {
     ghost use Rattle.std.proofs.Common.{inr};
     ghost use Rattle.std.specs.Prelude.{ℕ, List, ◌⊎◌, string_bytes};
-    ghost use Rattle.reg_crl_signer.specs.Exchange.{ExchangesAtPath};
+    ghost use Rattle.reg_crl_signer.specs.Exchange.{ExchangesAtPath, FailsAtPath};
 
     ghost public_key = { λ it. it.key.items };
 
@@ -81,9 +86,9 @@ impl<L: DeviceConnection + Drop> Device for SocketDevice<L> {
 
     ghost others_answers_are_answers = { λ key device_path message answer given. inr (device_path, given) };
 
-    // No connection could be made, or one was made but gave no answer.
-    ghost fails = { λ it message after. L.unconnected (string_bytes it.path)
-        ⊎ ((connection : L) × L.connected (string_bytes it.path) connection) };
+    ghost fails = { λ it message size after.
+        FailsAtPath L.Read.remaining L.Write.contents L.finished L.unfinished L.Sink.failed L.Source.failed
+        L.connected L.unconnected (string_bytes it.path) message size };
 
     fn public_key(&self) -> &[u8] {
         &self.key
@@ -101,7 +106,7 @@ impl<L: DeviceConnection + Drop> Device for SocketDevice<L> {
 }
 
 /// Sends the message, reads the answer into `room`, moves the signature in it to the beginning, and returns the signature's length.
-fn exchange_message<L: DeviceConnection>(
+fn exchange_message<L: DeviceConnection + Source + Sink>(
     connection: &mut L,
     message: &[u8],
     room: &mut [u8],
@@ -110,9 +115,18 @@ fn exchange_message<L: DeviceConnection>(
     ensures answered { IfOk result (λ count.
         ExchangesMessage L.Read.remaining L.Write.contents L.finished connection.old message.now
         (take count room.new)) }
+    ensures failed { OnErr result
+        (FailsToExchange L.Read.remaining L.Write.contents L.finished L.unfinished L.Sink.failed L.Source.failed
+        connection.old message.now (length room.new)) }
 {
-    write_whole(connection, message).map_err(|_| DeviceFault)?;
-    connection.finish().map_err(|_| DeviceFault)?;
-    let count = fill_to_end(connection, room).map_err(|_| DeviceFault)?;
-    Ok(keep_signature(room, count))
+    match write_whole(connection, message) {
+        Ok(()) => match connection.finish() {
+            Ok(()) => match fill_to_end(connection, room) {
+                Ok(count) => Ok(keep_signature(room, count)),
+                Err(_) => Err(DeviceFault),
+            },
+            Err(_) => Err(DeviceFault),
+        },
+        Err(_) => Err(DeviceFault),
+    }
 }

@@ -1,7 +1,6 @@
 //! Checks the form of keys and signatures. `octets_of_pair` gives the lengths of the modulus and exponent of an RSA key, or r and s of ECDSA.
 
 ghost use Rattle.std.specs.Prelude.{◌≡◌, ◌↔◌, ◌<◌, ◌^◌, IsTrue, length};
-ghost use Rattle.std.specs.Bool.{OnTrue};
 ghost use Rattle.reg_crl_signer.specs.Forms.{HasForm, IsEcdsaValue, HasKeyForm, IsPoint, IsRsaKey, HasSignatureForm};
 
 use crate::algorithm::Algorithm;
@@ -45,8 +44,8 @@ impl Algorithm {
 
 /// As [`Algorithm::is_signature`], for the algorithm with the AlgorithmIdentifier `identifier`, in DER. `false` if no [`Algorithm`] has it.
 pub fn has_form(identifier: &[u8], key: &[u8], signature: &[u8]) -> bool
-    ensures { OnTrue result
-        (HasForm (record { algorithm = identifier.now; public_key = key.now }) signature.now) }
+    ensures { IsTrue result
+        ↔ HasForm (record { algorithm = identifier.now; public_key = key.now }) signature.now }
 {
     match Algorithm::from_identifier(identifier) {
         Some(algorithm) => algorithm.is_signature(key, signature),

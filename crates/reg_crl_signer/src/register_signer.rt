@@ -42,7 +42,9 @@ impl<D: Device + Drop> RegisterSigner<D> {
     pub fn set_preset(&mut self, preset_signature: Option<PresetSignature>)
         requires { ForSome (key_of D.Device self.old)
             (λ signer. IsPreset (D.answered_another_caller (D.device_path signer.device)) preset_signature) }
-        ensures { SignsAsBefore D.Device self.old self.new }
+        ensures same { SignsAsBefore D.Device self.old self.new }
+        ensures preset { ForSome (key_of D.Device self.new)
+            (λ signer. signer.preset_signature ≡ preset_signature) }
     {
         match self {
             RegisterSigner::Key(signer) => signer.set_preset(preset_signature),

@@ -1,5 +1,6 @@
-ghost use Rattle.std.specs.Prelude.{◌≡◌, ◌≤◌, [], IfOk, IfSome, IsTrue, length};
-ghost use Rattle.reg_crl_signer.specs.SignatureRequest.{IsSignatureRequest};
+ghost use Rattle.std.specs.Prelude.{◌≡◌, ◌↔◌, ◌≤◌, [], IfNone, IfOk, IfSome, IsTrue, length};
+ghost use Rattle.reg_crl_signer.specs.SignatureRequest.{HasArrived, IsSignatureRequest, TakesSignature};
+ghost use Rattle.reg_crl_signer.specs.SignerConnections.{FailedUnanswered, HasEnded, LeadsOn};
 
 use crate::announcement::{is_announced, signature_in};
 use crate::signer_connection::SignerConnection;
@@ -7,7 +8,7 @@ use mio::event::Source;
 use mio::net::UnixStream;
 use mio::{Interest, Registry, Token};
 use reg_io::write_whole;
-use std::alloc::Global;
+use std::alloc::{AllocError, Global};
 use std::io;
 use std::io::{ErrorKind, Write};
 use std::net::Shutdown;
@@ -72,34 +73,48 @@ impl SignatureRequest {
 
     /// Whether this request asks the signer at this path to sign this message.
     pub fn is_for(&self, path: &str, message: &[u8]) -> bool
-        ensures { IsTrue result → IsSignatureRequest path.now message.now self.now }
+        ensures { IsTrue result ↔ IsSignatureRequest path.now message.now self.now }
     {
         self.path.as_str() == path && self.message.as_slice() == message
     }
 
     /// Reads what has come, without blocking. Returns whether the request has ended: its whole answer has come, or reading it failed.
-    pub fn receive(&mut self) -> bool {
+    pub fn receive(&mut self) -> bool
+        ensures ended { IsTrue result ↔ HasEnded self.new.connection.progress }
+        ensures leads { LeadsOn self.old.connection.progress self.new.connection.progress }
+    {
         self.connection.receive();
         self.connection.has_ended()
     }
 
     /// Whether a persistent connection failed before a byte of the answer was stored, as after a restart of the signer. A new request may succeed.
-    pub fn failed_unanswered(&self) -> bool {
+    pub fn failed_unanswered(&self) -> bool
+        ensures { IsTrue result ↔ FailedUnanswered self.now.connection }
+    {
         self.connection.failed_unanswered()
     }
 
-    /// The signature in the answer; it may be empty. `None` if the whole answer has not come, or if out of memory.
-    pub fn take_signature(&mut self, alloc: Global) -> Option<Vec<u8>>
-        ensures { IfSome result (λ signature. length signature.items ≤ 4096) }
+    /// The signature in the answer; it may be empty. `Ok(None)` if the whole answer has not come.
+    pub fn take_signature(&mut self, alloc: Global) -> Result<Option<Vec<u8>>, AllocError>
+        ensures taken { IfOk result (λ taken. IfSome taken
+            (λ signature. TakesSignature self.old self.new signature.items)) }
+        ensures short { IfOk result (λ taken. IfSome taken (λ signature. length signature.items ≤ 4096)) }
+        ensures none { IfOk result (λ taken. IfNone taken (¬ HasArrived self.old)) }
     {
-        let answer = self.connection.take_answer(alloc)?;
+        let answer = match self.connection.take_answer(alloc)? {
+            Some(answer) => answer,
+            None => return Ok(None),
+        };
         // Only an answer on a connection for one message can have the announcement. A persistent connection is idle now.
-        if self.connection.is_idle() || !is_announced(&answer) {
-            return Some(answer);
+        if self.connection.is_idle() {
+            return Ok(Some(answer));
         }
-        let signature = Vec::from_slice(alloc, signature_in(&answer)).ok()?;
+        if !is_announced(&answer) {
+            return Ok(Some(answer));
+        }
+        let signature = Vec::from_slice(alloc, signature_in(&answer))?;
         self.is_announced = true;
-        Some(signature)
+        Ok(Some(signature))
     }
 
     /// After the answer was taken: whether a later request can use the connection. If the answer announced persistent connections, first opens one.
@@ -119,7 +134,9 @@ impl SignatureRequest {
     }
 
     /// Whether the connection was registered with a poller, even if it was deregistered since.
-    pub fn is_registered(&self) -> bool {
+    pub fn is_registered(&self) -> bool
+        ensures { result ≡ self.now.is_registered }
+    {
         self.is_registered
     }
 }
@@ -138,10 +155,9 @@ fn send_on_kept(
     request.message.clear();
     request.message.extend_from_slice(message).ok()?;
     let alloc = request.rt.alloc();
-    if request.connection.send_next(alloc, message) {
-        Some(request)
-    } else {
-        None
+    match request.connection.send_next(alloc, message) {
+        Ok(true) => Some(request),
+        _ => None,
     }
 }
 

@@ -71,7 +71,8 @@ impl<D: Device + Drop> DeviceSigner<D> {
         ensures device_answered { OnTrue result
             (D.device_answered (D.device_path self.old.device) message.now answer.new.items) }
         ensures short { OnTrue result (length answer.new.items ≤ 4096) }
-        ensures failed { OnFalse result (FailsToSign D.Device self.old message.now self.new) }
+        ensures failed { OnFalse result
+            (FailsToSign D.Device self.old message.now (vec_len answer.old) self.new) }
         ensures same_path { D.device_path self.new.device ≡ D.device_path self.old.device }
         ensures same_identity { device_identity D.Device self.new ≡ device_identity D.Device self.old }
         ensures same_failures { self.new.failures ≡ self.old.failures }

@@ -1,12 +1,12 @@
 //! One connection to a signer process. A persistent connection takes many messages: the next one is sent once the answer to the last was taken.
 
-ghost use Rattle.std.specs.Prelude.{◌≡◌, ◌≤◌, ◌↔◌, IfSome, IsTrue, length};
+ghost use Rattle.std.specs.Prelude.{◌≡◌, ◌<◌, ◌≤◌, ◌↔◌, IfNone, IfOk, IfSome, IsTrue, OnErr, length};
 
 use crate::counted_bytes::{LENGTH_BYTES, with_length, without_length};
 use crate::signer::LONGEST_ANSWER;
-use reg_io::write_whole;
-use std::alloc::Global;
-use std::io::{ErrorKind, Read, Write};
+use reg_io::{Sink, Source, write_whole};
+use std::alloc::{AllocError, Global};
+use std::io::ErrorKind;
 
 /// The most bytes of a message on a persistent connection: 2^24 - 1. So its length begins with a byte 0, by which the signer knows such a connection.
 const LONGEST_MESSAGE: usize = 16_777_215;
@@ -46,7 +46,7 @@ pub struct SignerConnection<S> {
 }
 
 impl<S: Drop> SignerConnection<S> {
-    ghost use Rattle.reg_crl_signer.specs.SignerConnections.{FailedUnanswered, FramesAnswer, HasEnded, IsNewConnection, LeadsOn, TakesAnswer};
+    ghost use Rattle.reg_crl_signer.specs.SignerConnections.{FailedUnanswered, FailsAfterRead, FramesAnswer, HasEnded, HoldsAnswer, IsNewConnection, LeadsOn, TakesAnswer};
 
     /// A connection for one message, which the caller sends over `stream`. Its answer counts as awaited from the start.
     pub fn for_one(alloc: Global, stream: S) -> SignerConnection<S>
@@ -100,18 +100,26 @@ impl<S: Drop> SignerConnection<S> {
             && self.received.is_empty()
     }
 
-    /// Takes the answer, if it has arrived. After that a persistent connection is idle (`is_idle`). `None` also if there is no memory.
-    pub fn take_answer(&mut self, alloc: Global) -> Option<Vec<u8>>
-        ensures taken { IfSome result (λ answer. TakesAnswer self.old self.new answer.items) }
-        ensures short { IfSome result (λ answer. length answer.items ≤ 4096) }
+    /// Takes the answer, if it has arrived (else `Ok(None)`). After that a persistent connection is idle (`is_idle`).
+    pub fn take_answer(&mut self, alloc: Global) -> Result<Option<Vec<u8>>, AllocError>
+        ensures taken { IfOk result (λ taken. IfSome taken
+            (λ answer. TakesAnswer self.old self.new answer.items)) }
+        ensures short { IfOk result (λ taken. IfSome taken (λ answer. length answer.items ≤ 4096)) }
+        ensures none { IfOk result (λ taken. IfNone taken
+            (¬ ((self.old.progress ≡ Progress.Arrived) × HoldsAnswer self.old))) }
+        ensures same { IfOk result (λ taken. IfNone taken (self.new ≡ self.old)) }
+        ensures memory { OnErr result (self.new ≡ self.old) }
     {
         if self.progress != Progress::Arrived {
-            return None;
+            return Ok(None);
         }
-        let answer = Vec::from_slice(alloc, self.answer()?).ok()?;
+        let answer = match self.answer() {
+            Some(answer) => Vec::from_slice(alloc, answer)?,
+            None => return Ok(None),
+        };
         self.progress = Progress::Idle;
         self.received.clear();
-        Some(answer)
+        Ok(Some(answer))
     }
 
     /// The received bytes as a whole answer. `None` if they are no whole answer, or if it has more than 4,096 bytes.
@@ -119,6 +127,7 @@ impl<S: Drop> SignerConnection<S> {
         ensures is { IfSome result (λ answer.
             FramesAnswer self.now.framing self.now.received.items answer.now) }
         ensures short { IfSome result (λ answer. length answer.now ≤ 4096) }
+        ensures none { IfNone result (¬ HoldsAnswer self.now) }
     {
         let answer = match self.framing {
             Framing::ByEnd => self.received.as_slice(),
@@ -135,13 +144,19 @@ impl<S: Drop> SignerConnection<S> {
         ensures leads { LeadsOn self.now.progress result }
         ensures not_idle { ¬ (result ≡ Progress.Idle) }
         ensures ended { result ≡ Progress.Arrived → self.now.framing ≡ Framing.ByEnd → IsTrue is_at_end }
+        ensures whole { result ≡ Progress.Arrived → HoldsAnswer self.now }
+        ensures failed { result ≡ Progress.Failed → self.now.progress ≡ Progress.Waiting
+            → FailsAfterRead self.now is_at_end }
+        ensures waits { result ≡ Progress.Waiting
+            → ¬ (IsTrue is_at_end) × (length self.now.received.items ≤ 4100) }
+        ensures unawaited { ¬ (self.now.progress ≡ Progress.Waiting) → result ≡ Progress.Failed }
     {
         // No answer is awaited: the connection has ended, or bytes came to which no message belongs.
         if self.progress != Progress::Waiting {
             return Progress::Failed;
         }
         // An answer `ByEnd` is whole only once the connection has ended, one `ByLength` only while it has not.
-        let is_whole = is_at_end == (self.framing == Framing::ByEnd) && self.answer().is_some();
+        let is_whole = is_at_end == (self.framing == Framing::ByEnd) && self.has_answer();
         if is_whole {
             Progress::Arrived
         } else if is_at_end || self.received.len() > LENGTH_BYTES + LONGEST_ANSWER {
@@ -150,16 +165,32 @@ impl<S: Drop> SignerConnection<S> {
             Progress::Waiting
         }
     }
+
+    fn has_answer(&self) -> bool
+        ensures { IsTrue result ↔ HoldsAnswer self.now }
+    {
+        match self.answer() {
+            Some(_) => true,
+            None => false,
+        }
+    }
 }
 
-impl<S: Read + Drop> SignerConnection<S> {
-    ghost use Rattle.reg_crl_signer.specs.SignerConnections.{Receives};
+impl<S: Source + Drop> SignerConnection<S> {
+    ghost use Rattle.std.specs.Bool.{IsFalse};
+    ghost use Rattle.reg_crl_signer.specs.SignerConnections.{FailsToReceive, HoldsAnswer, Receives};
 
-    /// Reads what has come, without blocking.
+    /// Reads what has come, without blocking: until the answer has arrived, the connection has failed, or a read would block.
     pub fn receive(&mut self)
-        ensures { Receives S.remaining self.old self.new }
+        ensures receives { Receives S.remaining self.old self.new }
+        ensures rests { self.new.progress ≡ self.old.progress → ¬ (self.new.progress ≡ Progress.Failed)
+            → S.failed }
+        ensures whole { self.old.progress ≡ Progress.Waiting → self.new.progress ≡ Progress.Arrived
+            → HoldsAnswer self.new }
+        ensures fails { ¬ (self.old.progress ≡ Progress.Failed) → self.new.progress ≡ Progress.Failed
+            → FailsToReceive S.failed S.remaining self.old self.new }
     {
-        for _ in 0..MOST_READS {
+        for reads in 0..MOST_READS {
             if !self.receive_once() {
                 return;
             }
@@ -170,44 +201,68 @@ impl<S: Read + Drop> SignerConnection<S> {
     fn receive_once(&mut self) -> bool
         ensures receives { Receives S.remaining self.old self.new }
         ensures more { IsTrue result → self.new.progress ≡ Progress.Waiting }
+        ensures grows { IsTrue result → (length self.old.received.items < length self.new.received.items)
+            × (length self.new.received.items ≤ 4100) }
+        ensures rests { IsFalse result → self.new.progress ≡ self.old.progress
+            → ¬ (self.new.progress ≡ Progress.Failed) → S.failed }
+        ensures whole { self.old.progress ≡ Progress.Waiting → self.new.progress ≡ Progress.Arrived
+            → HoldsAnswer self.new }
+        ensures fails { ¬ (self.old.progress ≡ Progress.Failed) → self.new.progress ≡ Progress.Failed
+            → FailsToReceive S.failed S.remaining self.old self.new }
     {
         let mut buffer = [0; READ_BYTES];
-        match self.stream.read(&mut buffer) {
-            Ok(0) => self.progress = self.progress_after(true),
-            Ok(count) => {
-                self.progress = match self.received.extend_from_slice(&buffer[..count]) {
-                    Ok(()) => self.progress_after(false),
-                    Err(_) => Progress::Failed,
-                };
-                return self.progress == Progress::Waiting;
+        match self.stream.try_read(&mut buffer) {
+            Ok(0) => {
+                self.progress = self.progress_after(true);
+                false
             }
-            Err(error) if error.kind() == ErrorKind::WouldBlock => {}
-            Err(_) => self.progress = Progress::Failed,
+            Ok(count) => match self.received.extend_from_slice(&buffer[..count]) {
+                Ok(()) => {
+                    self.progress = self.progress_after(false);
+                    self.progress == Progress::Waiting
+                }
+                Err(_) => {
+                    self.progress = Progress::Failed;
+                    false
+                }
+            },
+            Err(error) if error.kind() == ErrorKind::WouldBlock => false,
+            Err(_) => {
+                self.progress = Progress::Failed;
+                false
+            }
         }
-        false
     }
 }
 
-impl<S: Write + Drop> SignerConnection<S> {
-    ghost use Rattle.std.specs.Bool.{OnTrue};
-    ghost use Rattle.reg_crl_signer.specs.SignerConnections.{SendsNext};
+impl<S: Sink + Drop> SignerConnection<S> {
+    ghost use Rattle.std.specs.Bool.{OnFalse, OnTrue};
+    ghost use Rattle.reg_crl_signer.specs.SignerConnections.{FailsToSend, SendsNext};
 
-    /// Sends the next message. If the connection isn't idle, or the message is longer than `LONGEST_MESSAGE`, sends nothing and returns `false`. If
-    /// sending fails or would block, or there is no memory, returns `false`, and the connection has failed.
-    pub fn send_next(&mut self, alloc: Global, message: &[u8]) -> bool
-        ensures { OnTrue result (SendsNext S.contents self.old self.new message.now) }
+    /// Sends the next message. If the connection isn't idle, or the message is longer than `LONGEST_MESSAGE`, sends nothing and returns `Ok(false)`.
+    /// If sending fails or would block, returns `Ok(false)`, and the connection has failed. If out of memory, sends nothing.
+    pub fn send_next(&mut self, alloc: Global, message: &[u8]) -> Result<bool, AllocError>
+        ensures sent { IfOk result (λ sent. OnTrue sent
+            (SendsNext S.contents self.old self.new message.now)) }
+        ensures unsent { IfOk result (λ sent. OnFalse sent
+            (FailsToSend S.failed self.old self.new message.now)) }
+        ensures memory { OnErr result (self.new ≡ self.old) }
     {
-        if !self.is_idle() || message.len() > LONGEST_MESSAGE {
-            return false;
+        if !self.is_idle() {
+            return Ok(false);
         }
-        match with_length(alloc, message) {
-            Ok(counted) if write_whole(&mut self.stream, &counted).is_ok() => {
+        if message.len() > LONGEST_MESSAGE {
+            return Ok(false);
+        }
+        let counted = with_length(alloc, message)?;
+        match write_whole(&mut self.stream, &counted) {
+            Ok(()) => {
                 self.progress = Progress::Waiting;
-                true
+                Ok(true)
             }
-            _ => {
+            Err(_) => {
                 self.progress = Progress::Failed;
-                false
+                Ok(false)
             }
         }
     }

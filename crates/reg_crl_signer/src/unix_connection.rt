@@ -70,6 +70,8 @@ impl DeviceConnection for UnixConnection {
 
     ghost finished = { λ before after. Unit {0} };
 
+    ghost unfinished = { λ before. Unit {0} };
+
     ghost answered_another_caller = { λ path message answer. Unit {0} };
 
     /// If the socket's backlog is full, tries again every 10 ms, for ten seconds: then `TimedOut`. Other errors are those of the system calls. A
@@ -97,7 +99,8 @@ impl DeviceConnection for UnixConnection {
     }
 
     fn finish(&mut self) -> io::Result<()>
-        ensures { Unit {0} }
+        ensures ok { Unit {0} }
+        ensures err { Unit {0} }
     {
         self.stream.shutdown(Shutdown::Write)
     }

@@ -425,7 +425,10 @@ impl<'a> Machine for SystemHost<'a> {
             (path message : List ℕ) → IsSignatureRequest path message request.old → Unspecified path) }
         ensures short { IfSome result (λ answer. length answer.items ≤ 4096) }
     {
-        request.take_signature(alloc)
+        match request.take_signature(alloc) {
+            Ok(answer) => answer,
+            Err(_) => None,
+        }
     }
 
     fn set_preset(
