@@ -4,7 +4,7 @@
 ghost use Rattle.std.specs.Prelude.{◌≡◌, IfOk, OnOk, [], false, map};
 ghost use Rattle.clap.specs.Words.{App, app_of, rule_of, with_subcommand};
 ghost use Rattle.clap.specs.declared.builder.command.Command.TheViews.{out-Command as fields_of};
-ghost use Rattle.reg_desk_cli.specs.Desk.{may, needs, bare_app, app_without_commands, desk_app, other_command_apps, first_command_apps, with_commands, with_rules};
+ghost use Rattle.reg_desk_cli.specs.Desk.{may, bare_app, app_without_commands, desk_app, other_command_apps, first_command_apps, with_commands, with_rules};
 ghost use Rattle.reg_desk_cli.specs.Table.{AreLocal, app_of_entry, rule_of_part, with_made};
 
 use crate::table::{CommandEntry, FIRST_COMMANDS, OPTIONS_BEFORE_COMMAND, OTHER_COMMANDS, Part};
@@ -132,8 +132,15 @@ fn arg<'a>(alloc: Global, part: &Part) -> Result<Arg<'a>, AllocError>
                     .num_args(1..),
             )
         }
-        Part::RequiredOption(id, name, help) => Ok(required_option(alloc, id, name, help)),
-        Part::Renamed(id, older, name, help) => required_option(alloc, id, name, help).alias(older),
+        Part::RequiredOption(id, name, help) => Ok(
+            one_value(alloc, id, name, help).long(id).required(true),
+        ),
+        Part::Renamed(id, older, name, help) => {
+            one_value(alloc, id, name, help)
+                .long(id)
+                .required(true)
+                .alias(older)
+        }
         Part::OptionalOption(id, name, help) => Ok(one_value(alloc, id, name, help).long(id)),
         Part::Several(id, names, help) => Ok(
             Arg::new(alloc, id).long(id).value_names(names).help(help),
@@ -145,14 +152,6 @@ fn arg<'a>(alloc: Global, part: &Part) -> Result<Arg<'a>, AllocError>
                 .help(help),
         ),
     }
-}
-
-fn required_option<'a>(alloc: Global, id: &'a str, name: &'a str, help: &'a str) -> Arg<'a>
-    ensures rule { rule_of result ≡ needs id.entry.now }
-    ensures local { result.global ≡ false }
-    ensures alone { result.aliases.items ≡ [] }
-{
-    one_value(alloc, id, name, help).long(id).required(true)
 }
 
 /// A positional argument that may be left out and takes one value; the caller's `long` makes it an option.
