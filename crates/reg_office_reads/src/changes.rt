@@ -11,7 +11,7 @@ ghost use Rattle.reg_der.specs.Authority.{name_of};
 ghost use Rattle.reg_office_api.specs.LookUps.{GivesChanges, HasChanges, IsOfStore};
 ghost use Rattle.reg_store_tables.specs.LookUps.{Learns, LooksUp};
 
-use reg_core::{CertRow, CrlRow, Fault, OrderRow, RequestRow, RevocationRow, SubscriberRow};
+use reg_core::{CertRow, Fault, OrderRow, RequestRow, RevocationRow, SubscriberRow};
 use reg_core_lists::{
     Declines, FeedCrl, FeedPage, FeedRows, MOST_ROWS, Positions, RowCounts, WINDOW, digest_of,
     no_declines, put_head, revocations_until_next_crl, zero_counts,
@@ -187,20 +187,13 @@ fn next_crl<C: Alter>(tables: &mut Tables<C>, crls: u64) -> Result<Option<FeedCr
         option_map feed_crl_of next ≡ slice_get records.crls crls) }
 {
     let rows = tables.crls_after(crls, 1)?;
-    let first = first_of(&rows);
-    match first {
+    match rows.first().copied() {
         Some(row) => {
             let der = der_of(tables, row.number)?;
             Ok(Some(FeedCrl { row, der }))
         }
         None => Ok(None),
     }
-}
-
-fn first_of(rows: &[CrlRow]) -> Option<CrlRow>
-    ensures { result ≡ slice_get rows.now 0 }
-{
-    rows.first().copied()
 }
 
 fn der_of<C: Alter>(tables: &mut Tables<C>, number: u64) -> Result<Vec<u8>, DatabaseFault>

@@ -11,11 +11,11 @@ returns-in_err-der-in-Some g c =
 
 pub returns-in-Some : goal.returns-in-Some
 returns-in-Some g c =
-    let first = ap (λ (l : List CrlRow). slice_get l 0) (sym c.deref.ensures.value) ∙ sym c.first_of-first.ensures ∙ c.in-Some.is in
+    let first = ap (λ (l : List CrlRow). slice_get l 0) (sym c.deref.ensures.value) ∙ sym c.first.ensures.value ∙ sym c.copied.ensures ∙ c.in-Some.is in
     so (and_so (by_finding c.in_ok-rows.ensures) c.in_ok-der-in-Some.ensures)
     (λ records sound it. next_is records.crls c.args.crls c.in_ok-rows.rows.items sound.crls.numbered it.0 c.in-Some.row c.in_ok-der-in-Some.der.items first it.1)
 
 pub returns : goal.returns
 returns g c =
-    let none = ap (λ (l : List CrlRow). slice_get l 0) (sym c.deref.ensures.value) ∙ sym c.first_of-first.ensures ∙ c.in-None.is in
+    let none = ap (λ (l : List CrlRow). slice_get l 0) (sym c.deref.ensures.value) ∙ sym c.first.ensures.value ∙ sym c.copied.ensures ∙ c.in-None.is in
     so (by_finding c.in_ok-rows.ensures) (λ records sound it. next_none records.crls c.args.crls c.in_ok-rows.rows.items sound.crls.numbered it none)
