@@ -799,6 +799,9 @@ def through_ssh(t):
     (t.room / "authorized").write_bytes((t.room / "user.pub").read_bytes())
     for it in ("authorized", "host", "user"):
         (t.room / it).chmod(0o600)
+    starts = t.tried(shutil.which("sshd"), "-t", "-f", "/dev/null", "-h", t.room / "host")
+    if starts.returncode:
+        raise Skipped(f"sshd can't start here: {starts.stderr.decode().strip()}")
     server = subprocess.Popen([
         shutil.which("sshd"), "-D", "-e", "-f", "/dev/null", "-p", str(port), "-h", t.room / "host", "-o", "ListenAddress=127.0.0.1",
         "-o", f"AuthorizedKeysFile={t.room}/authorized", "-o", "StrictModes=no", "-o", f"PidFile={t.room}/sshd.pid",

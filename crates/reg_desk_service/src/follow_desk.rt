@@ -224,20 +224,22 @@ impl<'a, 'w, M: Machine> Handler for FollowDesk<'a, 'w, M> {
             return Err(EventLoopFault);
         };
         let millis = self.read_millis()?;
-        let mut tally = self.desk.tally.get();
+        let progress = self.follower.status(millis);
+        let desk = &mut self.desk;
+        let mut tally = desk.tally.get();
         let begun = answer_http::<M>(
-            self.desk.alloc,
-            &mut self.desk.office,
-            self.desk.machine,
-            DeskKind::Following(self.follower.status(millis)),
+            desk.alloc,
+            &mut desk.office,
+            desk.machine,
+            DeskKind::Following(progress),
             &mut tally,
-            &mut self.desk.admission,
-            self.desk.connection_totals.get(),
+            &mut desk.admission,
+            desk.connection_totals.get(),
             now,
             client,
             request,
         );
-        self.desk.tally.set(tally);
+        desk.tally.set(tally);
         Ok(begun)
     }
 
@@ -333,8 +335,9 @@ impl<'a, 'w, M: Machine> Handler for FollowDesk<'a, 'w, M> {
 
     fn work(&mut self, registry: &Registry, now: u64) -> Result<u64, EventLoopFault> {
         let millis = self.read_millis()?;
+        let machine = self.desk.machine;
         self.follower
-            .work::<M>(&mut self.desk.office, self.desk.machine, registry, millis)
+            .work::<M>(&mut self.desk.office, machine, registry, millis)
     }
 
     fn keep_counts(&self, connection_counts: ConnectionCounts) {

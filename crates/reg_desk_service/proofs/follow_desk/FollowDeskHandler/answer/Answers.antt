@@ -14,8 +14,8 @@ returns-clause-ok g c =
         _,
         c.in_ok-millis.ensures.read,
         refl,
-        rw c.status.ensures at
-            answers_meet g.M.Office.Office.is_clean g.M.Office.Office.stands g.M.Office.Office.signs c.in-Ok.now c.args.self.now.desk.admission _ (Following c.status.result) _ _
+        rw c.status-progress.ensures at
+            answers_meet g.M.Office.Office.is_clean g.M.Office.Office.stands g.M.Office.Office.signs c.in-Ok.now c.args.self.now.desk.admission _ (Following c.status-progress.result) _ _
             (AnsweredAtSomePath g.M.Machine.signer_answered) (λ identity message answer given form. g.met.M.Machine.answer_in_form_signs identity given.0 message answer given.1 form)
             (collected_bytes c.args.request.now) g.M.Machine.clock_reached begun (outcome_of c.answer_http-begun.result) recounted _ c.in-Ok.ensures.by_clock counted moves,
       ),
