@@ -11,7 +11,8 @@ use Rattle.reg_office_api.specs.Leads.{Leads, Looks}
 use Rattle.reg_desk_server.specs.Failures.{EndsEarly}
 use Rattle.reg_office_api.specs.declared.office.Office.{Ghosts as Office}
 use Rattle.reg_desk_service.specs.declared.machine.Machine.{Ghosts as Machine}
-use Rattle.reg_desk_jobs.specs.FollowJobs.{EndsFollowing, ending_by}
+use Rattle.reg_core_lists.specs.declared.feed_reader.ReceivedPage.{ReceivedPage}
+use Rattle.reg_desk_jobs.specs.FollowJobs.{CopiesFilled, EndsFollowing, FillsFile, ending_by}
 use Rattle.reg_desk_jobs.specs.Serving.{Served}
 
 -- a run, seen through a function of its states
@@ -75,6 +76,18 @@ pub ends_following : {M O D S R : Type 0} (machines : Machine M O D S R) (office
 ends_following machines offices port (Some why) inputs out out' ending served = refl
 ends_following machines offices port None inputs out out' ending served =
     served_as port 18446744073709551615 _ _ inputs out out' ending (λ early. elim early [ inl ended ↦ ended | inr bad ↦ absurd cc ]) served
+
+-- what was done with files, by the paths' other names
+module _ {M O D S R : Type 0} (machines : Machine M O D S R) (offices : Office O) where
+  pub fills_at : (path other : List ℕ) (pages : List ReceivedPage) (result : Result (Unit {0}) Failure) (m m' : M) → path ≡ other
+      → FillsFile machines offices path pages result m m' → FillsFile machines offices other pages result m m'
+  fills_at path other pages result m m' same filled = subst (λ (it : List ℕ). FillsFile machines offices it pages result m m') same filled
+
+  pub copies_at : (path other to to' : List ℕ) (entered result : Result (Unit {0}) Failure) (m m' : M) → path ≡ other → to ≡ to'
+      → CopiesFilled machines offices path to entered result m m' → CopiesFilled machines offices other to' entered result m m'
+  copies_at path other to to' entered result m m' same same_to copied =
+      subst (λ (it : List ℕ). CopiesFilled machines offices other it entered result m m') same_to
+      (subst (λ (it : List ℕ). CopiesFilled machines offices it to entered result m m') same copied)
 
 -- a path was claimed, or something lay there and the machine is as it was
 pub claims : {M : Type 0} (Claimed Lies : Type 0) (machine start : M) (is_ours : Bool) → (IsTrue is_ours → Claimed) → (IsFalse is_ours → Lies)

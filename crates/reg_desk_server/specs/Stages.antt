@@ -1,8 +1,8 @@
 -- One HTTP connection: the bytes that came are kept, and the handler's answer to them is sent on the connection. An answer that is left to be signed
 -- is kept in the connection too, and only a text that finishes it is sent there.
-use Rattle.std.specs.Prelude.{◌≡◌, ℕ, true, List, [], ◌++◌, Option, is_some}
+use Rattle.std.specs.Prelude.{◌≡◌, ◌≤◌, ◌<◌, ◌+◌, ℕ, Bool, true, false, List, [], ◌++◌, Option, Some, None, IsTrue, is_some}
 use Rattle.std.specs.Io.KnownBytes.{Appends, Consumes}
-use Rattle.reg_http_head.specs.Bytes.{collected_bytes}
+use Rattle.reg_http_head.specs.Bytes.{collected_bytes, IsExact}
 use Rattle.reg_http_head.specs.Frame.{IsUnfinished}
 use Rattle.reg_desk_server.specs.Exchange.{Outcome, said, pending, later}
 use Rattle.reg_desk_server.specs.ControlLines.{Gathers}
@@ -66,6 +66,21 @@ HasUnsentRest (stage.Sending unsent exact) rest = rest ≡ unsent_of unsent
 HasUnsentRest stage.Draining rest = rest ≡ []
 HasUnsentRest other rest = ⊥
 
+-- for how many milliseconds a request waits at most
+abbrev pub longest_wait : ℕ
+longest_wait = 1000
+
+-- At a moment, a request waits until a later one. This is set when the request first waits, at most a second later, and then stays.
+abbrev pub WaitsAt : ℕ → Option ℕ → Option ℕ → Type 0
+WaitsAt now (Some until) after = (after ≡ Some until) × (now < until)
+WaitsAt now None after = (until : ℕ) × (after ≡ Some until) × (until ≤ now + longest_wait)
+
+-- a request that is being received may wait: it is whole, nothing came after it, and the handler lets it wait
+abbrev pub RequestMayWait : {T : Type 0} → (List ℕ → Bool) → Stage T → Type 0
+RequestMayWait lets_wait (stage.Receiving collected) =
+    ∥ IsExact (collected_bytes collected) ∥₁ × IsTrue (lets_wait (collected_bytes collected))
+RequestMayWait lets_wait other = ⊥
+
 -- some bytes came, and none of them is kept
 abbrev pub IsDropped : Option (List ℕ) → Option (List ℕ) → Type 0
 IsDropped input left = (dropped : List ℕ) × Consumes input left dropped
@@ -94,6 +109,10 @@ module _ {S H T L : Type 0} where
       ((ticket : T) → AwaitsSignature old.stage ticket
       → AwaitsSignature new.stage ticket × IsDropped (remaining old.stream) (remaining new.stream))
       × (IsDraining old.stage → IsDraining new.stage × IsDropped (remaining old.stream) (remaining new.stream))
+
+  -- the connection has no fault, and its request may wait
+  abbrev pub MayWait : (List ℕ → Bool) → HttpConnection S H T L → Type 0
+  MayWait lets_wait connection = (is_some connection.fault ≡ false) × RequestMayWait lets_wait connection.stage
 
   -- neither the connection's link nor its fault changed
   abbrev pub SameStreamAndFault : HttpConnection S H T L → HttpConnection S H T L → Type 0

@@ -87,6 +87,9 @@ pub trait Handler {
 
     ghost confirmed: { Self → Bool };
 
+    // Whether a whole request waits, by its bytes.
+    ghost lets_wait: { Self → List ℕ → Bool };
+
     ghost has_control: { Self → Type 0 };
 
     // The system failed: the clock can't be read, or the sockets can't be used.
@@ -189,7 +192,8 @@ pub trait Handler {
         ensures { result ≡ confirmed self.now };
 
     /// Whether a whole request waits: the event loop answers it once this is no longer so, or after a second.
-    fn waits(&self, request: &Collected) -> bool;
+    fn waits(&self, request: &Collected) -> bool
+        ensures { result ≡ lets_wait self.now (collected_bytes request.now) };
 
     /// Does work of its own, without blocking, once in each iteration of `serve_all` before anything is answered. `now` is in milliseconds of the
     /// handler's clock. Returns the most milliseconds until it is called again. [`EventLoopFault`] if the loop is to end.

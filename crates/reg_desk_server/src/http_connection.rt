@@ -1,8 +1,8 @@
 //! One HTTP connection, on which one request is answered.
 
-ghost use Rattle.std.specs.Prelude.{◌≡◌, ◌≤◌, ◌+◌, ◌⊎◌, [], OnOk, OnErr, is_some, IsSome, IfNone, IsTrue, Some, false, ◌↔◌};
+ghost use Rattle.std.specs.Prelude.{◌≡◌, ◌≤◌, ◌+◌, ◌⊎◌, [], OnOk, OnErr, is_some, IsSome, IfNone, IsFalse, IsTrue, Some, false, ◌↔◌};
 ghost use Rattle.reg_desk_server.specs.Handling.{Handled};
-ghost use Rattle.reg_desk_server.specs.Stages.{Answering, Drops, Finishing, HasReceived, HasUnsentText, IsDropped, IsIncomplete, KeepsReceived, ReceivesMore, SameStreamAndFault, Sends};
+ghost use Rattle.reg_desk_server.specs.Stages.{Answering, Drops, Finishing, HasReceived, HasUnsentText, IsDropped, IsIncomplete, KeepsReceived, MayWait, ReceivesMore, SameStreamAndFault, Sends, WaitsAt};
 
 use crate::handler::{ConnectionFault, EventLoopFault, Handler};
 use crate::request_bytes::{Received, receive};
@@ -277,16 +277,13 @@ impl<S: ClientStream, H: Handler> HttpConnection<S, H> {
     }
 
     /// Whether the request waits before it is answered: the handler lets it, and it has not waited for `WAIT_MILLIS`.
-    pub fn waits(&mut self, handler: &H, now: u64) -> bool {
-        let may_wait = match &self.stage {
-            Stage::Receiving(collected) => self.fault.is_none()
-                && collected.is_exact()
-                && handler.waits(collected),
-            Stage::Signing(..) => false,
-            Stage::Sending(..) => false,
-            Stage::Draining => false,
-        };
-        if !may_wait {
+    pub fn waits(&mut self, handler: &H, now: u64) -> bool
+        ensures rest { self.new ≡ record self.old { waits_until = self.new.waits_until } }
+        ensures waits { IsTrue result → MayWait (H.lets_wait handler.now) self.old
+            × WaitsAt now self.old.waits_until self.new.waits_until }
+        ensures goes { IsFalse result → self.new ≡ self.old }
+    {
+        if !self.may_wait(handler) {
             return false;
         }
         match self.waits_until {
@@ -295,6 +292,25 @@ impl<S: ClientStream, H: Handler> HttpConnection<S, H> {
                 self.waits_until = Some(now.saturating_add(WAIT_MILLIS));
                 true
             }
+        }
+    }
+
+    fn may_wait(&self, handler: &H) -> bool
+        ensures { IsTrue result → MayWait (H.lets_wait handler.now) self.now }
+    {
+        if self.fault.is_some() {
+            return false;
+        }
+        match &self.stage {
+            Stage::Receiving(collected) => {
+                if !collected.is_exact() {
+                    return false;
+                }
+                handler.waits(collected)
+            }
+            Stage::Signing(..) => false,
+            Stage::Sending(..) => false,
+            Stage::Draining => false,
         }
     }
 

@@ -24,6 +24,7 @@ use Rattle.reg_http.proofs.PublicLaws.{nothing_added}
 use Rattle.reg_desk_server.specs.Exchange.{Outcome, said, pending, later}
 use Rattle.reg_ocsp.specs.Drafts.{Drafted}
 use Rattle.reg_crl_signer.specs.Forms.{HasForm}
+use Rattle.reg_desk_metrics.specs.declared.follower_status.FollowerStatus.{FollowerStatus}
 use Rattle.reg_desk_metrics.specs.declared.tally.Tally.{Tally}
 use Rattle.reg_io.specs.declared.begun.ReadyOrUnsigned.{ReadyOrUnsigned}
 use Rattle.reg_io.specs.declared.begun.ReadyOrUnsigned.TheVariants.{Ready, Unsigned}
@@ -31,12 +32,13 @@ use Rattle.reg_desk_service.specs.RequestOutcomes.{AnswersBegun, BeginsAt, MayNe
 use Rattle.reg_desk_service.specs.Counted.{CountsBegun}
 use Rattle.reg_desk_service.specs.Admission.{BeginsAdmitted, CountsRequest}
 use Rattle.reg_desk_service.specs.Exchanges.{AnswersAs, AnswersAtRoute, MayCount, admission_after, admission_by, dispatch}
+use Rattle.reg_desk_service.specs.HealthRoutes.{AnswersFollowerMetrics, ByGet}
 use Rattle.reg_desk_service.specs.FinishedResponses.{FinishesAt, FinishesUnsigned, Meets}
 use Rattle.reg_desk_service.specs.declared.admission.Admission.{Admission}
 use Rattle.reg_desk_service.specs.declared.unsigned_responses.Unsigned.{Unsigned as UnsignedOf}
 use Rattle.reg_desk_service.specs.declared.http_exchanges.DeskKind.{DeskKind}
 use Rattle.reg_desk_service.specs.declared.http_exchanges.Dispatch.{Dispatch}
-use Rattle.reg_desk_service.specs.declared.http_exchanges.Dispatch.TheVariants.{ToLimits}
+use Rattle.reg_desk_service.specs.declared.http_exchanges.Dispatch.TheVariants.{ToFollowerMetrics, ToLimits}
 use Rattle.reg_desk_service.proofs.Finishing.{left_exchange}
 
 -- what is begun behind the limits of an open desk is begun there
@@ -49,6 +51,16 @@ limited_begins admission kind signs now signers before method target body (Ok (R
     (subst P (sym to) says, adds)
 limited_begins admission kind signs now signers before method target body (Ok (Unsigned draft)) after to left = (subst MayNeedSignature (sym to) tt, left)
 limited_begins admission kind signs now signers before method target body (Err memory) after to same = same
+
+-- a follower's metrics at their route
+pub metrics_begin : (follower : FollowerStatus) (admission : Admission) (kind : DeskKind) (signs : Signs) (now : ℕ) (signers : OfficeSigners) (before : Records)
+    (method target body : List ℕ) (answered : Result HttpAnswer NoMemory) (after : Records) → dispatch kind (route_at (path_of target)) ≡ ToFollowerMetrics follower
+    → IfOk answered (λ it. ByGet method (AnswersFollowerMetrics follower now before) (answer_effects it)) → after ≡ before
+    → BeginsAt kind signs now admission signers before method target body (ready_of answered) after
+metrics_begin follower admission kind signs now signers before method target body (Ok answered) after to is same =
+    let P : Dispatch → Type 0 = λ by. AnswersAtRoute signs now admission signers before (answer_effects answered) after by method target body in
+    (subst P (sym to) (is, same), nothing_added now before after same)
+metrics_begin follower admission kind signs now signers before method target body (Err memory) after to is same = same
 
 -- the limits after a request at its route
 pub counted_at : {A : Type 0} (result : Result A NoMemory) (kind : DeskKind) (now : ℕ) (method target body : List ℕ) (admission admission' : Admission) (by : Dispatch)
@@ -136,3 +148,15 @@ module _ {S : Type 0} (is_clean : S → Type 0) (stands : OfficeSigners → S �
     answers_meet clock (Ready exchange) later first last at is moved = absurd is
     answers_meet clock (Unsigned left) (said text) first last at is moved = absurd is
     answers_meet clock (Unsigned left) later first last at is moved = absurd is
+
+    -- the same of another name of the kind
+    pub answers_meet_as : (other : DeskKind) → kind ≡ other → (clock : ℕ → Type 0) (begun : ReadyOrUnsigned Exchange UnsignedResponse) (outcome : Outcome UnsignedOf)
+        (before_it after_answer : Tally) → clock now → CountsBegun now line_outcome begun outcome before_it after_answer → Leads is_clean stands (Answer begun) s t
+        → Leads is_clean stands
+        (λ signers before after. Meets (FinishesUnsigned signer_answered) (λ text. AnswersAs other signs clock admission admission' signers before line_outcome text after) outcome) s t
+    answers_meet_as other same clock begun outcome before_it after_answer at is moved =
+        subst
+        (λ (it : DeskKind). Leads is_clean stands
+        (λ signers before after. Meets (FinishesUnsigned signer_answered) (λ text. AnswersAs it signs clock admission admission' signers before line_outcome text after) outcome) s t)
+        same
+        (answers_meet clock begun outcome before_it after_answer at is moved)

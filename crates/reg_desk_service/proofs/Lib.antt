@@ -1,6 +1,7 @@
 pub mod Admitting
 pub mod Answering
 pub mod CommandBatches
+pub mod Confirming
 pub mod ControlLines
 pub mod Finding
 pub mod Finishing

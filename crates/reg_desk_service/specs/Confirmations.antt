@@ -1,5 +1,5 @@
 -- When the replies to commands wait for followers, and which requests confirm that a follower has all commands.
-use Rattle.std.specs.Prelude.{◌==◌, ◌&&◌, ◌-◌, ◌+◌, ℕ, nat_le, nat_lt, not, Bool, true, false, cond, List, [], ◌++◌, length, take, drop, is_none, codes, if◌then◌else◌, Option, Some, None, slice_set}
+use Rattle.std.specs.Prelude.{◌==◌, ◌&&◌, ◌||◌, ◌-◌, ◌+◌, ℕ, nat_le, nat_lt, not, Bool, true, false, cond, List, [], ◌++◌, length, take, drop, is_none, codes, if◌then◌else◌, Option, Some, None, slice_set}
 use Rattle.std.specs.List.{ends_with, list_any, position, starts_with}
 use Rattle.std.specs.Option.{option_or}
 use Rattle.reg_core.specs.Number.{number_of}
@@ -46,6 +46,25 @@ confirming_number request response =
     if starts_with (λ a b. a == b) request (codes "GET /changes?after=")
     then confirming_before (drop 19 request) response (position (λ b. b == 32) (drop 19 request)) else None
 
+-- the follower in a query `POSITIONS` or `POSITIONS&follower=NUMBER`, by the index of the first `&`; without a number it has 0
+abbrev pub follower_at : List ℕ → Option ℕ → Option ℕ
+follower_at query None = Some 0
+follower_at query (Some at) = follower_in (drop at query)
+
+abbrev pub follower_in_query : List ℕ → Option ℕ
+follower_in_query query = follower_at query (position (λ b. b == 38) query)
+
+-- the same by the rest of the request after `after=`, and the index of its first space
+abbrev pub follower_before : List ℕ → Option ℕ → Option ℕ
+follower_before rest None = None
+follower_before rest (Some end) = follower_in_query (unwaiting (take end rest))
+
+-- the follower that sends a request for changes
+abbrev pub follower_number : List ℕ → Option ℕ
+follower_number request =
+    if starts_with (λ a b. a == b) request (codes "GET /changes?after=")
+    then follower_before (drop 19 request) (position (λ b. b == 32) (drop 19 request)) else None
+
 -- ---- the state
 
 abbrev pub is_wanted : Confirmation → Bool
@@ -69,6 +88,14 @@ after_lines had_command now it =
 -- whether a follower is among those that have all commands
 abbrev pub has_follower : ℕ → Confirmation → Bool
 has_follower follower it = list_any (λ number. number == follower) (take it.count it.followers)
+
+-- a request of this follower can confirm nothing: no command waits, or the follower is counted already
+abbrev pub is_done_with_follower : Option ℕ → Confirmation → Bool
+is_done_with_follower None it = is_confirmed it
+is_done_with_follower (Some follower) it = is_confirmed it || has_follower follower it
+
+abbrev pub is_done_with : List ℕ → Confirmation → Bool
+is_done_with request it = is_done_with_follower (follower_number request) it
 
 -- one more follower has all commands; they are confirmed once as many followers as are needed have them
 abbrev pub with_follower : ℕ → Confirmation → Confirmation

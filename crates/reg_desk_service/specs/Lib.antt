@@ -10,6 +10,7 @@ pub mod ControlWords
 pub mod LineSignatures
 pub mod Exchanges
 pub mod ExpectedCrls
+pub mod FeedEnds
 pub mod Following
 pub mod SignerAnswers
 pub mod FinishedResponses

@@ -3,7 +3,7 @@
 ghost use Rattle.std.specs.Prelude.{◌≡◌, ◌==◌, ◌<◌, length, IsTrue, IfSome};
 ghost use Rattle.std.specs.List.{position};
 ghost use Rattle.reg_desk_server.specs.Outcomes.{outcome_of};
-ghost use Rattle.reg_desk_service.specs.Confirmations.{after_lines, after_outcome, after_request, confirming_in, confirming_number, ends_feed, follower_in, has_follower, holds_reply, is_confirmed, is_wanted, unwaiting, with_follower};
+ghost use Rattle.reg_desk_service.specs.Confirmations.{after_lines, after_outcome, after_request, follower_in_query, follower_number, confirming_in, confirming_number, ends_feed, follower_in, has_follower, holds_reply, is_confirmed, is_done_with, is_wanted, unwaiting, with_follower};
 
 use crate::line_kinds::{LineKind, before_line_end, kind_of};
 use crate::unsigned_responses::Unsigned;
@@ -138,7 +138,9 @@ impl Confirmation {
     }
 
     /// Whether a request can confirm nothing: each command is confirmed, or its follower is counted already.
-    pub(crate) fn is_done_with(&self, request: &[u8]) -> bool {
+    pub(crate) fn is_done_with(&self, request: &[u8]) -> bool
+        ensures { result ≡ is_done_with request.now self.now }
+    {
         match follower_of(request) {
             Some(follower) => self.is_confirmed() || self.has(follower),
             None => self.is_confirmed(),
@@ -166,10 +168,22 @@ impl Confirmation {
 }
 
 /// The number of the follower that sends a request for changes; 0 if it has none.
-fn follower_of(request: &[u8]) -> Option<u64> {
-    let rest = request.strip_prefix(ASKED)?;
-    let end = first_space(rest)?;
-    let query = unwaiting(&rest[..end]);
+fn follower_of(request: &[u8]) -> Option<u64>
+    ensures { result ≡ follower_number request.now }
+{
+    if !request.starts_with(ASKED) {
+        return None;
+    }
+    let rest = &request[ASKED.len()..];
+    match first_space(rest) {
+        Some(end) => follower_in_query(unwaiting(&rest[..end])),
+        None => None,
+    }
+}
+
+fn follower_in_query(query: &[u8]) -> Option<u64>
+    ensures { result ≡ follower_in_query query.now }
+{
     match first_ampersand(query) {
         Some(at) => follower_in(&query[at..]),
         None => Some(0),

@@ -68,8 +68,9 @@ impl<'a, 'w, M: Machine> Desk<'a, 'w, M> {
 
 // The trait `Handler` describes each function and relation. `kept`: an earlier signature request, whose connection to the signer may be used again.
 impl<'a, 'w, M: Machine> Handler for Desk<'a, 'w, M> {
-    ghost use Rattle.std.specs.Prelude.{[], IsTrue};
-    ghost use Rattle.reg_desk_service.specs.Confirmations.{holds_reply, is_confirmed};
+    ghost use Rattle.std.specs.Prelude.{[], ◌&&◌, IsTrue};
+    ghost use Rattle.reg_desk_service.specs.Confirmations.{holds_reply, is_confirmed, is_done_with};
+    ghost use Rattle.reg_desk_service.specs.FeedEnds.{waits_for_changes};
     ghost use Rattle.reg_office_api.specs.Calls.{KeepsIn, LeadsIn};
     ghost use Rattle.reg_desk_service.specs.ControlWords.{IsAdmissionAfter, AnswersLinesByClock};
     ghost use Rattle.reg_desk_service.specs.LineSignatures.{socket_for};
@@ -110,6 +111,10 @@ impl<'a, 'w, M: Machine> Handler for Desk<'a, 'w, M> {
     ghost holds = { λ desk. holds_reply desk.confirmation };
 
     ghost confirmed = { λ desk. is_confirmed desk.confirmation };
+
+    // a request waits for changes after the end of the feed, unless it can confirm a command
+    ghost lets_wait = { λ desk request. waits_for_changes desk.feed_end.positions.items request
+        && is_done_with request desk.confirmation };
 
     ghost has_control = { λ desk. IsTrue desk.is_open };
 

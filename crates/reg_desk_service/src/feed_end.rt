@@ -1,5 +1,8 @@
 //! Whether a request for changes has to wait: the last page ended the changes feed with the positions that it asks for, and nothing came since.
 
+ghost use Rattle.std.specs.Prelude.{◌≡◌, []};
+ghost use Rattle.reg_desk_service.specs.FeedEnds.{asks_after, waits_for_changes, waits_in};
+
 use crate::confirmation::first_space;
 use crate::line_kinds::{LineKind, before_line_end, kind_of};
 use crate::unsigned_responses::Unsigned;
@@ -24,13 +27,17 @@ pub struct FeedEnd {
 
 impl FeedEnd {
     /// No page is known that ended the feed.
-    pub fn unknown(alloc: Global) -> FeedEnd {
+    pub fn unknown(alloc: Global) -> FeedEnd
+        ensures { result.positions.items ≡ [] }
+    {
         FeedEnd {
             positions: Vec::new(alloc),
         }
     }
 
-    fn forget(&mut self) {
+    fn forget(&mut self)
+        ensures { self.new.positions.items ≡ [] }
+    {
         self.positions.clear();
     }
 
@@ -76,24 +83,28 @@ impl FeedEnd {
         }
     }
 
-    /// Whether a request waits: it asks for the changes after these positions, and has the parameter `wait=1`.
-    pub(crate) fn holds(&self, request: &[u8]) -> bool {
-        match request.strip_prefix(ASKED) {
-            Some(rest) => !self.positions.is_empty() && self.is_asked_in(rest),
-            None => false,
+    /// Whether a request waits: it asks for the changes after these positions, and its last parameter is `wait=1`.
+    pub(crate) fn holds(&self, request: &[u8]) -> bool
+        ensures { result ≡ waits_for_changes self.now.positions.items request.now }
+    {
+        let positions = self.positions.as_slice();
+        if positions.is_empty() || !request.starts_with(ASKED) {
+            return false;
         }
-    }
-
-    fn is_asked_in(&self, rest: &[u8]) -> bool {
-        match rest.strip_prefix(self.positions.as_slice()) {
-            Some(parameters) => waits_in(parameters),
-            None => false,
-        }
+        asks_after(positions, &request[ASKED.len()..])
     }
 }
 
+fn asks_after(positions: &[u8], rest: &[u8]) -> bool
+    ensures { result ≡ asks_after positions.now rest.now }
+{
+    rest.starts_with(positions) && waits_in(&rest[positions.len()..])
+}
+
 /// Whether the last parameter in this rest of a request, up to the first space, lets it wait.
-fn waits_in(parameters: &[u8]) -> bool {
+fn waits_in(parameters: &[u8]) -> bool
+    ensures { result ≡ waits_in parameters.now }
+{
     match first_space(parameters) {
         Some(end) => parameters.starts_with(b"&") && parameters[..end].ends_with(WAITS),
         None => false,

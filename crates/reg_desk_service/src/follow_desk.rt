@@ -186,6 +186,9 @@ impl<'a, 'w, M: Machine> Handler for FollowDesk<'a, 'w, M> {
 
     ghost confirmed = { λ it. true };
 
+    // no request waits
+    ghost lets_wait = { λ it request. false };
+
     ghost has_control = { λ it. IsTrue it.desk.is_open };
 
     ghost failed = { M.failed };

@@ -1,8 +1,6 @@
 use Rattle.std.proofs.Common.{ap, inl, inr, refl, subst, ◌++◌, ◌∙◌}
 use Rattle.std.specs.Prelude.{ℕ, List, codes}
-use Rattle.reg_office_api.specs.Follows.{FormsSign}
-use Rattle.reg_desk_jobs.specs.FollowJobs.{CopiesFilled, FillsFile}
-use Rattle.reg_desk_jobs.proofs.FollowRuns.{is_err}
+use Rattle.reg_desk_jobs.proofs.FollowRuns.{copies_at, fills_at, is_err}
 use Rattle.reg_desk_jobs.proofs.fill_job.fill.Goals as goal
 
 pub returns-in_err-path : goal.returns-in_err-path
@@ -18,13 +16,13 @@ returns-in_err-pages g c =
 
 pub returns : goal.returns
 returns g c =
-    let path = c.as_str-filled.ensures ∙ c.in_ok-path.ensures.ok ∙ ap (λ (file : List ℕ). file ++ codes ".fill") c.as_str-file.ensures in
+    let path = c.as_str-filled.ensures.value ∙ c.in_ok-path.ensures.ok ∙ ap (λ (file : List ℕ). file ++ codes ".fill") c.as_str-file.ensures in
     inr (
       _,
       c.fill_file-entered.result,
       c.fill_file-entered.new.machine,
       c.copy_filled-copied.new.machine,
-      (λ forms. subst (λ (it : List ℕ). FillsFile g.M.Machine g.M.Office.Office it _ c.fill_file-entered.result _ _) path (c.fill_file-entered.ensures forms)),
-      rw c.as_str-file.ensures at (subst (λ (it : List ℕ). CopiesFilled g.M.Machine g.M.Office.Office it _ c.fill_file-entered.result _ _ _) path c.copy_filled-copied.ensures),
-      subst (λ (it : List ℕ). g.M.Machine.removed c.copy_filled-copied.new.machine it _) path c.remove.ensures,
+      (λ forms. fills_at g.M.Machine g.M.Office.Office _ _ _ _ _ _ path (c.fill_file-entered.ensures forms)),
+      copies_at g.M.Machine g.M.Office.Office _ _ _ _ _ _ _ _ path c.as_str-file.ensures c.copy_filled-copied.ensures,
+      subst (λ (it : List ℕ). g.M.Machine.removed c.copy_filled-copied.new.machine it c.remove.new.self) path c.remove.ensures,
     )

@@ -54,10 +54,10 @@ returns g c =
       c.in_ok-prepare.ensures,
       inr (
         c.in_ok-office.office,
-        c.serve_copy.result.0,
+        c.serve_copy-office.result.0,
         c.open_signed.new.machine,
         rw c.as_str-path.ensures at c.in_ok-office.ensures.ok,
-        c.serve_copy.ensures,
+        c.serve_copy-office.ensures,
         rw c.as_str-path.ensures at c.close.ensures,
       ),
     )

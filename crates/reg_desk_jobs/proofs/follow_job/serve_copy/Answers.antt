@@ -24,28 +24,30 @@ pub returns : goal.returns
 returns g c =
     let ran = c.run_event_loop-ending.ensures in
     let follower = c.new-follower.ensures in
+    let last = c.run_event_loop-ending.new.handler in
     inr (
-      subst (λ (path : Option (List ℕ)). IsBoundOn g.M.Machine _ path) (sym c.control_path_of-control_path.ensures) c.in-Ok-event_loop_at.ensures.ok,
+      subst (λ (path : Option (List ℕ)). IsBoundOn g.M.Machine c.args.job.now.endpoint path) (sym c.control_path_of-control_path.ensures) c.in-Ok-event_loop_at.ensures.ok,
       (
-        _,
-        _,
-        _,
-        _,
+        c.positions.new.self,
+        c.new-follower.result,
+        last.follower,
+        last.desk.admission,
         ran.0,
         ran.1,
         record {
-          own = subst (λ (own : Positions). LooksIn g.M.Office.Office (λ records. ArePositionsOf records own) _ _) (sym follower.own) c.in-Ok.ensures.looks;
+          own = subst (λ (own : Positions). LooksIn g.M.Office.Office (λ records. ArePositionsOf records own) c.args.office c.positions.new.self) (sym follower.own) c.in-Ok.ensures.looks;
           lag_is = follower.lag;
           reached_at = follower.reached_at;
         },
         subst
             (λ (a : Admission). Answered (HandlesOrWorks (FollowerAnswers g.M.Machine g.M.Office.Office) (FollowerAnswersLines g.M.Machine g.M.Office.Office)
-            (FollowerDefers g.M.Machine g.M.Office.Office) (FollowerWorks g.M.Machine g.M.Office.Office)) (_, a, _) ran.0 ran.1 _)
+            (FollowerDefers g.M.Machine g.M.Office.Office) (FollowerWorks g.M.Machine g.M.Office.Office)) (c.positions.new.self, a, c.new-follower.result) ran.0 ran.1
+            (last.desk.office, last.desk.admission, last.follower))
             c.new-admission.ensures
             (handles_mapped (λ it. (it.desk.office, it.desk.admission, it.follower)) _ _ _ _ (FollowerAnswers g.M.Machine g.M.Office.Office)
             (FollowerAnswersLines g.M.Machine g.M.Office.Office) (FollowerDefers g.M.Machine g.M.Office.Office) (FollowerWorks g.M.Machine g.M.Office.Office)
             (λ s bytes outcome t said. said.1) (λ s bytes text t said. said.1) (λ s bytes t said. said.1) (λ s t said. said.1)
-            _ c.run_event_loop-ending.new.handler ran.0 ran.1 ran.2),
+            _ last ran.0 ran.1 ran.2),
         rw (c.ending_of-result.ensures, c.stop.ensures) (ends_following g.M.Machine g.M.Office.Office _ _ ran.0 _ _ c.run_event_loop-ending.result ran.3),
       ),
     )

@@ -1,12 +1,15 @@
-use Rattle.std.proofs.Common.{◌∙◌, ap, refl, sym}
+use Rattle.std.proofs.Common.{◌≡◌, ◌∙◌, ap, refl, sym}
+use Rattle.std.specs.Prelude.{IfOk}
 use Rattle.reg_office_api.proofs.PublicLaws.{follows}
 use Rattle.reg_http.specs.RoutedRequests.{asked}
 use Rattle.reg_desk_service.specs.Admission.{BeginsAdmitted}
-use Rattle.reg_desk_service.specs.RequestOutcomes.{BeginsAt}
+use Rattle.reg_http.specs.AnswerEffects.{answer_effects}
+use Rattle.reg_desk_service.specs.HealthRoutes.{AnswersFollowerMetrics, ByGet}
+use Rattle.reg_desk_service.specs.RequestOutcomes.{BeginsAt, ready_of}
 use Rattle.reg_desk_service.specs.Exchanges.{dispatch}
 use Rattle.reg_desk_service.specs.declared.http_exchanges.Dispatch.TheVariants.{Refuse, ToChanges, ToFollowerHealth, ToFollowerMetrics, ToHealth, ToLimits, ToList, ToMetrics, ToRegister, TryLater}
 use Rattle.reg_desk_service.proofs.Admitting.{was_counted}
-use Rattle.reg_desk_service.proofs.Answering.{counted_at, limited_begins}
+use Rattle.reg_desk_service.proofs.Answering.{counted_at, limited_begins, metrics_begin}
 use Rattle.reg_desk_service.proofs.http_exchanges.begin_at.Goals as goal
 
 pub returns-in-ToLimits-clause-moves : goal.returns-in-ToLimits-clause-moves
@@ -59,6 +62,23 @@ pub returns-in-ToFollowerHealth-clause-counted : goal.returns-in-ToFollowerHealt
 returns-in-ToFollowerHealth-clause-counted g c =
     let to = ap (dispatch c.args.kind) (sym c.requires) ∙ sym c.dispatch_of.ensures ∙ c.in-ToFollowerHealth.is in
     counted_at _ c.args.kind c.args.now c.args.method.now c.args.target.now c.args.body.now c.args.admission.now _ (ToFollowerHealth c.in-ToFollowerHealth.follower) to (was_counted _ _ _ _ refl)
+
+pub returns-in-ToFollowerMetrics-clause-moves : goal.returns-in-ToFollowerMetrics-clause-moves
+returns-in-ToFollowerMetrics-clause-moves g c =
+    let to = ap (dispatch c.args.kind) (sym c.requires) ∙ sym c.dispatch_of.ensures ∙ c.in-ToFollowerMetrics.is in
+    rw c.ready-in-ToFollowerMetrics.ensures (
+    follows g.M.Office.Office.is_clean g.M.Office.Office.stands
+    (λ signers before after. IfOk c.follower_metrics.result (λ answered.
+    ByGet c.args.method.now (AnswersFollowerMetrics c.in-ToFollowerMetrics.follower c.args.now before) (answer_effects answered)) × (after ≡ before))
+    (λ signers before after. BeginsAt c.args.kind g.M.Office.Office.signs c.args.now c.args.admission.now signers before c.args.method.now c.args.target.now c.args.body.now
+    (ready_of c.follower_metrics.result) after)
+    (λ signers before after looked.
+    metrics_begin c.in-ToFollowerMetrics.follower c.args.admission.now c.args.kind g.M.Office.Office.signs c.args.now signers before c.args.method.now c.args.target.now
+    c.args.body.now c.follower_metrics.result after to looked.0 looked.1)
+    _
+    _
+    c.follower_metrics.ensures.moves
+    )
 
 pub returns-in-ToFollowerMetrics-clause-counted : goal.returns-in-ToFollowerMetrics-clause-counted
 returns-in-ToFollowerMetrics-clause-counted g c =

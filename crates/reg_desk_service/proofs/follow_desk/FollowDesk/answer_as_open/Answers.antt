@@ -13,5 +13,9 @@ returns-in-Ok-clause-ok g c =
     let said = c.in-Ok.ensures.ok in
     let all = all_of_line line _ (ends_alone line _ c.requires.line said.0) in (
       said.1.1 ∙ sym said.1.0,
-      subst (λ (bytes : List ℕ). AnswersLinesAsOpen g.M.Machine g.M.Office.Office _ bytes _ _) all (refl, said.1.2, said.1.3),
+      subst
+          (λ (bytes : List ℕ). AnswersLinesAsOpen g.M.Machine g.M.Office.Office (c.args.self.now.desk.office, c.args.self.now.desk.admission, c.args.self.now.follower) bytes
+          c.in-Ok.replies.text.items (c.answer_lines.new.self.office, c.answer_lines.new.self.admission, c.args.self.now.follower))
+          all
+          (refl, said.1.2, said.1.3),
     )

@@ -1,9 +1,9 @@
-use Rattle.std.proofs.Common.{refl}
+use Rattle.std.proofs.Common.{ap, refl}
 use Rattle.reg_http_head.specs.Bytes.{collected_bytes}
 use Rattle.reg_desk_server.specs.Outcomes.{outcome_of}
 use Rattle.reg_desk_service.specs.SignerAnswers.{AnsweredAtSomePath}
 use Rattle.reg_desk_service.specs.declared.http_exchanges.DeskKind.TheVariants.{Following}
-use Rattle.reg_desk_service.proofs.Answering.{answers_meet}
+use Rattle.reg_desk_service.proofs.Answering.{answers_meet_as}
 use Rattle.reg_desk_service.proofs.follow_desk.FollowDeskHandler.answer.Goals as goal
 
 pub returns-clause-ok : goal.returns-clause-ok
@@ -14,9 +14,9 @@ returns-clause-ok g c =
         _,
         c.in_ok-millis.ensures.read,
         refl,
-        rw c.status-progress.ensures at
-            answers_meet g.M.Office.Office.is_clean g.M.Office.Office.stands g.M.Office.Office.signs c.in-Ok.now c.args.self.now.desk.admission _ (Following c.status-progress.result) _ _
+        answers_meet_as g.M.Office.Office.is_clean g.M.Office.Office.stands g.M.Office.Office.signs c.in-Ok.now c.args.self.now.desk.admission _ (Following c.status-progress.result) _ _
             (AnsweredAtSomePath g.M.Machine.signer_answered) (λ identity message answer given form. g.met.M.Machine.answer_in_form_signs identity given.0 message answer given.1 form)
-            (collected_bytes c.args.request.now) g.M.Machine.clock_reached begun (outcome_of c.answer_http-begun.result) recounted _ c.in-Ok.ensures.by_clock counted moves,
+            (collected_bytes c.args.request.now) _ (ap Following c.status-progress.ensures) g.M.Machine.clock_reached begun (outcome_of c.answer_http-begun.result) recounted _
+            c.in-Ok.ensures.by_clock counted moves,
       ),
     )
