@@ -37,3 +37,7 @@ declined_stay from (row ∷ rows) id request numbered found declined = elim (cas
 pub declined_again : (records : Records) (id : ℕ) (request : RequestRow) → SoundRows records → request_in records.requests id ≡ Some request → request.declined ≡ true
     → map (declined_if id) records.requests ≡ records.requests
 declined_again records id request sound found declined = declined_stay 1 records.requests id request sound.requests.numbered found declined
+
+-- three facts, of which the last two came as one
+pub three_of : {A B C : Type 0} → A × (B × C) → A × B × C
+three_of (first, (second, third)) = (first, second, third)

@@ -4,14 +4,15 @@ use Rattle.std.proofs.lemmas.List.{append-nil, append_assoc, take_all, take_more
 use Rattle.std.proofs.lemmas.Grind.{flat_map-append}
 use Rattle.std.proofs.lemmas.Option.{get_or_from_slice_get, slice_get_within}
 use Rattle.std.specs.List.{slice_get}
+use Rattle.std.specs.Prelude.{IsSome}
 use Rattle.reg_core.specs.Changes.{declined_if, with_crl}
-use Rattle.reg_core.specs.Records.{Records}
+use Rattle.reg_core.specs.Records.{Records, request_in}
 use Rattle.reg_core.specs.declared.rows.RequestRow.{RequestRow}
 use Rattle.reg_core_lists.specs.Feed.{RowLists, feed_crl_of}
 use Rattle.reg_core_lists.specs.declared.feed.FeedCrl.{FeedCrl}
 use Rattle.reg_core_lists.specs.declared.feed_reader.ReceivedPage.{ReceivedPage}
-use Rattle.reg_office_api.specs.Follows.{AddsRequests, RequestEvent, decline_event, declined_requests, entered_requests, listed_crl, page_crls, request_event, requests_after}
-use Rattle.reg_office.specs.Replays.{ReplaysMore, AreAllReplayed, EntersFeedRow, EntersPageCrl, HasReplayed, HasReplayedAll, IsNextFeedRow, joined_rows, none_replayed, with_feed_row}
+use Rattle.reg_office_api.specs.Follows.{AddsRequests, AreDeclinedLater, RequestEvent, decline_event, declined_requests, entered_requests, listed_crl, page_crls, request_event, requests_after}
+use Rattle.reg_office.specs.Replays.{ReplaysMore, AreAllReplayed, EntersFeedRow, EntersPageCrl, HasReplayed, HasReplayedAll, HasRequest, IsNextFeedRow, joined_rows, none_replayed, with_feed_row}
 use Rattle.reg_office.specs.declared.feed_row.FeedRow.{FeedRow}
 use Rattle.reg_office.specs.declared.feed_row.FeedRow.TheVariants.{Subscriber, Order, Certificate, Request, Declined, Revocation}
 use Rattle.reg_office.specs.declared.replay_order.Replayed.{Replayed}
@@ -60,21 +61,34 @@ after_declined [] id before = refl
 after_declined (request_event first ∷ events) id before = after_declined events id (before ++ first ∷ [])
 after_declined (decline_event other ∷ events) id before = after_declined events id (map (declined_if other) before)
 
+later_entered : (events : List RequestEvent) (row : RequestRow) (before : List RequestRow) → AreDeclinedLater events before → AreDeclinedLater (events ++ request_event row ∷ []) before
+later_entered [] row before later = tt
+later_entered (request_event first ∷ events) row before later = later_entered events row (before ++ first ∷ []) later
+later_entered (decline_event id ∷ events) row before later = (later.0, later_entered events row (map (declined_if id) before) later.1)
+
+later_declined : (events : List RequestEvent) (id : ℕ) (before : List RequestRow) → AreDeclinedLater events before → IsSome (request_in (requests_after events before) id)
+    → AreDeclinedLater (events ++ decline_event id ∷ []) before
+later_declined [] id before later some = (some, tt)
+later_declined (request_event first ∷ events) id before later some = later_declined events id (before ++ first ∷ []) later some
+later_declined (decline_event other ∷ events) id before later some = (later.0, later_declined events id (map (declined_if other) before) later.1 some)
+
 -- a request is entered
 adds_request : {rows : List RequestRow} {ids : List ℕ} {before after : List RequestRow} (row : RequestRow) → AddsRequests rows ids before after → AddsRequests (rows ++ row ∷ []) ids before (after ++ row ∷ [])
 adds_request {before = before} row adds = record {
   events = adds.events ++ request_event row ∷ [];
   entered = entered_more adds.events row ∙ ap (λ l. l ++ row ∷ []) adds.entered;
   declined = declined_same adds.events row ∙ adds.declined;
+  later = later_entered adds.events row before adds.later;
   reached = ap (λ l. l ++ row ∷ []) adds.reached ∙ sym (after_entered adds.events row before);
 }
 
 -- or declined
-adds_decline : {rows : List RequestRow} {ids : List ℕ} {before after : List RequestRow} (id : ℕ) → AddsRequests rows ids before after → AddsRequests rows (ids ++ id ∷ []) before (map (declined_if id) after)
-adds_decline {before = before} id adds = record {
+adds_decline : {rows : List RequestRow} {ids : List ℕ} {before after : List RequestRow} (id : ℕ) → IsSome (request_in after id) → AddsRequests rows ids before after → AddsRequests rows (ids ++ id ∷ []) before (map (declined_if id) after)
+adds_decline {before = before} id some adds = record {
   events = adds.events ++ decline_event id ∷ [];
   entered = entered_same adds.events id ∙ adds.entered;
   declined = declined_more adds.events id ∙ ap (λ l. l ++ id ∷ []) adds.declined;
+  later = later_declined adds.events id before adds.later (subst (λ l. IsSome (request_in l id)) adds.reached some);
   reached = ap (map (declined_if id)) adds.reached ∙ sym (after_declined adds.events id before);
 }
 
@@ -83,10 +97,10 @@ requests_more : (rows : List RequestRow) (n : ℕ) (row : RequestRow) {ids : Lis
 requests_more rows n row {ids = ids} {before = before} {after = after} found adds =
     subst (λ l. AddsRequests l ids before (after ++ row ∷ [])) (sym (one_taken rows n row found)) (adds_request row adds)
 
-declines_more : (ids : List ℕ) (n : ℕ) (id : ℕ) {rows before after : List RequestRow} → slice_get ids n ≡ Some id → AddsRequests rows (take n ids) before after
+declines_more : (ids : List ℕ) (n : ℕ) (id : ℕ) {rows before after : List RequestRow} → slice_get ids n ≡ Some id → IsSome (request_in after id) → AddsRequests rows (take n ids) before after
     → AddsRequests rows (take (n + 1) ids) before (map (declined_if id) after)
-declines_more ids n id {rows = rows} {before = before} {after = after} found adds =
-    subst (λ l. AddsRequests rows l before (map (declined_if id) after)) (sym (one_taken ids n id found)) (adds_decline id adds)
+declines_more ids n id {rows = rows} {before = before} {after = after} found some adds =
+    subst (λ l. AddsRequests rows l before (map (declined_if id) after)) (sym (one_taken ids n id found)) (adds_decline id some adds)
 
 -- ---- one row
 
@@ -94,8 +108,8 @@ module _ (rows : RowLists) (pages : List ReceivedPage) (done : Replayed) (at : �
   abbrev Has : Replayed → Records → Type 0
   Has next records = HasReplayed rows pages next origin records
 
-  row_enters : (row : FeedRow) (next : Replayed) → IsNextFeedRow rows done row next → Has next (with_feed_row before at row)
-  row_enters (Subscriber row) next (found, is) = subst (λ (n : Replayed). Has n (with_feed_row before at (Subscriber row))) (sym is) (record {
+  row_enters : (row : FeedRow) (next : Replayed) → IsNextFeedRow rows done row next → HasRequest row before → Has next (with_feed_row before at row)
+  row_enters (Subscriber row) next (found, is) there = subst (λ (n : Replayed). Has n (with_feed_row before at (Subscriber row))) (sym is) (record {
     subscribers = one_more origin.subscribers rows.subscribers done.subscribers row before.subscribers found has.subscribers;
     orders = has.orders;
     certificates = has.certificates;
@@ -105,7 +119,7 @@ module _ (rows : RowLists) (pages : List ReceivedPage) (done : Replayed) (at : �
     issuer = has.issuer;
     policy = has.policy;
   })
-  row_enters (Order row) next (found, is) = subst (λ (n : Replayed). Has n (with_feed_row before at (Order row))) (sym is) (record {
+  row_enters (Order row) next (found, is) there = subst (λ (n : Replayed). Has n (with_feed_row before at (Order row))) (sym is) (record {
     orders = one_more origin.orders rows.orders done.orders row before.orders found has.orders;
     subscribers = has.subscribers;
     certificates = has.certificates;
@@ -115,7 +129,7 @@ module _ (rows : RowLists) (pages : List ReceivedPage) (done : Replayed) (at : �
     issuer = has.issuer;
     policy = has.policy;
   })
-  row_enters (Certificate row) next (found, is) = subst (λ (n : Replayed). Has n (with_feed_row before at (Certificate row))) (sym is) (record {
+  row_enters (Certificate row) next (found, is) there = subst (λ (n : Replayed). Has n (with_feed_row before at (Certificate row))) (sym is) (record {
     certificates = one_more origin.certificates rows.certificates done.certificates row before.certificates found has.certificates;
     subscribers = has.subscribers;
     orders = has.orders;
@@ -125,7 +139,7 @@ module _ (rows : RowLists) (pages : List ReceivedPage) (done : Replayed) (at : �
     issuer = has.issuer;
     policy = has.policy;
   })
-  row_enters (Request row) next (found, is) = subst (λ (n : Replayed). Has n (with_feed_row before at (Request row))) (sym is) (record {
+  row_enters (Request row) next (found, is) there = subst (λ (n : Replayed). Has n (with_feed_row before at (Request row))) (sym is) (record {
     requests = requests_more rows.requests done.requests row found has.requests;
     subscribers = has.subscribers;
     orders = has.orders;
@@ -135,8 +149,8 @@ module _ (rows : RowLists) (pages : List ReceivedPage) (done : Replayed) (at : �
     issuer = has.issuer;
     policy = has.policy;
   })
-  row_enters (Declined id) next (found, is) = subst (λ (n : Replayed). Has n (with_feed_row before at (Declined id))) (sym is) (record {
-    requests = declines_more rows.declined done.declined id found has.requests;
+  row_enters (Declined id) next (found, is) there = subst (λ (n : Replayed). Has n (with_feed_row before at (Declined id))) (sym is) (record {
+    requests = declines_more rows.declined done.declined id found there has.requests;
     subscribers = has.subscribers;
     orders = has.orders;
     certificates = has.certificates;
@@ -145,7 +159,7 @@ module _ (rows : RowLists) (pages : List ReceivedPage) (done : Replayed) (at : �
     issuer = has.issuer;
     policy = has.policy;
   })
-  row_enters (Revocation row) next (found, is) = subst (λ (n : Replayed). Has n (with_feed_row before at (Revocation row))) (sym is) (record {
+  row_enters (Revocation row) next (found, is) there = subst (λ (n : Replayed). Has n (with_feed_row before at (Revocation row))) (sym is) (record {
     revocations = one_more origin.revocations rows.revocations done.revocations row before.revocations found has.revocations;
     subscribers = has.subscribers;
     orders = has.orders;
@@ -157,9 +171,9 @@ module _ (rows : RowLists) (pages : List ReceivedPage) (done : Replayed) (at : �
   })
 
   -- a request that was declined already is as if it were declined again
-  row_stays : (id : ℕ) (next : Replayed) → IsNextFeedRow rows done (Declined id) next → map (declined_if id) before.requests ≡ before.requests → Has next before
-  row_stays id next (found, is) same = subst (λ (n : Replayed). Has n before) (sym is) (record {
-    requests = subst (λ l. AddsRequests (take done.requests rows.requests) (take (done.declined + 1) rows.declined) origin.requests l) same (declines_more rows.declined done.declined id found has.requests);
+  row_stays : (id : ℕ) (next : Replayed) → IsNextFeedRow rows done (Declined id) next → IsSome (request_in before.requests id) → map (declined_if id) before.requests ≡ before.requests → Has next before
+  row_stays id next (found, is) there same = subst (λ (n : Replayed). Has n before) (sym is) (record {
+    requests = subst (λ l. AddsRequests (take done.requests rows.requests) (take (done.declined + 1) rows.declined) origin.requests l) same (declines_more rows.declined done.declined id found there has.requests);
     subscribers = has.subscribers;
     orders = has.orders;
     certificates = has.certificates;
@@ -170,13 +184,13 @@ module _ (rows : RowLists) (pages : List ReceivedPage) (done : Replayed) (at : �
   })
 
   row_or_stays : (row : FeedRow) (next : Replayed) (after : Records) → IsNextFeedRow rows done row next → EntersFeedRow at row before after → Has next after
-  row_or_stays row next after is (inl entered) = subst (λ (r : Records). Has next r) (sym entered) (row_enters row next is)
-  row_or_stays (Declined id) next after is (inr (stays, same)) = subst (λ (r : Records). Has next r) (sym stays) (row_stays id next is same)
-  row_or_stays (Subscriber row) next after is (inr (stays, none)) = absurd none
-  row_or_stays (Order row) next after is (inr (stays, none)) = absurd none
-  row_or_stays (Certificate row) next after is (inr (stays, none)) = absurd none
-  row_or_stays (Request row) next after is (inr (stays, none)) = absurd none
-  row_or_stays (Revocation row) next after is (inr (stays, none)) = absurd none
+  row_or_stays row next after is (there, inl entered) = subst (λ (r : Records). Has next r) (sym entered) (row_enters row next is there)
+  row_or_stays (Declined id) next after is (there, inr (stays, same)) = subst (λ (r : Records). Has next r) (sym stays) (row_stays id next is there same)
+  row_or_stays (Subscriber row) next after is (there, inr (stays, none)) = absurd none
+  row_or_stays (Order row) next after is (there, inr (stays, none)) = absurd none
+  row_or_stays (Certificate row) next after is (there, inr (stays, none)) = absurd none
+  row_or_stays (Request row) next after is (there, inr (stays, none)) = absurd none
+  row_or_stays (Revocation row) next after is (there, inr (stays, none)) = absurd none
 
   -- the CRLs of one page more
   crls_more : (page : ReceivedPage) → slice_get pages done.pages ≡ Some page → page_crls (take (done.pages + 1) pages) ≡ page_crls (take done.pages pages) ++ listed_crl page.crl
@@ -210,6 +224,15 @@ module _ (rows : RowLists) (pages : List ReceivedPage) (done : Replayed) (at : �
     policy = has.policy;
   }
 
+-- a row that is no decline needs no request
+pub no_decline : (row : FeedRow) (records : Records) → ((id : ℕ) → row ≡ Declined id → ⊥) → HasRequest row records
+no_decline (Declined id) records none = absurd (none id refl)
+no_decline (Subscriber row) records none = tt
+no_decline (Order row) records none = tt
+no_decline (Certificate row) records none = tt
+no_decline (Request row) records none = tt
+no_decline (Revocation row) records none = tt
+
 -- a row more is an advance
 pub row_advances : (rows : RowLists) (pages : List ReceivedPage) (done next : Replayed) (at : ℕ) (row : FeedRow) → IsNextFeedRow rows done row next → (before after : Records) → EntersFeedRow at row before after
     → ReplaysMore rows pages done next before after
@@ -240,7 +263,7 @@ none_advanced rows pages records = record {
   subscribers = sym (append-nil records.subscribers);
   orders = sym (append-nil records.orders);
   certificates = sym (append-nil records.certificates);
-  requests = record { events = []; entered = refl; declined = refl; reached = refl };
+  requests = record { events = []; entered = refl; declined = refl; later = tt; reached = refl };
   revocations = sym (append-nil records.revocations);
   crls = sym (append-nil records.crls);
   issuer = refl;

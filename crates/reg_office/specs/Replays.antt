@@ -1,5 +1,5 @@
 -- The replay of the commands that entered the rows of pages of the changes feed, inside one transaction.
-use Rattle.std.specs.Prelude.{◌≡◌, ◌⊎◌, ℕ, ◌+◌, ◌≤◌, List, ◌++◌, length, map, take, Option, None, Some}
+use Rattle.std.specs.Prelude.{◌≡◌, ◌⊎◌, ℕ, ◌+◌, ◌≤◌, List, ◌++◌, length, map, take, Option, None, Some, IsSome}
 use Rattle.std.specs.List.{slice_get}
 use Rattle.sqlite_trees.specs.declared.store.Store.{Ghosts}
 use Rattle.sqlite.specs.Held.{Held, state}
@@ -7,7 +7,7 @@ use Rattle.sqlite.specs.State.{HasCleanDisk}
 use Rattle.reg_core.specs.Changes.{declined_if, touched, with_certificate, with_crl, with_declined, with_order, with_request, with_revocation, with_schedule, with_subscriber}
 use Rattle.reg_core.specs.Issuer.{Issuer}
 use Rattle.reg_core.specs.Policy.{Terms}
-use Rattle.reg_core.specs.Records.{Records}
+use Rattle.reg_core.specs.Records.{Records, request_in}
 use Rattle.reg_core.specs.Schedule.{one_step}
 use Rattle.reg_core.specs.declared.rows.CrlRow.{CrlRow}
 use Rattle.reg_core_lists.specs.Feed.{RowLists, feed_crl_of, feed_rows_of}
@@ -59,10 +59,16 @@ abbrev pub IsDeclinedAlready : FeedRow → Records → Type 0
 IsDeclinedAlready (Declined id) records = map (declined_if id) records.requests ≡ records.requests
 IsDeclinedAlready row records = ⊥
 
+-- if the row is a decline, there is a request with that id
+abbrev pub HasRequest : FeedRow → Records → Type 0
+HasRequest (Declined id) records = IsSome (request_in records.requests id)
+HasRequest row records = Unit {0}
+
 -- the row is entered at a moment; a request that was declined already stays
 abbrev pub EntersFeedRow : ℕ → FeedRow → Records → Records → Type 0
 EntersFeedRow at row before after =
-    (after ≡ with_feed_row before at row) ⊎ ((after ≡ before) × IsDeclinedAlready row before)
+    HasRequest row before
+    × ((after ≡ with_feed_row before at row) ⊎ ((after ≡ before) × IsDeclinedAlready row before))
 
 -- the row is the next one of its table, and `next` counts it too
 abbrev pub IsNextFeedRow : RowLists → Replayed → FeedRow → Replayed → Type 0

@@ -1,8 +1,9 @@
 //! Replays the commands that entered the rows of pages of the changes feed: the register decides each again, and its decision must be the row.
 
-ghost use Rattle.std.specs.Prelude.{◌+◌, ◌≡◌, ◌≤◌, length, map, true, None, IfOk, IfSome, IsTrue, OnOk};
+ghost use Rattle.std.specs.Prelude.{◌+◌, ◌≡◌, ◌≤◌, length, map, true, None, IfOk, IfSome, IsSome, IsTrue, OnOk};
 ghost use Rattle.reg_core.specs.Changes.{declined_if, with_crl};
 ghost use Rattle.reg_core.specs.Crls.{EntriesAscend, cert_list};
+ghost use Rattle.reg_core.specs.Records.{request_in};
 ghost use Rattle.reg_core_lists.specs.Feed.{RowLists, feed_crl_of, feed_rows_of};
 ghost use Rattle.reg_crl.specs.Signing.{signed_by};
 ghost use Rattle.reg_office.specs.Calls.{SignsNothing};
@@ -152,11 +153,12 @@ impl<C: Alter, S: Signer> Office<C, S> {
         }
     }
 
-    /// Whether there is a request with this id that is declined.
+    /// Whether the request with this id is declined. If there is none, the register would refuse the command, with the same error.
     fn is_declined(&mut self, id: u64) -> Result<bool, Stopped>
         ensures made { IfOk result (λ declined. LeadsWithin C.Store S.signs (S.identity self.old.signer)
             self.old.store self.new.store (λ before after.
-            (after ≡ before) × (IsTrue declined → map (declined_if id) before.requests ≡ before.requests))) }
+            (after ≡ before) × IsSome (request_in before.requests id)
+            × (IsTrue declined → map (declined_if id) before.requests ≡ before.requests))) }
         ensures stepped { StepsWithin C.Store self.old.store self.new.store }
         ensures untouched { SignsNothing self.old self.new }
     {
@@ -167,7 +169,10 @@ impl<C: Alter, S: Signer> Office<C, S> {
         }
         match found {
             Some(request) => Ok(request.declined),
-            None => Ok(false),
+            None => {
+                let why = FeedRule::Refused(Refusal::NoRequest);
+                Err(broken(FeedPart::Declined, id, why))
+            }
         }
     }
 

@@ -1,8 +1,8 @@
 -- The calls by which a register copies another one: the positions of its records in their own changes feed, and pages of the other register's feed
 -- that are entered.
-use Rattle.std.specs.Prelude.{◌≡◌, ◌⊎◌, ℕ, ◌≤◌, List, [], ◌∷◌, ◌++◌, length, map, filter, flat_map, Option, Some, None, Result, Ok, Err}
+use Rattle.std.specs.Prelude.{◌≡◌, ◌⊎◌, ℕ, ◌≤◌, List, [], ◌∷◌, ◌++◌, length, map, filter, flat_map, Option, Some, None, IsSome, Result, Ok, Err}
 use Rattle.reg_core.specs.Changes.{declined_if}
-use Rattle.reg_core.specs.Records.{Records, Crl}
+use Rattle.reg_core.specs.Records.{Records, Crl, request_in}
 use Rattle.reg_core.specs.declared.rows.RequestRow.{RequestRow}
 use Rattle.reg_core_lists.specs.Feed.{IsInHistory, RowLists, declines_after, feed_crl_of, feed_rows_of, no_declines}
 use Rattle.reg_core_lists.specs.declared.feed.FeedCrl.{FeedCrl}
@@ -77,11 +77,19 @@ declined_requests [] = []
 declined_requests (request_event row ∷ events) = declined_requests events
 declined_requests (decline_event id ∷ events) = id ∷ declined_requests events
 
+-- each request that is declined is among these, or was entered before
+abbrev pub AreDeclinedLater : List RequestEvent → List RequestRow → Type 0
+AreDeclinedLater [] rows = Unit {0}
+AreDeclinedLater (request_event row ∷ events) rows = AreDeclinedLater events (rows ++ row ∷ [])
+AreDeclinedLater (decline_event id ∷ events) rows =
+    IsSome (request_in rows id) × AreDeclinedLater events (map (declined_if id) rows)
+
 -- the requests were entered in this order, and those with these ids were declined in this order, each some time after it was entered
 pub record AddsRequests (rows : List RequestRow) (ids : List ℕ) (before after : List RequestRow) : Type 0 where
   pub events : List RequestEvent
   pub entered : entered_requests events ≡ rows
   pub declined : declined_requests events ≡ ids
+  pub later : AreDeclinedLater events before
   pub reached : after ≡ requests_after events before
 
 -- the rows of the pages were added behind those before, and requests were declined; nothing else happened to a row
