@@ -1,3 +1,10 @@
+pub mod CopiedRows
+pub mod DeclinedIds
 pub mod Drafting
+pub mod FollowedLeaders
+pub mod FollowedRequests
 pub mod Happening
+pub mod LeaderPages
+pub mod LeaderStates
+pub mod LeaderTexts
 pub mod PublicLaws

@@ -3,6 +3,7 @@ pub mod BrokenFeeds
 pub mod CallSteps
 pub mod Calls
 pub mod Drafts
+pub mod FollowedLeaders
 pub mod Follows
 pub mod Items
 pub mod Leads

@@ -4,6 +4,7 @@
 mod changes;
 mod effects;
 mod follow;
+pub mod laws;
 mod office;
 mod register_summary;
 mod response;
