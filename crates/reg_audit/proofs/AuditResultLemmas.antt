@@ -8,7 +8,7 @@ use Rattle.reg_store_tables.specs.DerivedRows.{DerivedRows}
 use Rattle.reg_store_tables.specs.Schema.{register_schema}
 use Rattle.reg_store_tables.specs.Stays.{IsRegister}
 use Rattle.reg_store_tables.specs.declared.fault.StoreFault.{StoreFault}
-use Rattle.reg_audit_rows.specs.declared.audit_result.Audited.{Audited}
+use Rattle.reg_core.specs.declared.audit_result.Audited.{Audited}
 use Rattle.reg_audit.specs.declared.fault.AuditFault.{AuditFault}
 use Rattle.reg_audit.specs.declared.fault.AuditFault.TheVariants as audit_fault
 use Rattle.reg_audit.specs.Numbers.{AreNumbersOf}
@@ -16,7 +16,7 @@ use Rattle.reg_audit.specs.Faults.{IsDisproved}
 use Rattle.reg_store_opening.specs.Examined.{HasVersionAndOffice}
 use Rattle.reg_store_opening.specs.declared.version_check.OlderOffice.{OlderOffice}
 use Rattle.reg_audit.specs.AuditResults.{CountedBy, DisprovedBy, IsSound, audit_result_of}
-use Rattle.reg_audit_rows.specs.declared.audit_result.AuditResult.{AuditResult}
+use Rattle.reg_core.specs.declared.audit_result.AuditResult.{AuditResult}
 
 module _ (P : Type 0) where
   well_said : (audited : Result Audited AuditFault) → IfOk audited (λ _. P) → IfOk (audit_result_of audited) (λ audit_result. IsSound audit_result → P)

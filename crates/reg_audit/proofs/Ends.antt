@@ -9,9 +9,9 @@ use Rattle.reg_store_tables.specs.Schema.{register_schema}
 use Rattle.reg_store_tables.specs.Stays.{Stays}
 use Rattle.reg_store_tables.specs.declared.fault.StoreFault.{StoreFault}
 use Rattle.reg_store_tables.specs.declared.fault.StoreFault.TheVariants as fault
-use Rattle.reg_audit_rows.specs.declared.audit_result.Audited.{Audited}
-use Rattle.reg_audit_rows.specs.declared.audit_result.AuditResult.{AuditResult}
-use Rattle.reg_audit_rows.specs.declared.audit_result.AuditResult.TheVariants as audit_result
+use Rattle.reg_core.specs.declared.audit_result.Audited.{Audited}
+use Rattle.reg_core.specs.declared.audit_result.AuditResult.{AuditResult}
+use Rattle.reg_core.specs.declared.audit_result.AuditResult.TheVariants as audit_result
 use Rattle.reg_audit.specs.declared.fault.AuditFault.{AuditFault}
 use Rattle.reg_audit.specs.declared.fault.AuditFault.TheVariants as audit_fault
 use Rattle.reg_store_opening.specs.Examined.{HasVersionAndOffice}

@@ -8,13 +8,13 @@ use Rattle.reg_store_tables.specs.declared.fault.StoreFault.{StoreFault}
 use Rattle.reg_store_tables.specs.declared.fault.StoreFault.TheVariants as fault
 use Rattle.reg_store_opening.specs.Examined.{HasVersionAndOffice}
 use Rattle.reg_store_opening.specs.declared.version_check.OlderOffice.{OlderOffice}
-use Rattle.reg_audit_rows.specs.declared.audit_result.Audited.{Audited}
+use Rattle.reg_core.specs.declared.audit_result.Audited.{Audited}
 use Rattle.reg_audit.specs.Numbers.{AreNumbersOf}
 use Rattle.reg_audit.specs.Faults.{Disproves}
 use Rattle.reg_audit.specs.declared.fault.AuditFault.{AuditFault}
 use Rattle.reg_audit.specs.declared.fault.AuditFault.TheVariants as audit_fault
-use Rattle.reg_audit_rows.specs.declared.audit_result.AuditResult.{AuditResult}
-use Rattle.reg_audit_rows.specs.declared.audit_result.AuditResult.TheVariants.{Sound, Broken, Older, OtherSchema}
+use Rattle.reg_core.specs.declared.audit_result.AuditResult.{AuditResult}
+use Rattle.reg_core.specs.declared.audit_result.AuditResult.TheVariants.{Sound, Broken, Older, OtherSchema}
 
 -- the result: sound rows, or a broken row; otherwise the fault
 abbrev pub audit_result_of : Result Audited AuditFault → Result AuditResult StoreFault

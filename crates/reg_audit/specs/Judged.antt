@@ -11,7 +11,7 @@ use Rattle.reg_store_tables.specs.declared.fault.StoreFault.{StoreFault}
 use Rattle.reg_store_tables.specs.declared.fault.StoreFault.TheVariants.{NewVersion, NotARegister, NotEmpty}
 use Rattle.reg_store_opening.specs.VersionAndOffice.{HasVersion, HasNoRegister}
 use Rattle.reg_audit.specs.Complete.{ShowsSound}
-use Rattle.reg_audit_rows.specs.declared.audit_result.AuditResult.{AuditResult}
+use Rattle.reg_core.specs.declared.audit_result.AuditResult.{AuditResult}
 use Rattle.reg_audit.specs.Presumed.{IsPresumed}
 use Rattle.reg_audit.specs.ReadableValues.{IsSoundRegister}
 use Rattle.reg_audit.specs.AuditResults.{CountedBy, DisprovedBy, IsSound, ReportsTables}

@@ -8,7 +8,7 @@ ghost use Rattle.reg_audit.specs.Presumed.{IsOverRegister};
 ghost use Rattle.reg_audit.specs.AuditResults.{audit_result_of};
 
 use crate::{AuditFault, ProgressObserver, audit};
-use reg_audit_rows::{AuditResult, Audited};
+use reg_core::{AuditResult, Audited};
 use reg_store_opening::{examine, is_register};
 use reg_store_tables::StoreFault;
 use sqlite::{Alter, Connection};

@@ -20,10 +20,9 @@ use crate::fault::{AuditFault, broken_at};
 use crate::read_rows::rows_at;
 use crate::sql::AuditQuery;
 use crate::typed::{ListedRows, StandingRows};
-use reg_audit_rows::{Defect, RegisterTable};
 use reg_core::{
-    CertRow, Counts, CrlRow, Moment, OrderRow, Policy, RequestRow, RevocationRow, Schedule,
-    SubscriberRow,
+    CertRow, Counts, CrlRow, Defect, Moment, OrderRow, Policy, RegisterTable, RequestRow,
+    RevocationRow, Schedule, SubscriberRow,
 };
 use reg_store_tables::rows::{RowKind, Step};
 use reg_store_tables::sql_values::number_at;

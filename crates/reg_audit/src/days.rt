@@ -9,8 +9,7 @@ ghost use Rattle.reg_audit.specs.ShownTables.{OnEachRead};
 
 use crate::fault::{AuditFault, broken_at};
 use crate::read_rows::rows_at;
-use reg_audit_rows::{Defect, RegisterTable};
-use reg_core::Schedule;
+use reg_core::{Defect, RegisterTable, Schedule};
 use reg_store_tables::sql_values::number_at;
 use sqlite::Row;
 

@@ -1,11 +1,12 @@
 ghost use Rattle.std.specs.Prelude.{◌≡◌, ◌⊎◌};
 
-use reg_audit_rows::{BrokenRow, CheckFault, Defect, RegisterTable};
+use reg_audit_rows::CheckFault;
+use reg_core::{BrokenRow, Defect, RegisterTable};
 use reg_store_tables::DatabaseFault;
 use std::alloc::AllocFailed;
 
 /// Why [`audit`](crate::audit) does not find all rows sound. `Memory`: out of memory. `Broken`: this row breaks a rule or has an invalid value.
-#[derive(Clone, Copy, PartialEq, Eq)]
+#[derive(Clone, Copy)]
 pub enum AuditFault {
     Memory,
     /// The database failed; or the issuer, policy, version or rowid in the table `office`, or the rowid in `kept`, is one that no register writes.

@@ -16,7 +16,8 @@ use crate::tables::{
     certificates, counts, crls, letters, listings, office, orders, requests, revocations,
     subscribers,
 };
-use reg_audit_rows::{Audited, Rows, StoredDerivedRows, check};
+use reg_audit_rows::{Rows, StoredDerivedRows, check};
+use reg_core::Audited;
 use sqlite::Row;
 use std::alloc::Global;
 

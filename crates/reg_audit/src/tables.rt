@@ -8,8 +8,10 @@ ghost use Rattle.reg_audit.specs.ShownTables.{OnRead, AreReadIfReadable};
 
 use crate::fault::AuditFault;
 use crate::typed::{ListedRows, OfficeRow, StandingRows, only, typed};
-use reg_audit_rows::{Listed, RegisterTable, Standing};
-use reg_core::{CertRow, Counts, CrlRow, OrderRow, RequestRow, RevocationRow, SubscriberRow};
+use reg_audit_rows::{Listed, Standing};
+use reg_core::{
+    CertRow, Counts, CrlRow, OrderRow, RegisterTable, RequestRow, RevocationRow, SubscriberRow,
+};
 use sqlite::Row;
 use std::alloc::Global;
 

@@ -8,8 +8,8 @@ ghost use Rattle.reg_audit.specs.Faults.{NoBrokenRow};
 
 use crate::fault::{AuditFault, broken_at};
 use crate::sql_values::letter_at;
-use reg_audit_rows::{Defect, Listed, RegisterTable, Standing};
-use reg_core::Moment;
+use reg_audit_rows::{Listed, Standing};
+use reg_core::{Defect, Moment, RegisterTable};
 use reg_store_tables::RowFault;
 use reg_store_tables::rows::{RowKind, rows_in};
 use reg_store_tables::sql_values::{

@@ -18,7 +18,7 @@ use crate::read_rows::check_read;
 use crate::sql::AuditQuery;
 use crate::stored::check_crls;
 use crate::whole_tables::read_each;
-use reg_audit_rows::Audited;
+use reg_core::Audited;
 use sqlite::{Alter, Connection};
 use std::alloc::Global;
 

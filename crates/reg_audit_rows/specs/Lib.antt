@@ -2,4 +2,3 @@ pub mod Faults
 pub mod Read
 pub mod DerivedAsRead
 pub mod Crls
-pub mod AuditLines

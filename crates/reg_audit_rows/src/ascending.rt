@@ -7,8 +7,9 @@ ghost use Rattle.reg_core.specs.Sound.{NumberedFrom, NeverDecreases};
 ghost use Rattle.reg_audit_rows.specs.Faults.{NotBrokenIf};
 
 use crate::fault::{CheckFault, broken_at};
-use crate::{Defect, RegisterTable};
-use reg_core::{CrlRow, Moment, OrderRow, RequestRow, RevocationRow, SubscriberRow};
+use reg_core::{
+    CrlRow, Defect, Moment, OrderRow, RegisterTable, RequestRow, RevocationRow, SubscriberRow,
+};
 
 pub(crate) trait Numbered {
     ghost use Rattle.std.specs.Prelude.{ℕ, ◌≡◌};

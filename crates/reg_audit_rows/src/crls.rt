@@ -14,8 +14,7 @@ ghost use Rattle.reg_audit_rows.specs.Faults.{NotBrokenIf, NotBroken};
 
 use crate::derived_rows::Listed;
 use crate::fault::{CheckFault, broken_at};
-use crate::{Defect, RegisterTable};
-use reg_core::{CrlRow, Entry, Moment};
+use reg_core::{CrlRow, Defect, Entry, Moment, RegisterTable};
 use reg_crl::{crl_tbs, crl_whole};
 use reg_der::{Issuer, take};
 use std::alloc::Global;

@@ -10,8 +10,10 @@ ghost use Rattle.reg_audit_rows.specs.DerivedAsRead.{letter_by, standing_by, fou
 ghost use Rattle.reg_audit_rows.specs.Faults.{NotBrokenIf, NotBroken};
 
 use crate::fault::{CheckFault, broken_at};
-use crate::{Defect, RegisterTable};
-use reg_core::{CertRow, Counts, CrlRow, Moment, RevocationRow, Serial, Status, status_of};
+use reg_core::{
+    CertRow, Counts, CrlRow, Defect, Moment, RegisterTable, RevocationRow, Serial, Status,
+    status_of,
+};
 use std::alloc::Global;
 use std::collections::BTreeMap;
 

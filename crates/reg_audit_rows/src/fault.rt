@@ -1,12 +1,11 @@
 ghost use Rattle.std.specs.Prelude.{◌≡◌, ◌≤◌, length, OnOk};
 ghost use Rattle.reg_audit_rows.specs.Faults.{IsBroken, NotBrokenIf};
 
-use crate::{BrokenRow, Defect, RegisterTable};
-use reg_core::Memory;
+use reg_core::{BrokenRow, Defect, Memory, RegisterTable};
 use std::alloc::{AllocError, AllocFailed};
 
 /// Why a check fails: it is out of memory, or this row breaks a rule.
-#[derive(Clone, Copy, PartialEq, Eq)]
+#[derive(Clone, Copy)]
 pub enum CheckFault {
     Memory,
     Broken(BrokenRow),

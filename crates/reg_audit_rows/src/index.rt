@@ -8,8 +8,7 @@ ghost use Rattle.reg_audit_rows.specs.Faults.{NotBrokenIf};
 ghost use Rattle.reg_audit_rows.specs.Read.{Indexes};
 
 use crate::fault::{CheckFault, broken_at};
-use crate::{Defect, RegisterTable};
-use reg_core::{CertRow, RevocationRow, Serial, SubscriberRow};
+use reg_core::{CertRow, Defect, RegisterTable, RevocationRow, Serial, SubscriberRow};
 use std::alloc::Global;
 use std::collections::{BTreeMap, BTreeSet};
 

@@ -10,9 +10,9 @@ ghost use Rattle.reg_audit_rows.specs.Faults.{NotBrokenIf, NoDefectIff};
 
 use crate::ascending::Numbered;
 use crate::fault::{CheckFault, broken_at};
-use crate::{Defect, RegisterTable};
 use reg_core::{
-    CertRow, CrlRow, Moment, OrderRow, RequestRow, RevocationRow, Serial, SubscriberRow,
+    CertRow, CrlRow, Defect, Moment, OrderRow, RegisterTable, RequestRow, RevocationRow, Serial,
+    SubscriberRow,
 };
 use std::collections::BTreeMap;
 

@@ -22,9 +22,9 @@ use crate::relations::{
     are_as_ordered, are_in_time, no_request_after_revocation, revocations_fit, subscribers_exist,
 };
 use crate::single_rows::{days_are_allowed, names_are_good, validities_are_forward};
-use crate::{Defect, RegisterTable};
 use reg_core::{
-    CertRow, CrlRow, Moment, OrderRow, RequestRow, RevocationRow, Serial, SubscriberRow,
+    CertRow, CrlRow, Defect, Moment, OrderRow, RegisterTable, RequestRow, RevocationRow, Serial,
+    SubscriberRow,
 };
 use std::alloc::Global;
 use std::collections::BTreeMap;

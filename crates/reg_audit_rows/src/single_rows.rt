@@ -7,8 +7,7 @@ ghost use Rattle.reg_core.specs.Schedule.{IsDays};
 ghost use Rattle.reg_audit_rows.specs.Faults.{NotBrokenIf};
 
 use crate::fault::{CheckFault, broken_at};
-use crate::{Defect, RegisterTable};
-use reg_core::{CertRow, OrderRow, Schedule, SubscriberRow};
+use reg_core::{CertRow, Defect, OrderRow, RegisterTable, Schedule, SubscriberRow};
 
 pub(crate) fn names_are_good(subscribers: &[SubscriberRow]) -> Result<(), CheckFault>
     ensures ok { OnOk result (AllByRecursion (λ row. IsName row.name) subscribers.now) }

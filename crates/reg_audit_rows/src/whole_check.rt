@@ -8,10 +8,10 @@ ghost use Rattle.reg_audit_rows.specs.DerivedAsRead.{AreDerivedRowsOf};
 ghost use Rattle.reg_audit_rows.specs.Read.{AreOf, IsIndexOf};
 ghost use Rattle.reg_audit_rows.specs.Faults.{NotBrokenIf};
 
-use crate::RegisterTable;
 use crate::derived_rows::{StoredDerivedRows, check_counts, listings, same_rows, standings};
 use crate::fault::CheckFault;
 use crate::rows::{Rows, RowsBySerial, check_rows};
+use reg_core::RegisterTable;
 use std::alloc::Global;
 
 /// Checks the derived rows against the records, `rows`, which are sound. `found` has their certificates and revocations by serial number. `letters`:

@@ -7,9 +7,11 @@ pub mod LabelTexts
 pub mod Labels
 pub mod MomentTexts
 pub mod Moments
+pub mod NumberedRows
 pub mod Numbers
 pub mod Padded
 pub mod PublicLaws
+pub mod RisingKeys
 pub mod Schedules
 pub mod Serials
 pub mod TextLaws

@@ -3,6 +3,9 @@ pub use Rattle.reg_core.proofs.Integers.{bytes_order, is_bytes-append, is_bytes-
 pub use Rattle.reg_core.proofs.LabelTexts.{label_of-is, label_of-some}
 pub use Rattle.reg_core.proofs.MomentTexts.{moment_of-some, moment_of-text}
 pub use Rattle.reg_core.proofs.Schedules.{before_from_test, greatest_at_most_398, test_from_before}
+-- Lemmas about rows in ascending order of a key.
+pub use Rattle.reg_core.proofs.NumberedRows.{dropped_numbered, find_self, looked_up, numbers, past_drop}
+pub use Rattle.reg_core.proofs.RisingKeys.{Rises, all_ordered, kept_rises, last_of, numbers_differ, order_filter, order_rises, past_behind, taken_whole}
 use Rattle.std.proofs.Common.{arith}
 use Rattle.reg_core.specs.Integer.{integer}
 use Rattle.reg_core.specs.Laws.{OctetsAreDigits, OctetsAreBelow, ZerosCountNothing, OneSpelling, OctetsAreLowest, OctetsInOrder, IntegersAreSpelled, OneInteger, OneNumber, IntegersAreShort, SerialsInOrder, OneSerial, OneMoment, NumbersAreRead, SerialsAreRead, WrittenNumbersAreRead, WrittenSerialsAreRead}

@@ -1,3 +1,4 @@
+pub mod AscendingRows
 pub mod Buffers
 pub mod Calendar
 pub mod Changes

@@ -1,6 +1,8 @@
 //! The register of one certification authority: its values, its rules and its pure decisions.
 #![tactic(auto)]
 
+mod audit_result;
+mod broken_row;
 mod calendar;
 mod cause;
 mod change;
@@ -20,6 +22,8 @@ mod serial;
 mod signed;
 mod status;
 
+pub use audit_result::{AuditResult, Audited};
+pub use broken_row::{BrokenRow, Defect, RegisterTable};
 pub use calendar::Civil;
 pub use cause::{Cause, create_cause_of, io_cause_of, policy_cause_of, port_cause_of};
 pub use change::Change;

@@ -10,12 +10,13 @@ use Rattle.reg_core.specs.declared.rows.OrderRow.{OrderRow}
 use Rattle.reg_core.specs.declared.rows.RequestRow.{RequestRow}
 use Rattle.reg_core.specs.declared.rows.RevocationRow.{RevocationRow}
 use Rattle.reg_core.specs.declared.rows.SubscriberRow.{SubscriberRow}
-use Rattle.reg_core_lists.specs.Lists.{certificate_row, crl_row, expiring_row, history_row, key_of, next_cursor, open_row, order_row, overdue_row, page, past, revoked_row, rows_from, subscriber_row}
+use Rattle.reg_core.specs.AscendingRows.{key_of, past}
+use Rattle.reg_core_lists.specs.Lists.{certificate_row, crl_row, expiring_row, history_row, next_cursor, open_row, order_row, overdue_row, page, revoked_row, rows_from, subscriber_row}
 use Rattle.reg_core_lists.specs.Pages.{ArePages}
 use Rattle.reg_core_lists.specs.declared.cursor.Cursor.{Cursor}
 use Rattle.reg_core_lists.specs.declared.cursor.Cursor.TheVariants.{Revoked, Certificates, Ending, OpenRequests, Overdue, Requests, Subscribers, Orders, Crls}
 use Rattle.reg_core_lists.specs.declared.rows.Row.{Row}
-use Rattle.reg_core_lists.proofs.Orders.{last_of, numbers_differ, past_behind, taken_whole}
+use Rattle.reg_core.proofs.PublicLaws.{last_of, numbers_differ, past_behind, taken_whole}
 
 -- the rows behind a page: those from where the next one goes on, or none
 abbrev pub rest_of : Records → ℕ → Option Cursor → List Row

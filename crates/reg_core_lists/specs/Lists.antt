@@ -1,5 +1,6 @@
 -- The rows of each list, and the rows of each page.
-use Rattle.std.specs.Prelude.{◌≡◌, ℕ, Bool, ◌&&◌, ◌-◌, ◌==◌, cond, nat_lt, List, [], ◌∷◌, length, map, filter, filter_map, take, slice_get, Option, Some, None, option_map, option_and_then, unwrap_or}
+use Rattle.std.specs.Prelude.{◌≡◌, ℕ, Bool, ◌&&◌, ◌-◌, ◌==◌, cond, nat_lt, List, length, map, filter_map, take, slice_get, Option, Some, None, option_map, option_and_then}
+use Rattle.reg_core.specs.AscendingRows.{key_of, past}
 use Rattle.reg_core.specs.Crls.{row_of}
 use Rattle.reg_core.specs.Due.{deadline, is_open}
 use Rattle.reg_core.specs.Queries.{listing}
@@ -157,21 +158,6 @@ crl_row crl = Some (kind.Crl (row_of crl))
 
 -- ---- pages
 
--- rows with one more, inserted before the first that has a greater key
-abbrev pub insert_by_key : {A : Type 0} → (A → ℕ) → A → List A → List A
-insert_by_key key row [] = row ∷ []
-insert_by_key key row (next ∷ rest) =
-    cond (nat_lt (key row) (key next)) (row ∷ next ∷ rest) (next ∷ insert_by_key key row rest)
-
--- rows in ascending order of a key
-abbrev pub in_order : {A : Type 0} → (A → ℕ) → List A → List A
-in_order key [] = []
-in_order key (row ∷ rest) = insert_by_key key row (in_order key rest)
-
--- the rows with keys above this one, in ascending order of their keys
-abbrev pub past : {A : Type 0} → (A → ℕ) → ℕ → List A → List A
-past key after rows = in_order key (filter (λ row. nat_lt after (key row)) rows)
-
 -- a page: its rows, and the cursor of the next page
 pub record ShownPage : Type 0 where
   pub rows : List Row
@@ -187,10 +173,6 @@ page_over key row_for at after most rows = record {
   rows = filter_map row_for (take most (past key after rows));
   next = next_cursor at most (map key (take most (past key after rows)));
 }
-
--- the key after which a list by serial numbers continues: 0 if it begins with the first row, because no serial number is 0
-abbrev pub key_of : Option ℕ → ℕ
-key_of after = unwrap_or after 0
 
 -- the page of a list from a cursor on, at a moment
 abbrev pub page : Records → ℕ → ℕ → Cursor → ShownPage

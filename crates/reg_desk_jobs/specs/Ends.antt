@@ -22,10 +22,10 @@ use Rattle.reg_lines.specs.Import.{ImportEnds}
 use Rattle.reg_core_lists.specs.Pages.{GivesWholeList}
 use Rattle.reg_lines.specs.Script.{LinesEnd, ScriptEnds}
 use Rattle.reg_lines.specs.Strict.{StrictEnds}
-use Rattle.reg_audit_rows.specs.AuditLines.{broken_text, sound_text}
-use Rattle.reg_audit_rows.specs.declared.lines.TheConstants.{OTHER_SCHEMA}
-use Rattle.reg_audit_rows.specs.declared.audit_result.AuditResult.{AuditResult}
-use Rattle.reg_audit_rows.specs.declared.audit_result.AuditResult.TheVariants as audit_result
+use Rattle.reg_lines.specs.AuditLines.{broken_text, sound_text}
+use Rattle.reg_lines.specs.declared.audit_lines.TheConstants.{OTHER_SCHEMA}
+use Rattle.reg_core.specs.declared.audit_result.AuditResult.{AuditResult}
+use Rattle.reg_core.specs.declared.audit_result.AuditResult.TheVariants as audit_result
 use Rattle.reg_io.specs.Put.{AppendsPrefix}
 use Rattle.reg_desk_cli.specs.declared.job.Job.{Job}
 use Rattle.reg_desk_cli.specs.declared.job.Job.TheVariants as job

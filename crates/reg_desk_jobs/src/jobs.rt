@@ -11,12 +11,11 @@ ghost use Rattle.reg_desk_jobs.specs.Ends.{AuditAt, CrlAt, ImportJobEnds, Import
 ghost use Rattle.reg_desk_jobs.specs.Ends.{PrintsResult, PrintsBroken, PrintsLine, PrintsSetResult, ReportsAuditResult};
 ghost use Rattle.reg_desk_service.specs.RegisterUses.{exit_of_run};
 ghost use Rattle.reg_office_api.specs.LookUps.{IsOfStore};
-ghost use Rattle.reg_audit_rows.specs.AuditLines.{broken_text, sound_text};
+ghost use Rattle.reg_lines.specs.AuditLines.{broken_text, sound_text};
 
 use crate::lines_job::{is_ahead_of, run_script_over};
 use crate::output_lines::print_text;
-use reg_audit_rows::{AuditResult, Audited, BrokenRow, OTHER_SCHEMA, broken_line, sound_line};
-use reg_core::{Fault, Moment, Policy};
+use reg_core::{AuditResult, Audited, BrokenRow, Fault, Moment, Policy};
 use reg_der::Issuer;
 use reg_desk_cli::{
     Argument, Failure, ImportJob, NewRegister, ResponderChoice, SignerAddress, Steps,
@@ -26,7 +25,7 @@ use reg_desk_service::{
     Machine, Reason, audit_at, create_register, ended, keep_reason, open_signed, open_unsigned,
 };
 use reg_io::{Sink, Source};
-use reg_lines::{Ended, import, import_strictly};
+use reg_lines::{Ended, OTHER_SCHEMA, broken_line, import, import_strictly, sound_line};
 use reg_office_api::Office;
 use std::alloc::Global;
 use std::cell::Cell;

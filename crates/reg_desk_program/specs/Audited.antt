@@ -17,7 +17,7 @@ use Rattle.reg_store_tables.specs.Shows.{AreRecordsAndDerived}
 use Rattle.reg_audit.specs.Complete.{ShowsSound}
 use Rattle.reg_audit.specs.Presumed.{IsPresumed}
 use Rattle.reg_audit.specs.AuditResults.{CountedBy, IsSound}
-use Rattle.reg_audit_rows.specs.declared.audit_result.AuditResult.{AuditResult}
+use Rattle.reg_core.specs.declared.audit_result.AuditResult.{AuditResult}
 use Rattle.reg_desk_program.specs.Files.{IsAudited, IsOpenedFrom}
 use Rattle.reg_desk_service.specs.declared.crl_signer.CrlSignerChoice.{CrlSignerChoice}
 

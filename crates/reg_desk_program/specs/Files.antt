@@ -24,7 +24,7 @@ use Rattle.reg_audit.specs.Stored.{IsSomeCrl}
 use Rattle.reg_audit.specs.ReadableValues.{HasAllowedDays}
 use Rattle.reg_audit.specs.Presumed.{IsPresumed}
 use Rattle.reg_audit.specs.AuditResults.{CountedBy, DisprovedBy, IsSound, ReportsTables}
-use Rattle.reg_audit_rows.specs.declared.audit_result.AuditResult.{AuditResult}
+use Rattle.reg_core.specs.declared.audit_result.AuditResult.{AuditResult}
 use Rattle.reg_office_api.specs.CallSteps.{Signs}
 use Rattle.reg_office_api.specs.Signers.{OfficeSigners}
 use Rattle.reg_crl.specs.Signing.{Identity}

@@ -7,7 +7,7 @@ ghost use Rattle.reg_desk_program.specs.Files.{IsAudited, IsConnection};
 use crate::audit_progress::AuditProgress;
 use crate::host::SystemHost;
 use reg_audit::judge;
-use reg_audit_rows::AuditResult;
+use reg_core::AuditResult;
 use reg_desk_cli::Failure;
 use sqlite::{Connection, FileStore};
 use sqlite_disk::Disk;

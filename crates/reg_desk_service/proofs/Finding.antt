@@ -8,7 +8,8 @@ use Rattle.reg_core.specs.Sound.{SoundRows}
 use Rattle.reg_core.specs.declared.refusal.Fault.{Fault}
 use Rattle.reg_core.specs.declared.refusal.Fault.TheVariants.{Refused, Memory, Store, Signer, Read, Write}
 use Rattle.reg_core.specs.declared.rows.RequestRow.{RequestRow}
-use Rattle.reg_core_lists.specs.Lists.{key_of, page, rows_from}
+use Rattle.reg_core.specs.AscendingRows.{key_of}
+use Rattle.reg_core_lists.specs.Lists.{page, rows_from}
 use Rattle.reg_core_lists.specs.Pages.{IsPaged, IsPageOfSoundRows, Pages}
 use Rattle.reg_core_lists.specs.declared.cursor.Cursor.{Cursor}
 use Rattle.reg_core_lists.specs.declared.cursor.Cursor.TheVariants as cursor

@@ -11,14 +11,15 @@ use Rattle.reg_core.specs.declared.rows.CertRow.{CertRow}
 use Rattle.reg_core.specs.declared.rows.OrderRow.{OrderRow}
 use Rattle.reg_core.specs.declared.rows.RequestRow.{RequestRow}
 use Rattle.reg_core.specs.declared.rows.SubscriberRow.{SubscriberRow}
-use Rattle.reg_core_lists.specs.Lists.{listed_certificate, certificate_row, history_row, in_order, key_of, page, past, insert_by_key, listed_request, rows_from, subscriber_of_order, subscriber_row}
+use Rattle.reg_core.specs.AscendingRows.{in_order, key_of, past, insert_by_key}
+use Rattle.reg_core_lists.specs.Lists.{listed_certificate, certificate_row, history_row, page, listed_request, rows_from, subscriber_of_order, subscriber_row}
 use Rattle.reg_core_lists.specs.declared.cursor.Cursor.TheVariants as cursor
 use Rattle.reg_core_lists.specs.declared.rows.ListedCertificate.{ListedCertificate}
 use Rattle.reg_core_lists.specs.declared.rows.RequestWithState.{RequestWithState}
 use Rattle.reg_core_lists.specs.declared.rows.ListedRequest.{ListedRequest}
 use Rattle.reg_core_lists.specs.declared.rows.Row.{Row}
 use Rattle.reg_core_lists.specs.declared.rows.Row.TheVariants as kind
-use Rattle.reg_core_lists.proofs.PublicLaws.{Rises, all_ordered, numbers_differ, order_filter, order_rises, past_drop}
+use Rattle.reg_core.proofs.PublicLaws.{Rises, all_ordered, numbers_differ, order_filter, order_rises, past_drop}
 use Rattle.reg_desk_service.specs.SerialDecisions.{request_of_row}
 use Rattle.reg_desk_service.specs.RowLookUps.{has_key, row_with_key}
 use Rattle.reg_desk_service.specs.declared.words.RowKey.TheVariants.{Request, Certificate, Subscriber}

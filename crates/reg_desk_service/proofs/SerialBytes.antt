@@ -8,7 +8,7 @@ use Rattle.std.proofs.lemmas.List.{length-set}
 use Rattle.reg_core.specs.Integer.{IsBytes, value}
 use Rattle.reg_core.specs.Serial.{IsSerial, serial_bytes}
 use Rattle.reg_core.proofs.PublicLaws.{is_bytes-bytes_high_first, octets_are_below, octets_are_lowest, octets_are_places, one_spelling, value-bytes20}
-use Rattle.reg_core_lists.specs.Lists.{key_of}
+use Rattle.reg_core.specs.AscendingRows.{key_of}
 
 -- one of the bytes is written anew; `unit` is what it counts in its place
 pub value_set : (unit : ℕ) (xs : List ℕ) (i y : ℕ) → i < length xs → unit ≡ 256 ^ (length xs - 1 - i)

@@ -1,7 +1,7 @@
 -- A register is opened, created and audited on a machine. Each relation leads from the machine before to the machine after.
 use Rattle.std.specs.Prelude.{◌≡◌, ◌⊎◌, ℕ, List}
 use Rattle.reg_desk_cli.specs.declared.failure.Failure.{Failure}
-use Rattle.reg_audit_rows.specs.declared.audit_result.AuditResult.{AuditResult}
+use Rattle.reg_core.specs.declared.audit_result.AuditResult.{AuditResult}
 use Rattle.reg_desk_service.specs.Signers.{HasCertificate, Signing}
 use Rattle.reg_desk_service.specs.declared.machine.Machine.{Ghosts as Machine}
 

@@ -7,8 +7,7 @@ use crate::deferred_commands::SignatureKind;
 use crate::failure_cause::{FailureCause, Location};
 use mio::net::{TcpListener, TcpStream, UnixListener};
 use mio::{Events, Poll};
-use reg_audit_rows::AuditResult;
-use reg_core::{Cause, Fault, Memory, Moment, Policy};
+use reg_core::{AuditResult, Cause, Fault, Memory, Moment, Policy};
 use reg_crl_signer::{Algorithm, PresetSignature, SignatureRequest};
 use reg_der::Issuer;
 use reg_desk_cli::{Failure, LeaderAddress, ResponderChoice};
@@ -34,7 +33,7 @@ pub trait Machine {
     ghost use Rattle.reg_core.specs.Records.{no_records};
     ghost use Rattle.reg_crl.specs.Signing.{Identity};
     ghost use Rattle.reg_desk_cli.specs.declared.failure.Failure.{Failure as Failing};
-    ghost use Rattle.reg_audit_rows.specs.declared.audit_result.AuditResult.{AuditResult as AuditResults};
+    ghost use Rattle.reg_core.specs.declared.audit_result.AuditResult.{AuditResult as AuditResults};
     ghost use Rattle.reg_desk_service.specs.Clocks.{IsClockMoment};
     ghost use Rattle.reg_desk_service.specs.ExpectedCrls.{ExpectsCrls};
     ghost use Rattle.reg_desk_service.specs.SignerAnswers.{AnsweredAtSomePath};

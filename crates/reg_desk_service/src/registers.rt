@@ -10,8 +10,7 @@ ghost use Rattle.reg_desk_service.specs.Signers.{entering, signing_with, unsigne
 
 use crate::crl_signer::CrlSignerChoice;
 use crate::machine::Machine;
-use reg_audit_rows::AuditResult;
-use reg_core::{Fault, Policy};
+use reg_core::{AuditResult, Fault, Policy};
 use reg_crl_signer::Algorithm;
 use reg_der::Issuer;
 use reg_desk_cli::{Failure, ResponderChoice, SignerAddress};

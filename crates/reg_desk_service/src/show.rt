@@ -1,7 +1,8 @@
 //! The lines `show ..` and `help` at the control socket.
 
 ghost use Rattle.std.specs.Prelude.{◌≡◌, ◌++◌, ◌∷◌, ◌-◌, ◌≤◌, [], IfOk, find as first_passing};
-ghost use Rattle.reg_core_lists.specs.Lists.{key_of, page};
+ghost use Rattle.reg_core.specs.AscendingRows.{key_of};
+ghost use Rattle.reg_core_lists.specs.Lists.{page};
 ghost use Rattle.reg_core_lists.specs.Texts.{row_text};
 ghost use Rattle.reg_core_lists.specs.declared.texts.Format.TheVariants.{Json};
 ghost use Rattle.reg_office_api.specs.Calls.{LooksIn};

@@ -1,5 +1,6 @@
 pub mod Accepted
 pub mod Answer
+pub mod AuditLines
 pub mod ByCalls
 pub mod Fields
 pub mod Import

@@ -3,6 +3,7 @@
 
 mod accepted;
 mod answered;
+mod audit_lines;
 mod fields;
 mod host;
 pub mod laws;
@@ -18,6 +19,7 @@ mod strict;
 
 pub use accepted::is_accepted;
 pub use answered::{Answered, Ended, LineKind, OcspReply, RefusedCommand};
+pub use audit_lines::{OTHER_SCHEMA, broken_line, sound_line};
 pub use fields::Fields;
 pub use host::Host;
 pub use line::{ParsedLine, read_line};

@@ -6,8 +6,8 @@ use Rattle.reg_core.specs.Crls.{row_of}
 use Rattle.reg_core.specs.Records.{Crl, crl_in}
 use Rattle.reg_core.specs.Sound.{NumberedFrom}
 use Rattle.reg_core.specs.declared.rows.CrlRow.{CrlRow}
-use Rattle.reg_core_lists.specs.Lists.{past}
-use Rattle.reg_core_lists.proofs.PublicLaws.{find_self, numbers_differ, past_drop}
+use Rattle.reg_core.specs.AscendingRows.{past}
+use Rattle.reg_core.proofs.PublicLaws.{find_self, numbers_differ, past_drop}
 
 some_is : {A : Type 0} (x y : A) → Some x ≡ Some y → x ≡ y
 some_is {A = A} x y is = ap (λ (o : Option A). unwrap_or o x) is

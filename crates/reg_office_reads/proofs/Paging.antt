@@ -16,7 +16,8 @@ use Rattle.reg_core.specs.declared.rows.SubscriberRow.{SubscriberRow}
 use Rattle.reg_core.specs.declared.refusal.Fault.{Fault}
 use Rattle.reg_core.specs.declared.refusal.Fault.TheVariants.{Refused, Memory, Store, Signer, Read, Write}
 use Rattle.reg_core.specs.declared.rows.CertRow.{CertRow}
-use Rattle.reg_core_lists.specs.Lists.{certificate_row, crl_row, expiring_row, history_row, key_of, next_cursor, open_row, order_row, overdue_row, page, page_over, past, subscriber_row}
+use Rattle.reg_core.specs.AscendingRows.{key_of, past}
+use Rattle.reg_core_lists.specs.Lists.{certificate_row, crl_row, expiring_row, history_row, next_cursor, open_row, order_row, overdue_row, page, page_over, subscriber_row}
 use Rattle.reg_core_lists.specs.Pages.{IsPage, IsPaged}
 use Rattle.reg_core_lists.specs.declared.cursor.Cursor.{Cursor}
 use Rattle.reg_core_lists.specs.declared.cursor.Cursor.TheVariants.{Crls}
@@ -24,7 +25,7 @@ use Rattle.reg_core_lists.specs.declared.cursor.Cursor.TheVariants as cursor
 use Rattle.reg_core_lists.specs.declared.rows.Page.{Page}
 use Rattle.reg_core_lists.specs.declared.rows.Row.{Row}
 use Rattle.reg_core_lists.specs.declared.rows.Row.TheVariants.{Crl as OfCrl}
-use Rattle.reg_core_lists.proofs.PublicLaws.{dropped_numbered, find_self, looked_up, numbers, past_drop, numbers_differ}
+use Rattle.reg_core.proofs.PublicLaws.{dropped_numbered, find_self, looked_up, numbers, past_drop, numbers_differ}
 use Rattle.reg_store_tables.specs.Tables.{rows_of}
 use Rattle.reg_store_tables.proofs.PublicLaws.{mapped}
 use Rattle.reg_office_reads.specs.Faults.{IsTableFault}

@@ -28,7 +28,7 @@ use Rattle.reg_core.specs.declared.rows.OrderRow.{OrderRow}
 use Rattle.reg_core.specs.declared.rows.RequestRow.{RequestRow}
 use Rattle.reg_core.specs.declared.rows.RevocationRow.{RevocationRow}
 use Rattle.reg_core.specs.declared.rows.SubscriberRow.{SubscriberRow}
-use Rattle.reg_core_lists.proofs.PublicLaws.{past_drop}
+use Rattle.reg_core.proofs.PublicLaws.{past_drop}
 use Rattle.reg_store_tables.specs.Schema.{register_schema}
 use Rattle.reg_store_tables.specs.Rows.{number, counted_rows, stored_certificate, stored_order, stored_request, stored_revocation, stored_subscriber}
 use Rattle.reg_store_tables.specs.Shows.{IsShownBy}

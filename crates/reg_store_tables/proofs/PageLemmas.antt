@@ -29,9 +29,9 @@ use Rattle.reg_core.specs.declared.rows.CertRow.{CertRow}
 use Rattle.reg_core.specs.declared.rows.CrlRow.{CrlRow}
 use Rattle.reg_core.specs.declared.rows.RevocationRow.{RevocationRow}
 use Rattle.reg_core_laws.proofs.PublicLaws.{all_map}
-use Rattle.reg_core_lists.specs.Lists.{in_order, past, insert_by_key}
-use Rattle.reg_core_lists.proofs.PublicLaws.{all_ordered, order_filter, order_rises, kept_rises}
-use Rattle.reg_core_lists.proofs.PublicLaws as orders
+use Rattle.reg_core.specs.AscendingRows.{in_order, past, insert_by_key}
+use Rattle.reg_core.proofs.PublicLaws.{all_ordered, order_filter, order_rises, kept_rises}
+use Rattle.reg_core.proofs.PublicLaws as orders
 use Rattle.reg_store_tables.specs.Schema.{register_schema}
 use Rattle.reg_store_tables.specs.Rows.{number, serial_value, counted_rows, stored_certificate, stored_crl, stored_revocation}
 use Rattle.reg_store_tables.specs.Pages.{ReadsPage}

@@ -4,7 +4,7 @@ ghost use Rattle.std.specs.Prelude.{◌≡◌, ◌<◌, ◌^◌, map, take};
 ghost use Rattle.reg_core.specs.Crls.{row_of};
 ghost use Rattle.reg_core.specs.Serial.{serial_bytes};
 ghost use Rattle.reg_core.specs.Sound.{SoundRows};
-ghost use Rattle.reg_core_lists.specs.Lists.{key_of, past};
+ghost use Rattle.reg_core.specs.AscendingRows.{key_of, past};
 ghost use Rattle.reg_store_tables.specs.LookUps.{FindsIf};
 
 use crate::fault::DatabaseFault;

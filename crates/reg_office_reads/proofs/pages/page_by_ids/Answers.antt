@@ -1,6 +1,6 @@
 use Rattle.std.proofs.Common.{◌≡◌, ◌∙◌, ◌+◌, ap, arith, refl}
 use Rattle.std.specs.Prelude.{filter_map, min}
-use Rattle.reg_core_lists.proofs.PublicLaws.{numbers}
+use Rattle.reg_core.proofs.PublicLaws.{numbers}
 use Rattle.reg_store_tables.specs.Tables.{rows_of}
 use Rattle.reg_store_tables.proofs.PublicLaws.{and_so, by_finding, by_none, looked_none, looked_then, not_found, so}
 use Rattle.reg_office_reads.specs.ListById.{row_at, numbered_table}

@@ -1,6 +1,6 @@
 use Rattle.std.proofs.Common.{◌≡◌, ◌≤◌, ◌+◌, ◌-◌}
 use Rattle.std.specs.Prelude.{filter_map}
-use Rattle.reg_core_lists.proofs.PublicLaws.{numbers}
+use Rattle.reg_core.proofs.PublicLaws.{numbers}
 use Rattle.reg_store_tables.specs.LookUps.{LooksUp}
 use Rattle.reg_office_reads.specs.ListById.{row_at}
 use Rattle.reg_office_reads.proofs.pages.page_by_ids.Given as goal

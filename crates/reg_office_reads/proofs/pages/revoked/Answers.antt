@@ -1,6 +1,7 @@
 use Rattle.std.proofs.Common.{Some}
 use Rattle.reg_core.specs.declared.rows.RevocationRow.{RevocationRow}
-use Rattle.reg_core_lists.specs.Lists.{revoked_row, key_of}
+use Rattle.reg_core.specs.AscendingRows.{key_of}
+use Rattle.reg_core_lists.specs.Lists.{revoked_row}
 use Rattle.reg_core_lists.specs.declared.cursor.Cursor.TheVariants.{Revoked}
 use Rattle.reg_store_tables.proofs.PublicLaws.{and_so, by_finding_sound, looked_then, not_found, so}
 use Rattle.reg_office_reads.proofs.Paging.{keyed_page}

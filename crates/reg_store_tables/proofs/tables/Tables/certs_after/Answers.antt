@@ -2,7 +2,7 @@ use Rattle.std.proofs.Common.{take, refl, arith}
 use Rattle.reg_core.specs.Serial.{IsSerial}
 use Rattle.reg_core.specs.Sound.{SoundRows}
 use Rattle.reg_core.specs.declared.rows.CertRow.{CertRow}
-use Rattle.reg_core_lists.specs.Lists.{key_of, past}
+use Rattle.reg_core.specs.AscendingRows.{key_of, past}
 use Rattle.reg_store_tables.specs.RecordValues.{IsValidity}
 use Rattle.reg_store_tables.proofs.Few.{all_both}
 use Rattle.reg_store_tables.proofs.FailingLemmas.{written_shows}

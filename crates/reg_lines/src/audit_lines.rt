@@ -1,12 +1,11 @@
-//! The line that reports an audit's result, with its LF. Errors: out of memory. `broken_row.rt` explains the tables `standing`, `kept` and `listed`.
+//! The line that reports an audit's result, with its LF. Errors: out of memory. The tables `standing`, `kept` and `listed` are those of
+//! [`RegisterTable`].
 
 ghost use Rattle.std.specs.Prelude.{◌≡◌, ◌++◌, IfOk};
 ghost use Rattle.std.specs.Fmt.{decimal};
-ghost use Rattle.reg_audit_rows.specs.AuditLines.{broken_text, sound_text, table_name, why_text};
+ghost use Rattle.reg_lines.specs.AuditLines.{broken_text, sound_text, table_name, why_text};
 
-use crate::audit_result::Audited;
-use crate::broken_row::{BrokenRow, Defect, RegisterTable};
-use reg_core::Decimal;
+use reg_core::{Audited, BrokenRow, Decimal, Defect, RegisterTable};
 use std::alloc::{AllocError, Global};
 
 /// The line for a schema that is not a register's, even if only a key, a CHECK, a view, a trigger or the order of creation differs.

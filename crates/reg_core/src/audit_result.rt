@@ -1,7 +1,7 @@
 use crate::broken_row::BrokenRow;
 
 /// The result of an audit that found no row that breaks a rule: how many certificates, revocations and CRLs the register has.
-#[derive(Clone, Copy, PartialEq, Eq)]
+#[derive(Clone, Copy)]
 pub struct Audited {
     pub certificates: usize,
     pub revoked: usize,
@@ -9,7 +9,7 @@ pub struct Audited {
 }
 
 /// The result of an audit of a register: no row breaks a rule (`Sound`), or one does (`Broken`), or most rows were not checked.
-#[derive(Clone, Copy, PartialEq, Eq)]
+#[derive(Clone, Copy)]
 pub enum AuditResult {
     Sound(Audited),
     Broken(BrokenRow),

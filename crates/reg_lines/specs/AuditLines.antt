@@ -1,12 +1,12 @@
 -- The lines of an audit's report.
 use Rattle.std.specs.Prelude.{ℕ, List, ◌++◌, codes}
 use Rattle.std.specs.Fmt.{decimal}
-use Rattle.reg_audit_rows.specs.declared.broken_row.BrokenRow.{BrokenRow}
-use Rattle.reg_audit_rows.specs.declared.broken_row.RegisterTable.{RegisterTable}
-use Rattle.reg_audit_rows.specs.declared.broken_row.RegisterTable.TheVariants as table
-use Rattle.reg_audit_rows.specs.declared.broken_row.Defect.{Defect}
-use Rattle.reg_audit_rows.specs.declared.broken_row.Defect.TheVariants as why
-use Rattle.reg_audit_rows.specs.declared.audit_result.Audited.{Audited}
+use Rattle.reg_core.specs.declared.broken_row.BrokenRow.{BrokenRow}
+use Rattle.reg_core.specs.declared.broken_row.RegisterTable.{RegisterTable}
+use Rattle.reg_core.specs.declared.broken_row.RegisterTable.TheVariants as table
+use Rattle.reg_core.specs.declared.broken_row.Defect.{Defect}
+use Rattle.reg_core.specs.declared.broken_row.Defect.TheVariants as why
+use Rattle.reg_core.specs.declared.audit_result.Audited.{Audited}
 
 unfoldable pub table_name : RegisterTable → List ℕ
 table_name table.Office = codes "office"

@@ -4,7 +4,7 @@ use Rattle.std.specs.Prelude.{nat_lt, slice_get}
 use Rattle.std.specs.List.{filter, AllByRecursion}
 use Rattle.std.proofs.lemmas.Bool.Decides.{nat_tests}
 use Rattle.reg_core.specs.Sound.{KeysDiffer, NumberedFrom}
-use Rattle.reg_core_lists.specs.Lists.{insert_by_key, in_order, past}
+use Rattle.reg_core.specs.AscendingRows.{insert_by_key, in_order, past}
 
 -- ---- what a filter keeps
 

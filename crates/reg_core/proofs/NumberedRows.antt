@@ -4,8 +4,8 @@ use Rattle.std.specs.Prelude.{nat_lt, filter_map, option_and_then}
 use Rattle.std.specs.List.{filter, find, AllByRecursion, cons_option}
 use Rattle.std.proofs.lemmas.Bool.Decides.{nat_tests}
 use Rattle.reg_core.specs.Sound.{KeysDiffer, NumberedFrom}
-use Rattle.reg_core_lists.specs.Lists.{insert_by_key, in_order, past}
-use Rattle.reg_core_lists.proofs.Orders.{all_above, put_front}
+use Rattle.reg_core.specs.AscendingRows.{insert_by_key, in_order, past}
+use Rattle.reg_core.proofs.RisingKeys.{all_above, put_front}
 
 module _ {A : Type 0} (key : A → ℕ) where
   -- ---- the row with a key

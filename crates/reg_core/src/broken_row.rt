@@ -1,5 +1,5 @@
 /// A table that can have a broken row. The schedule of longest validities (`longest`) can't: if it is invalid, the audit ends with an error.
-#[derive(Clone, Copy, PartialEq, Eq)]
+#[derive(Clone, Copy)]
 pub enum RegisterTable {
     Office,
     Subscriber,
@@ -15,7 +15,7 @@ pub enum RegisterTable {
 }
 
 /// What is wrong with a row ("it"); `lines.rt` has a text for each. `SameName`: an earlier row has that name. `NoOrder`: there is no such order.
-#[derive(Clone, Copy, PartialEq, Eq)]
+#[derive(Clone, Copy)]
 pub enum Defect {
     /// The last accepted moment is 9999-12-22T00:00:00Z or later. No command is accepted then (`E02`): a nextUpdate could be after the year 9999.
     PastClockEnd,
@@ -67,7 +67,7 @@ pub enum Defect {
 }
 
 /// A row that breaks a rule: its table, its place there, counted from 1, and why. For a missing row, the place can be the one after the last row.
-#[derive(Clone, Copy, PartialEq, Eq)]
+#[derive(Clone, Copy)]
 pub struct BrokenRow {
     pub table: RegisterTable,
     pub row: u64,
