@@ -858,7 +858,7 @@ def documented(t, root):
     t.same(sorted(completed("desk", "s")), [it for it in commands if it.startswith("s")], "desk s..")
     t.has(" ".join(completed("desk", "init", "ca.db", "--")), "--name --key --key-id --days --crl-life --ocsp-life --cap")
     t.has(" ".join(completed("desk", "--why", "script", "ca.db", "--")), "--signer --algorithm")
-    opens = "--signer --algorithm --unsigned --responder --responder-signer --responder-algorithm --embed --published --log --log-file --why"
+    opens = "--signer --algorithm --unsigned --responder --responder-signer --responder-algorithm --embed --published --confirm-by --log --log-file --why"
     t.has(" ".join(completed("desk", "open", "ca.db", "--")), opens)
     t.has(" ".join(completed("desk", "import", "ca.db", "--now", "")), time.strftime("%Y-%m-%dT", time.gmtime()))
     t.same(sorted(completed("desk", "list", "ca.db", "o")), ["open-requests", "orders", "overdue"], "desk list ca.db o..")
