@@ -1,5 +1,5 @@
 -- What a follower's desk does with its register, and how its job ends.
-use Rattle.std.proofs.Common.{◌≡◌, ◌⊎◌, ◌++◌, ℕ, Bool, true, false, List, [], ◌∷◌, Some, None, Ok, Err, IsTrue, ap, inl, inr, refl, subst, sym}
+use Rattle.std.proofs.Common.{◌≡◌, ◌⊎◌, ℕ, Bool, true, false, List, [], ◌∷◌, Some, None, Ok, Err, IsTrue, ap, inl, inr, refl, subst}
 use Rattle.std.specs.Prelude.{Option, Result, IsErrAnd, IsFalse, is_some}
 use Rattle.reg_core.specs.declared.refusal.Fault.TheVariants as fault
 use Rattle.reg_desk_cli.specs.declared.failure.Failure.{Failure}

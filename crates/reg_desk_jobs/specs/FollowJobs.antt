@@ -1,5 +1,5 @@
 -- The job that follows another desk: it fills its file if there is none, and then serves the register in it.
-use Rattle.std.specs.Prelude.{◌≡◌, ◌⊎◌, ◌*◌, ℕ, min, List, [], ◌++◌, codes, Result, Ok, Err, Some, None}
+use Rattle.std.specs.Prelude.{◌≡◌, ◌⊎◌, ◌*◌, ℕ, min, List, ◌++◌, codes, Result, Ok, Err, Some, None}
 use Rattle.std.specs.declared.option.Option.{Option}
 use Rattle.reg_core.specs.Issuer.{Issuer}
 use Rattle.reg_core.specs.Policy.{Terms}
@@ -20,7 +20,7 @@ use Rattle.reg_office_api.specs.Follows.{ArePositionsOf, FollowStep, FormsSign}
 use Rattle.reg_office_api.specs.declared.office.Office.{Ghosts as Office}
 use Rattle.reg_desk_jobs.specs.Serving.{IsBoundOn, Served}
 use Rattle.reg_desk_service.specs.Admission.{first_admission}
-use Rattle.reg_desk_service.specs.Following.{FollowerAnswers, FollowerAnswersLines, FollowerDefers, FollowerState, FollowerWorks}
+use Rattle.reg_desk_service.specs.Following.{FollowerAnswers, FollowerAnswersLines, FollowerDefers, FollowerWorks}
 use Rattle.reg_desk_service.specs.RegisterUses.{Creates, NotCreatedAt, NotOpened, UsesRegister}
 use Rattle.reg_desk_service.specs.Registers.{Opened}
 use Rattle.reg_desk_service.specs.Signers.{entering, signing_with}

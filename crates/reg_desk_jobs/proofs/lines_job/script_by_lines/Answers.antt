@@ -1,7 +1,5 @@
 use Rattle.std.proofs.Common.{◌≡◌, rules, inl, inr, refl}
-use Rattle.std.specs.Prelude.{IsTrue}
 use Rattle.reg_office_api.proofs.PublicLaws.{follows}
-use Rattle.reg_desk_jobs.specs.Ends.{IsClockRefused}
 use Rattle.reg_desk_service.proofs.PublicLaws.{still_then, then_still}
 use Rattle.reg_desk_jobs.proofs.lines_job.script_by_lines.Goals as goal
 
