@@ -443,15 +443,27 @@ def rows_have_the_fields_that_help_names(t, words, before, after, reply):
     t.same(told, f"{reply}\n", f"the replies to the rows {rows!r}")
 
 
+def is_running_after_a_second(t, words):
+    try:
+        subprocess.run([program(), *words], cwd=t.room, env=environment(), capture_output=True, timeout=1)
+    except subprocess.TimeoutExpired:
+        return True
+    return False
+
+
 @test
 def the_examples_in_help_can_be_typed(t):
-    """Each command's help has an example at least. Its command line is read, and the run ends only for lack of a register or an open desk."""
+    """Each command's help has an example at least. Its command line is read. The run ends only for lack of a register or an open desk; a follower
+    does not end, because it waits for its leader."""
     commands = re.findall(r"^  ([a-z][a-z-]*) ", t.done("--help").partition("\nCommands:\n")[2].partition("\n\n")[0], re.MULTILINE)
     for command in commands:
         examples = re.findall(r"^  (?:echo \S.* \| )?(desk [^<>|\n]*)", t.done(command, "--help").partition("\nExample")[2], re.MULTILINE)
         t.true(examples, f"the help of {command} has no example")
         for example in examples:
             words = shlex.split(example)[1:]
+            if command == "follow":
+                t.true(is_running_after_a_second(t, words), f"`{example}` ends")
+                continue
             ran = t.desk(*words)
             t.same((words[0], ran.status), (command, 0 if command == "init" else 1), f"command and status of `{example}`, which printed {ran.err!r}")
             (t.room / "ca.db").unlink(missing_ok=True)
