@@ -12,7 +12,7 @@ import threading
 import time
 from random import Random
 
-from groups.changes import DAY, KINDS, LINES, Tables, asked, taken
+from groups.changes import DAY, KINDS, LINES, Tables, asked, feed_after, taken
 from groups.responder import JAVA, LEAVES, Responder
 from groups.responder import asked as asked_at
 from lib import faults, program, registers
@@ -375,10 +375,10 @@ def a_leader_that_is_replaced(t):
 
 
 class Leader:
-    """A leader whose answers to GET /changes the test sets: a status and a body, or bytes as they are."""
+    """A leader whose answers to GET /changes the test sets: a status and a body, or bytes as they are; or a function that gives these, by the request."""
 
     def __init__(self, port, answer):
-        self.answer, self.asked = answer, 0
+        self.answer, self.asked, self.requests = answer, 0, []
         self.server = socket.create_server(("127.0.0.1", port))
         threading.Thread(target=self.serve, daemon=True).start()
 
@@ -387,8 +387,8 @@ class Leader:
             while True:
                 client, _ = self.server.accept()
                 with client, contextlib.suppress(OSError):
-                    client.recv(65536)
-                    status, body = self.answer
+                    self.requests.append(client.recv(65536).decode())
+                    status, body = self.answer(self.requests[-1]) if callable(self.answer) else self.answer
                     head = f"HTTP/1.1 {status} X\r\nContent-Length: {len(body)}\r\n\r\n".encode()
                     client.sendall(body if status is None else head + body)
                 self.asked += 1
@@ -568,6 +568,28 @@ def a_good_page_of_a_server(t):
     copy.until_at(wanted.positions())
     t.same(copy.copied().lines, more)
     t.same(copy.copied().head.decode().splitlines()[4], f"last {LATER}")
+
+
+@test(seconds=6)
+def a_request_has_the_number_of_the_copy_once_the_rows_are_stored(t):
+    """A page that does not end the feed is kept in memory only: the request for the next one confirms nothing, and does not wait."""
+    copy, tables, octets, leader = faked(t)
+    more = Tables.__new__(Tables)
+    more.__dict__.update(tables.__dict__, lines=dict(tables.lines, subscriber=[*tables.lines["subscriber"], "3 x"]))
+    before, reached = tables.positions(), more.positions()
+
+    def answer(request):
+        return 200, paged(tables, [], tail=f"end {reached}") if reached in request else paged(tables, ["subscriber 3 x"], tail=f"more {reached}")
+
+    leader.answer = answer
+    named = lambda positions: [it for it in leader.requests if it.startswith(f"GET /changes?after={positions}&follower=")]
+    until(lambda: named(reached), "a request that confirms the row")
+    copy.until_at(reached)
+    kept = [it for it in leader.requests if it.startswith(f"GET /changes?after={reached} HTTP/1.1\r\n")]
+    t.same(len(kept), 1, "requests while the row was in memory only")
+    t.true(leader.requests.index(kept[0]) < leader.requests.index(named(reached)[0]), "the request that confirms the row came first")
+    parameters = {it.split()[1].split("&", 1)[1] for it in [*named(before), *named(reached)]}
+    t.true(len(parameters) == 1 and parameters.pop().endswith("&wait=1"), f"parameters of the requests after stored rows: {parameters}")
 
 
 @test(seconds=8)
@@ -990,6 +1012,25 @@ def a_reply_waits_for_a_follower(t):
         t.true(int(copy.leader["positions"].split(".")[0]) >= number, f"positions of the copy after subscriber {number}")
     t.same(other.ask("crl"), "crl 4 entries 2", "a CRL")
     t.true(int(copy.leader["positions"].split(".")[5]) >= 4, "positions of the copy after a CRL")
+
+
+@test(seconds=4)
+def a_request_without_a_number_confirms_nothing(t):
+    """Nor does one with a number but without the last rows."""
+    t.register(lines=LINES)
+    t.clock(CLOCK)
+    leader = t.open("ca.db", "--confirm-by", "1")
+    before = feed_after(t, leader)[3]
+    sender = Sender(t, "subscriber third")
+    until(lambda: json.loads(parted(leader.ask("GET", "/health"))[2])["unconfirmed"], "the command")
+    reached = feed_after(t, leader)[3]
+    for after in (reached, f"{before}&follower=7"):
+        asked(t, leader, after)
+        sender.join(0.5)
+        t.same(sender.reply, None, f"the reply after a request with {after}")
+    asked(t, leader, f"{reached}&follower=7")
+    sender.join(60 * program.PATIENCE)
+    t.same(sender.reply, "subscriber 3", "the reply after a request of a follower with the row")
 
 
 @test(seconds=12)

@@ -288,7 +288,8 @@ impl Fetcher {
         if stream.register(self.poll.registry()).is_err() {
             return Ok(Err(FeedFailure::Unreachable));
         }
-        let Ok(request) = changes_request(alloc, after, machine.micros(), false) else {
+        // Nothing is stored yet, so the request has no follower's number.
+        let Ok(request) = changes_request(alloc, after, None, false) else {
             return Err(Failure::Fault(Fault::Memory));
         };
         let mut exchange: FeedExchange<LeaderStream> = FeedExchange::new(

@@ -21,9 +21,9 @@ abbrev pub follower_in : List ℕ → Option ℕ
 follower_in parameter =
     if starts_with (λ a b. a == b) parameter (codes "&follower=") then number_of (drop 10 parameter) else None
 
--- the follower in `POSITIONS` or `POSITIONS&follower=NUMBER`, by the index of the first `&` (38); without a number it has 0
+-- the follower in `POSITIONS&follower=NUMBER`, by the index of the first `&` (38); a request without a number confirms nothing
 abbrev pub confirming_at : List ℕ → List ℕ → Option ℕ → Option ℕ
-confirming_at query response None = if ends_feed response query then Some 0 else None
+confirming_at query response None = None
 confirming_at query response (Some at) =
     if ends_feed response (take at query) then follower_in (drop at query) else None
 
@@ -46,9 +46,9 @@ confirming_number request response =
     if starts_with (λ a b. a == b) request (codes "GET /changes?after=")
     then confirming_before (drop 19 request) response (position (λ b. b == 32) (drop 19 request)) else None
 
--- the follower in a query `POSITIONS` or `POSITIONS&follower=NUMBER`, by the index of the first `&`; without a number it has 0
+-- the follower in a query `POSITIONS` or `POSITIONS&follower=NUMBER`, by the index of the first `&`
 abbrev pub follower_at : List ℕ → Option ℕ → Option ℕ
-follower_at query None = Some 0
+follower_at query None = None
 follower_at query (Some at) = follower_in (drop at query)
 
 abbrev pub follower_in_query : List ℕ → Option ℕ
@@ -89,9 +89,9 @@ after_lines had_command now it =
 abbrev pub has_follower : ℕ → Confirmation → Bool
 has_follower follower it = list_any (λ number. number == follower) (take it.count it.followers)
 
--- a request of this follower can confirm nothing: no command waits, or the follower is counted already
+-- a request of this follower can confirm nothing: no command waits, or the follower is counted already, or it has no number
 abbrev pub is_done_with_follower : Option ℕ → Confirmation → Bool
-is_done_with_follower None it = is_confirmed it
+is_done_with_follower None it = true
 is_done_with_follower (Some follower) it = is_confirmed it || has_follower follower it
 
 abbrev pub is_done_with : List ℕ → Confirmation → Bool

@@ -1,5 +1,5 @@
 -- What a follower does that another desk does not: the work by which it follows its leader, and the lines that it refuses.
-use Rattle.std.specs.Prelude.{◌≡◌, ◌⊎◌, ◌-◌, ◌/◌, ℕ, nat_le, Bool, true, false, List, codes, unwrap_or, Option, Some, None, Ok, IsFalse, IsTrue}
+use Rattle.std.specs.Prelude.{◌≡◌, ◌⊎◌, ◌==◌, ◌-◌, ◌/◌, ℕ, nat_le, Bool, true, false, List, length, codes, if◌then◌else◌, unwrap_or, Option, Some, None, Ok, IfSome, IsFalse, IsTrue}
 use Rattle.reg_core.specs.declared.refusal.Fault.TheVariants as fault
 use Rattle.reg_core_lists.specs.declared.feed_reader.ReceivedPage.{ReceivedPage}
 use Rattle.reg_desk_cli.specs.declared.failure.Failure.{Failure}
@@ -8,10 +8,12 @@ use Rattle.reg_desk_metrics.specs.declared.follower_status.FollowerStatus.{Follo
 use Rattle.reg_lines.specs.Meaning.{IsUnreadable, LineMeans, is_ocsp_line, means_query}
 use Rattle.reg_lines.specs.Script.{IsShortUntimedLine, line_of}
 use Rattle.reg_core.specs.declared.command.Query.{Query}
+use Rattle.reg_desk_server.specs.Buffers.{unsent_of}
 use Rattle.reg_desk_server.specs.Exchange.{Outcome}
 use Rattle.reg_office_api.specs.Calls.{KeepsIn, LeadsIn}
 use Rattle.reg_office_api.specs.Follows.{FollowStep, FormsSign, IsLastOf}
 use Rattle.reg_office_api.specs.declared.office.Office.{Ghosts as Office}
+use Rattle.reg_desk_service.specs.ChangesRequests.{changes_text}
 use Rattle.reg_desk_service.specs.ExpectedCrls.{ExpectsCrls, LeadsWithCrls}
 use Rattle.reg_desk_service.specs.ControlReplies.{IsReplyText, ReportsFault}
 use Rattle.reg_desk_service.specs.ControlWords.{AnswersLinesByClock, HasCommand, IsAdmissionAfter, WordMeaning, helps, why, copies, shows, decides, accepts, schedules, commands, meaning_in}
@@ -53,6 +55,19 @@ progress_at follower now = record {
   failure = follower.failure;
 }
 
+-- ---- its requests
+
+-- whether a request without news may wait at the leader
+abbrev pub may_wait : Follower → Bool
+may_wait follower = nat_le 5000 follower.lag
+
+-- Its next request. It gives its number only with the positions of its records, which its file has: pages that are kept may be lost.
+abbrev pub next_request : Follower → List ℕ
+next_request follower =
+    if length follower.pages.items == 0
+    then changes_text (Some follower.own) (Some follower.number) (may_wait follower)
+    else changes_text (Some follower.after) None false
+
 -- ---- its work
 
 -- its lag, the positions of its records, and the moments of its last request and of the last one that reached the leader stay
@@ -62,10 +77,11 @@ pub record KeepsProgress (old new : Follower) : Type 0 where
   pub asked_at : new.asked_at ≡ old.asked_at
   pub reached_at : new.reached_at ≡ old.reached_at
 
--- it sent a request at this moment, or none
+-- it began an exchange with its next request at this moment, or could not; or it did nothing
 abbrev pub SendsRequest : ℕ → Follower → Follower → Type 0
 SendsRequest now old new =
-    (new ≡ old) ⊎ (new ≡ record old { asked_at = new.asked_at; exchange = new.exchange } × (new.asked_at ≡ now))
+    (new ≡ old) ⊎ (new ≡ record old { asked_at = new.asked_at; exchange = new.exchange } × (new.asked_at ≡ now)
+    × IfSome new.exchange (λ exchange. unsent_of exchange.request ≡ next_request old))
 
 -- the last of these pages ends the feed
 abbrev pub LastEnds : List ReceivedPage → Type 0

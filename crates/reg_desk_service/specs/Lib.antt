@@ -1,5 +1,6 @@
 pub mod Admission
 pub mod RequestOutcomes
+pub mod ChangesRequests
 pub mod Clocks
 pub mod ControlReplies
 pub mod Confirmations

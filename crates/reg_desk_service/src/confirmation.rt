@@ -137,13 +137,13 @@ impl Confirmation {
         }
     }
 
-    /// Whether a request can confirm nothing: each command is confirmed, or its follower is counted already.
+    /// Whether a request can confirm nothing: each command is confirmed, or its follower is counted already, or has no number.
     pub(crate) fn is_done_with(&self, request: &[u8]) -> bool
         ensures { result ≡ is_done_with request.now self.now }
     {
         match follower_of(request) {
             Some(follower) => self.is_confirmed() || self.has(follower),
-            None => self.is_confirmed(),
+            None => true,
         }
     }
 
@@ -167,7 +167,7 @@ impl Confirmation {
     }
 }
 
-/// The number of the follower that sends a request for changes; 0 if it has none.
+/// The number of the follower that sends a request for changes.
 fn follower_of(request: &[u8]) -> Option<u64>
     ensures { result ≡ follower_number request.now }
 {
@@ -186,12 +186,12 @@ fn follower_in_query(query: &[u8]) -> Option<u64>
 {
     match first_ampersand(query) {
         Some(at) => follower_in(&query[at..]),
-        None => Some(0),
+        None => None,
     }
 }
 
-/// The number of the follower that sent a request, if it asked with the positions after which the response, the last page, has nothing. A follower
-/// without a number has 0.
+/// The number of the follower that sent a request, if it asked with the positions after which the response, the last page, has nothing. A request
+/// without a number, as while pages are kept in memory only, confirms nothing.
 fn confirming(request: &[u8], response: &[u8]) -> Option<u64>
     ensures { result ≡ confirming_number request.now response.now }
 {
@@ -226,13 +226,7 @@ fn confirming_in(query: &[u8], response: &[u8]) -> Option<u64>
                 None
             }
         }
-        None => {
-            if ends_feed(response, query) {
-                Some(0)
-            } else {
-                None
-            }
-        }
+        None => None,
     }
 }
 

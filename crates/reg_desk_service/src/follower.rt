@@ -1,15 +1,16 @@
 //! A follower: it asks a leader for changes, keeps the pages in memory up to the one that ends the feed, and then has its office enter them.
 
-ghost use Rattle.std.specs.Prelude.{◌≡◌, ◌*◌, min, None, Some, Ok, IfErr, IfOk, IsTrue, OnErr, OnOk, is_some};
+ghost use Rattle.std.specs.Prelude.{◌≡◌, ◌*◌, min, None, Some, Ok, IfErr, IfOk, IfSome, IsTrue, OnErr, OnOk, is_some};
 ghost use Rattle.reg_desk_metrics.specs.Tallies.{greatest};
+ghost use Rattle.reg_desk_server.specs.Buffers.{unsent_of};
 ghost use Rattle.reg_office_api.specs.Follows.{FollowStep, FormsSign};
 ghost use Rattle.reg_desk_service.specs.ExpectedCrls.{ExpectsCrls, LeadsWithCrls};
-ghost use Rattle.reg_desk_service.specs.Following.{SendsRequest, FollowsAt, KeepsProgress, KeepsRecords, LastEnds, Reaches, TakesResponse, has_diverged, is_current_at, reached_within, progress_at};
+ghost use Rattle.reg_desk_service.specs.Following.{SendsRequest, FollowsAt, KeepsProgress, KeepsRecords, LastEnds, Reaches, TakesResponse, has_diverged, is_current_at, may_wait, next_request, reached_within, progress_at};
 
+use crate::feed_request::changes_request;
 use crate::machine::Machine;
 use mio::Registry;
-use reg_core::Decimal;
-use reg_core_lists::{Positions, ReceivedPage, put_positions, read_feed_page};
+use reg_core_lists::{Positions, ReceivedPage, read_feed_page};
 use reg_crl_signer::{Algorithm, crl_algorithm};
 use reg_desk_cli::{Failure, LeaderAddress};
 use reg_desk_metrics::{FeedFailure, FollowerStatus};
@@ -177,29 +178,47 @@ impl<'a, 'w> Follower<'a, 'w> {
     }
 
     fn ask<M: Machine>(&mut self, machine: &M, registry: &Registry, now: u64)
-        ensures asked { self.new ≡ record self.old { asked_at = self.new.asked_at; exchange = self.new.exchange } }
-        ensures at { self.new.asked_at ≡ now }
+        ensures { SendsRequest now self.old self.new }
     {
         self.asked_at = now;
         self.exchange = self.asked::<M>(machine, registry, now);
     }
 
-    /// A request for the changes after the pages that are kept; `None` if the leader can't be reached.
+    /// Its next request, on a connection of its own; `None` if the leader can't be reached.
     fn asked<M: Machine>(
         &self,
         machine: &M,
         registry: &Registry,
         now: u64,
-    ) -> Option<FeedExchange<LeaderStream>> {
+    ) -> Option<FeedExchange<LeaderStream>>
+        ensures { IfSome result (λ exchange. unsent_of exchange.request ≡ next_request self.now) }
+    {
         let mut stream = machine.connect_to_leader(self.leader).ok()?;
         stream.register(registry).ok()?;
-        let waits = self.may_wait();
-        let request = changes_request(self.alloc, &Some(self.after), self.number, waits).ok()?;
+        let request = self.next_request().ok()?;
         Some(FeedExchange::new(self.alloc, stream, request, now))
     }
 
+    /// Asks for the changes after the pages that are kept. If there are none, its file has all rows up to there, which its number tells the leader.
+    fn next_request(&self) -> Result<Vec<u8>, AllocError>
+        ensures { IfOk result (λ request. request.items ≡ next_request self.now) }
+    {
+        if self.pages.is_empty() {
+            changes_request(
+                self.alloc,
+                &Some(self.own),
+                Some(self.number),
+                self.may_wait(),
+            )
+        } else {
+            changes_request(self.alloc, &Some(self.after), None, false)
+        }
+    }
+
     /// Whether its requests may wait at the leader: its lag is long enough.
-    fn may_wait(&self) -> bool {
+    fn may_wait(&self) -> bool
+        ensures { result ≡ may_wait self.now }
+    {
         self.lag >= LEAST_WAITING_LAG
     }
 
@@ -426,28 +445,6 @@ pub fn algorithm_in(pages: &[ReceivedPage]) -> Option<Algorithm> {
         }
     }
     None
-}
-
-/// The request of the follower with this number for the changes after some positions; for `None`, from the first row on. `waits`: without news, the
-/// leader may answer a second later.
-pub fn changes_request(
-    alloc: Global,
-    after: &Option<Positions>,
-    follower: u64,
-    waits: bool,
-) -> Result<Vec<u8>, AllocError> {
-    let mut request = Vec::from_slice(alloc, b"GET /changes")?;
-    if let Some(positions) = after {
-        request.extend_from_slice(b"?after=")?;
-        put_positions(alloc, &mut request, positions)?;
-        request.extend_from_slice(b"&follower=")?;
-        request.extend_from_slice(Decimal::of(follower).as_bytes())?;
-        if waits {
-            request.extend_from_slice(b"&wait=1")?;
-        }
-    }
-    request.extend_from_slice(b" HTTP/1.1\r\nHost: 127.0.0.1\r\nConnection: close\r\n\r\n")?;
-    Ok(request)
 }
 
 /// Writes a failure to standard error; without memory, nothing.

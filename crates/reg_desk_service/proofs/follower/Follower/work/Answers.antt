@@ -1,4 +1,4 @@
-use Rattle.std.proofs.Common.{inl, inr, refl}
+use Rattle.std.proofs.Common.{inl, refl}
 use Rattle.reg_desk_service.proofs.Following.{follows_none}
 use Rattle.reg_desk_service.proofs.follower.Follower.work.Goals as goal
 
@@ -12,4 +12,4 @@ pub returns-then-now-self-clause-follows : goal.returns-then-now-self-clause-fol
 returns-then-now-self-clause-follows g c = follows_none g.M.Office.Office c.args.now _ _ _ _ refl refl
 
 pub returns-clause-follows : goal.returns-clause-follows
-returns-clause-follows g c = (_, inr (c.ask.ensures.asked, c.ask.ensures.at), c.go_on-2.ensures)
+returns-clause-follows g c = (_, c.ask.ensures, c.go_on-2.ensures)
