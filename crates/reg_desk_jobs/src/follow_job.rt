@@ -19,9 +19,8 @@ use std::cell::Cell;
 use std::io::Write;
 
 /// Follows a leader until a signal ends the program. If there is no file at the path, it is filled from the leader first. Then the register is
-/// opened,
-/// the port is bound, and the control socket is created, if one is named. Errors: those of `fill` and [`open_signed`]; `Read` if the port can't be
-/// bound or serving ends early; `Diverged` if the leader does not have these records; `TooFarBehind`; `Memory`; `Store`; `Write`.
+/// opened, the port is bound, and the control socket is created, if one is named. Errors: those of `fill` and [`open_signed`]; `Read` if the port
+/// can't be bound or serving ends early; `Diverged` if the leader does not have these records; `TooFarBehind`; `Memory`; `Store`; `Write`.
 pub fn follow<M: Machine, W: Write>(
     rt: &HostRuntime,
     machine: &mut M,
