@@ -1,0 +1,233 @@
+"""Followers of one desk: commands that wait for them, pages that come slowly, and what a follower counts."""
+
+import contextlib
+import json
+import socket
+import struct
+import threading
+import time
+
+from groups.changes import LINES, Tables, asked, taken
+from groups.follow import CLOCK, LATER, OPEN, Copy, Sender, address, faked, led, paged
+from groups.monitoring import metrics
+from groups.waiting import SIGNING, Held, asked_for
+from lib import faults, program
+from lib.authority import until
+from lib.program import P256_KEY, is_read, parted
+from lib.trial import test
+
+
+def unconfirmed(leader):
+    return json.loads(parted(leader.ask("GET", "/health"))[2])["unconfirmed"]
+
+
+def confirm(t, leader, control, *followers):
+    """Requests of followers with these numbers that have all rows of the leader."""
+    positions = Tables(taken(t, control)).positions()
+    for number in followers:
+        t.same(asked(t, leader, f"{positions}&follower={number}")[1:4], ([], {}, True), f"a page after all rows, for the follower {number}")
+
+
+class Reply(threading.Thread):
+    """The reply to a line on a control connection, once that has come."""
+
+    def __init__(self, lines, line):
+        super().__init__(daemon=True)
+        self.lines, self.line, self.text = lines, line, None
+        self.start()
+
+    def run(self):
+        with contextlib.suppress(OSError):
+            self.text = self.lines.ask(self.line)
+
+
+@test(seconds=6)
+def each_kind_of_command_waits(t):
+    """With --confirm-by 1, the reply to any command comes only once a follower has it."""
+    t.register(lines=LINES)
+    t.clock(CLOCK)
+    leader, other, lines = t.open("ca.db", "--confirm-by", "1"), t.control(), t.control()
+    for line in (
+        "subscriber third", "order 3 20", f"register 6 0A {CLOCK} 2026-01-05T00:00:00Z", "request 0A cessation", "request 08 asked", "revoke 5",
+        "decline 6", "request 08 misuse", "revoke 7 08", f"decline 4 {OPEN}", "crl", "schedule 1970-01-01T00:00:00Z=398 2026-06-01T00:00:00Z=200",
+    ):  # fmt: skip
+        reply = Reply(lines, line)
+        until(lambda: reply.text is not None or unconfirmed(leader), f"the command {line}")
+        reply.join(0.1)
+        t.same(reply.text, None, f"the reply to {line} without a follower")
+        confirm(t, leader, other, 7)
+        reply.join(10 * program.PATIENCE)
+        t.true(reply.text and reply.text[0] not in "EF", f"the reply {reply.text} to {line} with a follower")
+        t.same(unconfirmed(leader), None, "unconfirmed")
+
+
+@test(seconds=2)
+def replies_of_several_connections_wait(t):
+    """Five connections have a command each: all replies come with the same confirmation."""
+    t.register(lines=LINES)
+    t.clock(CLOCK)
+    leader, other = t.open("ca.db", "--confirm-by", "1"), t.control()
+    senders = [Sender(t, f"subscriber s{at}") for at in range(5)]
+    until(lambda: len(Tables(taken(t, other)).lines["subscriber"]) == 7, "the rows of all")
+    t.same([it.reply for it in senders], [None] * 5, "replies without a follower")
+    confirm(t, leader, other, 7)
+    until(lambda: all(it.reply for it in senders), "the replies with a follower", seconds=10)
+    t.same(sorted(str(it.reply) for it in senders), [f"subscriber {at}" for at in range(3, 8)], "replies with a follower")
+
+
+@test(seconds=2)
+def eight_followers_confirm(t):
+    """--confirm-by 8: the same follower counts once."""
+    t.register(lines=LINES)
+    t.clock(CLOCK)
+    leader, other = t.open("ca.db", "--confirm-by", "8"), t.control()
+    sender = Sender(t, "subscriber third")
+    until(lambda: unconfirmed(leader), "the command")
+    confirm(t, leader, other, *range(1, 8), *range(1, 8))
+    sender.join(0.3)
+    t.same((sender.reply, unconfirmed(leader)), (None, CLOCK), "the reply with seven followers")
+    confirm(t, leader, other, 0)
+    sender.join(10 * program.PATIENCE)
+    t.same(sender.reply, "subscriber 3", "the reply with eight followers")
+
+
+@test(seconds=3)
+def a_crl_that_a_signer_signs_waits(t):
+    """The CRL is signed while others are answered: then its reply waits for the follower, too."""
+    t.signer()
+    t.register(key=P256_KEY, lines=LINES)
+    t.clock(CLOCK)
+    leader, other = t.open("ca.db", "--confirm-by", "1", "--signer", "ca.sign", "--algorithm", "ecdsa-sha256"), t.control()
+    sender = Sender(t, "crl")
+    until(lambda: sender.reply is not None or unconfirmed(leader), "the CRL")
+    sender.join(0.3)
+    t.same(sender.reply, None, "the reply without a follower")
+    confirm(t, leader, other, 7)
+    sender.join(10 * program.PATIENCE)
+    t.same(sender.reply, "crl 4 entries 2", "the reply with a follower")
+
+
+class Slow:
+    """A leader that takes one request on a connection, and sends its response in pieces, when the test says so."""
+
+    def __init__(self, t, port):
+        self.t = t
+        self.server = t.enter_context(socket.create_server(("127.0.0.1", port)))
+        self.server.settimeout(60 * program.PATIENCE)
+
+    def asked(self):
+        """The connection of the next request, which has come."""
+        client = self.t.enter_context(self.server.accept()[0])
+        client.settimeout(60 * program.PATIENCE)
+        client.recv(65536)
+        return client
+
+
+@test(seconds=3)
+def a_page_that_comes_slowly(t):
+    """A follower waits five seconds for the next byte of a response, not for the whole one. The test sets the time that passes."""
+    leader, control, copy = led(t)
+    copy.is_like(control)
+    tables = Tables(t.room / "taken.db")
+    leader.end()
+    copy.desk.end()
+    slow, passed, now = Slow(t, leader.port), t.room / "passed", 1_000_000
+    passed.write_bytes(struct.pack("=Q", now))
+
+    def show(millis):
+        # The copy reads this file at any time, so the file is never empty.
+        with open(passed, "r+b") as it:
+            it.write(struct.pack("=Q", millis))
+
+    copy = Copy(t, address(leader.port), faults=faults.environment(passed=passed))
+    more = dict(tables.lines, subscriber=[*tables.lines["subscriber"], "3 x"])
+    wanted = Tables.__new__(Tables)
+    wanted.__dict__.update(tables.__dict__, lines=more)
+    body = paged(tables, ["subscriber 3 x"], tail=f"end {wanted.positions()}")
+    whole = f"HTTP/1.1 200 OK\r\nContent-Length: {len(body)}\r\n\r\n".encode() + body
+    client, piece = slow.asked(), len(whole) // 4 + 1
+    for at in range(0, len(whole), piece):
+        now += 4_000
+        show(now)
+        client.sendall(whole[at : at + piece])
+        # The copy closes the connection once it has the whole page.
+        if at + piece < len(whole):
+            until(lambda: is_read(client), f"the copy to read the bytes from {at} on", seconds=20)
+    copy.until_at(wanted.positions())
+    t.same((copy.leader["failure"], copy.leader["current"]), (None, True), "after a page that took more than five seconds")
+    # It asked again at once. This request gets no byte.
+    slow.asked()
+    show(now + 4_999)
+    for _ in range(2):
+        t.same(copy.leader["failure"], None, "after 4,999 ms without a byte")
+    show(now + 5_000)
+    until(lambda: copy.leader["failure"] == "leader unreachable", "the end of five seconds without a byte")
+
+
+@test(seconds=5)
+def it_asks_again_by_itself(t):
+    """After a failure it asks once a second, also if nobody asks it anything meanwhile."""
+    copy, _, _, leader = faked(t)
+    before, began = leader.asked, time.monotonic()
+    until(lambda: leader.asked >= before + 3, "three more requests", seconds=20)
+    t.true(time.monotonic() - began > 1, "three requests within a second")
+
+
+@test(seconds=3)
+def a_signed_crl_behind_a_thousand_rows(t):
+    """A new copy, which signs no CRL, takes the leader's algorithm from the first CRL, which isn't in the first page."""
+    t.signer()
+    names = "".join(f"2026-01-01T00:00:00Z subscriber s{at}\n" for at in range(1_100))
+    t.register(key=P256_KEY)
+    t.done("script", "ca.db", *SIGNING, given=f"{names}{LATER} crl\n")
+    t.clock(CLOCK)
+    leader, control = t.open("ca.db", *SIGNING), t.control()
+    copy = Copy(t, address(leader.port), signing=SIGNING)
+    copy.is_like(control)
+
+
+@test(seconds=3)
+def a_line_that_is_signed_blocks_nobody(t):
+    """A copy signs OCSP answers: while the line `ocsp` waits for its signer, others get their answers."""
+    t.register(key=P256_KEY, lines=LINES)
+    t.clock(CLOCK)
+    leader, control = t.open(), t.control()
+    held = Held(t)
+    copy = Copy(t, address(leader.port), signing=SIGNING)
+    copy.follows(leader)
+    until(lambda: copy.leader["current"], "the leader")
+    sender = Sender(t, f"ocsp {asked_for(0x1105).hex()}", copy.name)
+    t.true(held.signers.until(1), "the signer is not asked")
+    began = time.monotonic()
+    t.same(parted(copy.desk.ask("GET", "/counts"))[0], 200, "GET /counts")
+    t.true(time.monotonic() - began < 8, "GET /counts waits for the signature")
+    t.same(sender.reply, None, "a reply before the signature")
+    held.release.set()
+    sender.join(10 * program.PATIENCE)
+    t.true((sender.reply or "").startswith("ocsp "), f"reply {sender.reply}")
+
+
+@test(seconds=3)
+def it_counts_as_an_open_desk_does(t):
+    """Answers, lines, connections and losses in /metrics."""
+    leader, control, copy = led(t)
+    copy.is_like(control)
+    before = metrics(t, copy.desk)
+    for _ in range(3):
+        t.same(parted(copy.desk.ask("GET", "/counts"))[0], 200)
+    t.same(parted(copy.desk.ask("POST", "/requests", '{"ground":"asked","serial":"08"}'))[0], 503)
+    for line, reply in (("crl", "follower"), ("subscriber x", "follower"), ("next-crl", "next-crl")):
+        t.same(copy.lines.ask(line).split()[0], reply, line)
+    with copy.desk.connect() as client:
+        client.sendall(b"GET /counts")
+        until(lambda: is_read(client), "the copy to read it")
+        # With this option, close(2) sends a reset.
+        client.setsockopt(1, 13, b"\1\0\0\0\0\0\0\0")
+    why = 'desk_connections_lost_total{why="broken"}'
+    until(lambda: metrics(t, copy.desk)[why] == before[why] + 1, "the lost connection", seconds=10)
+    after = metrics(t, copy.desk)
+    grown = lambda name: after.get(name, 0) - before.get(name, 0)
+    t.same([grown(f'desk_http_responses_total{{route="{route}",code="{code}"}}') for route, code in (("/counts", 200), ("/requests", 503))], [3, 1])
+    t.same([grown(f'desk_lines_total{{reply="{reply}"}}') for reply in ("accepted", "refused", "fault")], [1, 2, 0], "lines")
+    t.same((after['desk_connections{at="port"}'], after['desk_connections{at="counter"}']), (1, 1), "open connections")
+    t.true(grown("desk_connections_accepted_total") >= 6, "accepted connections")
