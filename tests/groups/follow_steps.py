@@ -1,0 +1,453 @@
+"""What a follower asks, and when; which pages it drops; how a new copy begins; which requests wait at a leader, and which confirm a command. The
+tests set the elapsed time of the follower or of the leader, and mostly the other one is a server of this file."""
+
+import contextlib
+import json
+import os
+import select
+import socket
+import subprocess
+import threading
+import time
+
+from groups.changes import KINDS, LINES, Tables, asked, page_of, taken
+from groups.follow import CLOCK, LATER, Copy, Sender, Waiting, address, led, paged
+from groups.responder import Responder
+from lib import faults, program
+from lib.authority import Authority, end, now, until
+from lib.passing import Passing
+from lib.program import parted, read_all
+from lib.trial import each, test
+
+
+class Server:
+    """A leader of the test. `answer` is a status and a body, or a function that gives these for a target, or None for no answer. `targets` are those
+    that it was asked for, and `answered` says how many it has answered."""
+
+    def __init__(self, answer, port=None):
+        self.answer, self.answered, self.targets, self.silent = answer, 0, [], []
+        self.port = port or program.free_port()
+        self.server = socket.create_server(("127.0.0.1", self.port))
+        threading.Thread(target=self.serve, daemon=True).start()
+
+    def serve(self):
+        with contextlib.suppress(OSError):
+            while True:
+                client, _ = self.server.accept()
+                self.targets.append(client.recv(65536).decode("latin-1").partition(" HTTP")[0].partition(" ")[2])
+                answer = self.answer(self.targets[-1]) if callable(self.answer) else self.answer
+                if answer is None:
+                    self.silent.append(client)
+                    continue
+                status, body = answer
+                with client, contextlib.suppress(OSError):
+                    client.sendall(f"HTTP/1.1 {status} X\r\nContent-Length: {len(body)}\r\n\r\n".encode() + body)
+                self.answered += 1
+
+    def __enter__(self):
+        return self
+
+    def __exit__(self, *_):
+        with contextlib.suppress(OSError):
+            self.server.shutdown(socket.SHUT_RDWR)
+        self.server.close()
+        for client in self.silent:
+            client.close()
+
+
+# ---- a follower whose elapsed time the test sets
+
+
+def with_rows(tables, **rows):
+    """The same tables with more rows."""
+    it = Tables.__new__(Tables)
+    it.__dict__.update(tables.__dict__, lines={kind: [*tables.lines[kind], *rows.get(kind, [])] for kind in KINDS})
+    return it
+
+
+def no_news(tables, last=None):
+    return 200, (paged(tables, [], last=last) if last else tables.head + f"end {tables.positions()}\n".encode())
+
+
+class Slow(Passing):
+    """A follower of a copy of the register of LINES. Its elapsed time is set by the test, and its leader is a server of the test."""
+
+    def __init__(self, t, *words):
+        leader, control, copy = led(t)
+        copy.is_like(control)
+        copy.desk.end()
+        leader.end()
+        self.tables = Tables(t.room / "taken.db")
+        self.leader = t.enter_context(Server(no_news(self.tables), leader.port))
+        super().__init__(t, "--from", address(leader.port), "--control", "copy", "--unsigned", *words, file="copy.db", command="follow")
+
+    def health(self):
+        return json.loads(parted(self.desk.ask("GET", "/health"))[2])["leader"]
+
+    def asks(self, count):
+        """Checks that it has asked so many times, and does not ask again while no time passes."""
+        until(lambda: len(self.leader.targets) >= count, f"request {count} of the follower", seconds=15)
+        until(lambda: self.leader.answered >= count, f"the answer to request {count}", seconds=15)
+        for _ in range(3):
+            self.health()
+        self.t.same(len(self.leader.targets), count, "requests of the follower")
+
+    def asks_after(self, millis):
+        """Checks that it asks again after so many milliseconds, and not before."""
+        count = len(self.leader.targets)
+        self.set_forward(millis - 1)
+        self.asks(count)
+        self.set_forward(1)
+        self.health()
+        self.asks(count + 1)
+
+
+@each({"may wait": ((), 10, "&wait=1"), "does not wait": (("--lag", "4"), 200, "")}, seconds=3)
+def a_request_of_a_follower(t, words, pause, more):
+    """When it asks, what, and that it keeps neither descriptors nor writes of what it asked."""
+    it = Slow(t, *words)
+    it.asks(1)
+    it.asks_after(pause)
+    # Without news nothing is written.
+    written = lambda: [os.stat(t.room / f"copy.db{end}").st_mtime_ns for end in ("", "-wal") if (t.room / f"copy.db{end}").exists()]
+    before, files = written(), it.files
+    for _ in range(4):
+        it.asks_after(pause)
+    t.same(written(), before, "the last changes of its files")
+    until(lambda: it.files <= files, f"no more descriptors than {files}; it has {it.files}")
+    # After news it asks at once, so that the leader knows that it has them.
+    then = with_rows(it.tables, subscriber=["3 x"])
+    news = 200, paged(it.tables, ["subscriber 3 x"], tail=f"end {then.positions()}")
+    it.leader.answer = lambda target: no_news(then, LATER) if then.positions() in target else news
+    count = len(it.leader.targets)
+    it.set_forward(pause)
+    it.health()
+    it.asks(count + 2)
+    t.same(it.health()["positions"], then.positions(), "its positions")
+    # After a failure it waits for a second.
+    it.leader.answer = (500, b"")
+    count = len(it.leader.targets)
+    it.set_forward(pause)
+    it.health()
+    it.asks(count + 1)
+    it.asks_after(1_000)
+    it.asks_after(1_000)
+    t.same(it.health()["failure"], "leader answered 500", "the failure")
+    numbers = {target.partition("&follower=")[2].partition("&")[0] for target in it.leader.targets}
+    asked_for = lambda tables: [f"/changes?after={tables.positions()}&follower={number}{more}" for number in numbers]
+    t.same(len(numbers), 1, "numbers of the follower")
+    t.same({*it.leader.targets}, {*asked_for(it.tables), *asked_for(then)}, "what it asked for")
+
+
+@test(seconds=2)
+def a_feed_that_breaks_off(t):
+    """A page came, and the next one does not: the follower drops it, and fetches it again. 409 after a page does not mean that it has diverged."""
+    it = Slow(t)
+    it.asks(1)
+    middle, last = with_rows(it.tables, subscriber=["3 x"]), with_rows(it.tables, subscriber=["3 x", "4 y"])
+    first = 200, paged(it.tables, ["subscriber 3 x"], tail=f"more {middle.positions()}")
+    second = 200, paged(it.tables, ["subscriber 4 y"], tail=f"end {last.positions()}")
+    after = lambda tables: f"/changes?after={tables.positions()}"
+    answers = iter([first, (409, b"{}"), first, (503, b""), first, second, (409, b"{}"), no_news(last, LATER)])
+    it.leader.answer = lambda target: next(answers)
+    wanted = [after(it.tables)] + [after(it.tables), after(middle)] * 3 + [after(last)] * 2
+    entered = it.health()["pages"]
+    it.set_forward(10)
+    it.health()
+    for count, failure in ((3, "leader answered 409"), (5, "leader answered 503")):
+        it.asks(count)
+        got = it.health()
+        t.same((got["failure"], got["diverged"], got["positions"]), (failure, False, it.tables.positions()), "after a page, and none after it")
+        it.set_forward(1_000)
+        it.health()
+    # Now it has all pages, and asks again at once. 409 then means that it has diverged.
+    it.asks(8)
+    got = it.health()
+    t.same((got["positions"], got["pages"] - entered, got["refused"]), (last.positions(), 2, 0), "positions, and pages")
+    t.same((got["diverged"], got["failure"], got["current"]), (True, "leader answered 409", True), "after 409 without a page")
+    it.set_forward(1_000)
+    it.health()
+    it.asks(9)
+    got = it.health()
+    t.same((got["diverged"], got["failure"], got["current"]), (False, None, True), "once the leader has its records")
+    t.same([target.partition("&")[0] for target in it.leader.targets], wanted, "what it asked for")
+
+
+@test(seconds=5)
+def a_leader_that_is_too_far_ahead(t):
+    """After 512 pages without an end the follower says so. It answers until its lag is over, and then ends."""
+    it = Slow(t)
+    it.asks(1)
+    counts = it.tables.positions().split(".")
+    page = lambda number: (200, paged(it.tables, [f"subscriber {number} s{number}"], tail="more " + ".".join([str(number), *counts[1:]])))
+    pages = iter(range(3, 10_000))
+    it.leader.answer = lambda target: page(next(pages))
+    it.set_forward(10)
+    until(lambda: it.health()["failure"] or len(it.leader.targets) > 513, "512 pages")
+    got = it.health()
+    t.same((got["failure"], got["refused"], got["diverged"], len(it.leader.targets)), ("too far behind", 1, False, 513), "after 512 pages")
+    t.same(parted(it.desk.ask("GET", "/status/05"))[0], 200, "an answer within the lag")
+    it.set_forward(60_000)
+    with contextlib.suppress(OSError):
+        it.desk.ask("GET", "/health")
+    ran = it.desk.wait()
+    t.same((ran.status, ran.err_lines[-1]), (1, "too-far-behind"), "its end")
+
+
+def megabytes(it, count):
+    """A page with a CRL of so many megabytes, which is not the last one. Its rows are checked only once there is a last page."""
+    counts = it.tables.positions().split(".")
+    size = count * 1_000_000 + 1
+    tail = "more " + ".".join([*counts[:5], "4", *counts[6:]])
+    return 200, paged(it.tables, [f"crl 4 {LATER} {size}"], tail=tail, octets=bytes(size) + b"\n")
+
+
+@test(seconds=5)
+def a_page_of_160_megabytes(t):
+    """The same after pages of 160 MB."""
+    it = Slow(t)
+    it.asks(1)
+    page = megabytes(it, 160)
+    it.leader.answer = lambda target: page if len(it.leader.targets) == 2 else (500, b"")
+    it.set_forward(10)
+    until(lambda: it.health()["failure"], "the failure")
+    t.same((it.health()["failure"], len(it.leader.targets)), ("too far behind", 2), "after one page")
+
+
+@test(seconds=5)
+def the_bytes_of_dropped_pages_do_not_count(t):
+    it = Slow(t)
+    it.asks(1)
+    page = megabytes(it, 90)
+    it.leader.answer = lambda target: page if len(it.leader.targets) % 2 == 0 else (500, b"")
+    it.set_forward(10)
+    for count in (3, 5):
+        until(lambda: it.leader.answered >= count or it.health()["failure"] == "too far behind", "a page, and none after it")
+        until(lambda: it.health()["failure"], "the failure")
+        t.same(it.health()["failure"], "leader answered 500", f"why request {count} failed")
+        it.set_forward(1_000)
+        it.health()
+
+
+@test(seconds=2)
+def a_lag_without_a_leader(t):
+    """A follower that has not reached its leader since its start answers nothing; its lag is the time since its start."""
+    it = Slow(t)
+    it.asks(1)
+    it.desk.end()
+    it.leader.__exit__()
+    it = Passing(t, "--from", address(it.leader.port), "--unsigned", file="copy.db", command="follow")
+    it.set_forward(7_500)
+    got = json.loads(parted(it.desk.ask("GET", "/health"))[2])["leader"]
+    t.same((got["current"], got["lag"], got["failure"], got["pages"]), (False, 7, "leader unreachable", 0), "health")
+    t.same(parted(it.desk.ask("GET", "/status/05"))[0], 503, "status")
+
+
+@test(seconds=2)
+def lines_that_a_follower_refuses_are_in_its_log(t):
+    it = Slow(t)
+    it.asks(1)
+    lines = t.control("copy")
+    for line in ("crl", "revoke 4", "counts"):
+        lines.ask(line)
+    logged = lambda: [text.split('"')[1::2] for text in it.desk.log if " control " in text]
+    t.same(logged(), [["crl", "follower"], ["revoke 4", "follower"], ["counts", lines.ask("counts")]], "lines and replies in the log")
+
+
+@test(seconds=4)
+def a_responder_that_ends(t):
+    """Its /metrics say when the certificate of its responder ends."""
+    ca = Authority(t)
+    responder = Responder(ca)
+    ca.signer()
+    responder.signer()
+    ca.register()
+    leader = t.open("ca.db", *ca.signing())
+    copy = Copy(t, address(leader.port), signing=responder.words())
+    told = t.tool("openssl", "x509", "-in", responder.pem, "-noout", "-enddate", "-dateopt", "iso_8601").decode().strip().partition("=")[2]
+    wanted = program.seconds_of(told.replace(" ", "T"))
+    series = f"desk_responder_certificate_not_after_timestamp_seconds {wanted}"
+    t.has(parted(copy.desk.ask("GET", "/metrics"))[2].decode(), series, "metrics")
+
+
+# ---- a new copy
+
+
+def fills(t, answer):
+    """A leader of the register of LINES whose answers are changed: `answer` gets a target and the leader's own status and body."""
+    t.register(lines=LINES)
+    t.clock(CLOCK)
+    leader = t.open()
+    changed = lambda target: answer(target, *parted(leader.ask("GET", target))[::2])
+    return leader, t.enter_context(Server(changed))
+
+
+@test(seconds=4)
+def a_new_copy_of_a_leader_that_fails(t):
+    """Its leader answers with 503 twice, and no longer knows its first page: it asks for all pages again, and says each failure once."""
+    failures = iter([(503, b""), (503, b""), None, (409, b"{}")])
+    leader, server = fills(t, lambda target, status, body: next(failures, None) or (status, body))
+    copy = Copy(t, address(server.port))
+    t.same([it for it in copy.desk.log if it.startswith("follow:")], ["follow: leader answered 503"], "standard error")
+    wanted = [*["/changes"] * 3, "/changes?after", "/changes", "/changes?after"]
+    t.same([it.partition("=")[0] for it in server.targets[:6]], wanted, "what it asked for")
+    copy.is_like(t.control())
+
+
+@each({
+    "another version": (b"changes 1\n", b"changes 2\n", "page of another version"),
+    "a row that can't be read": (b"subscriber 2 ", b"subscriber two ", "malformed page"),
+    "a row that breaks a rule": (b"subscriber 2 ", b"subscriber 3 ", "broken page: subscriber 3 other-row"),
+}, seconds=2)  # fmt: skip
+def a_new_copy_of_a_page_that_is_wrong(t, part, other, failure):
+    leader, server = fills(t, lambda target, status, body: (status, body.replace(part, other)))
+    ran = t.desk("follow", "copy.db", "--from", address(server.port), "--port", program.free_port(), "--unsigned", timeout=20)
+    t.same((ran.status, ran.err_lines), (1, [f"follow: {failure}", "broken-feed"]), "its end")
+    t.same([it.name for it in t.room.iterdir() if it.name.startswith("copy.db")], [], "files that it left")
+
+
+@test(seconds=7)
+def a_leader_that_never_answers(t):
+    """After five seconds without a byte a new copy, and one that nobody asks meanwhile, say that they can't reach their leader."""
+    it = Slow(t)
+    it.asks(1)
+    it.desk.end()
+    server = t.enter_context(Server(lambda target: None))
+    old = t.open("copy.db", "--from", address(server.port), "--unsigned", command="follow")
+    words = ["follow", "new.db", "--from", address(server.port), "--port", str(program.free_port()), "--unsigned"]
+    new = subprocess.Popen([program.program(), *words], cwd=t.room, stdin=subprocess.DEVNULL, stderr=subprocess.PIPE, env=program.environment())
+    t.callback(end, new)
+    said = Waiting(new.stderr.readline)
+    until(lambda: said.answer and old.log, "what both say", seconds=15)
+    t.same((said.answer, old.log), (b"follow: leader unreachable\n", ["follow: leader unreachable"]), "what they say")
+
+
+# ---- a leader whose elapsed time the test sets, and requests that wait at it
+
+
+def waiting_for(positions):
+    return f"GET /changes?after={positions}&wait=1 HTTP/1.1\r\nHost: ca\r\n\r\n".encode()
+
+
+def waits(it, positions):
+    """A client of a desk whose elapsed time is set, once that has read its request, which waits."""
+    client = it.comes(waiting_for(positions))
+    client.settimeout(10 * program.PATIENCE)
+    return client
+
+
+def is_answered(client):
+    return bool(select.select([client], [], [], 0)[0])
+
+
+def page_for(t, client):
+    """The page that a client gets, without its head and positions."""
+    with contextlib.suppress(TimeoutError):
+        return page_of(t, parted(read_all(client))[2])[1:4]
+
+
+@test(seconds=4)
+def requests_that_wait_are_answered_once_there_is_news(t):
+    """No time passes, so only news end a wait. Two requests wait at once. A request after a page that has a next one does not wait."""
+    ca = Authority(t)
+    ca.signer()
+    ca.register()
+    it = Passing(t, *ca.signing())
+    control = t.control()
+    for line in ("subscriber acme", "order 1 90", f"register 1 05 {now_text(-60)} {now_text(86_400)}", "crl"):
+        t.true(control.ask(line)[:1] not in "EF", line)
+    middle = asked(t, it.desk, asked(t, it.desk)[4])
+    t.same(([kind for kind, _ in middle[1]], middle[3]), (["crl"], False), "the second page, which is not the last")
+    client = t.enter_context(it.desk.connect(timeout=10))
+    client.sendall(waiting_for(middle[4]))
+    t.same(page_for(t, client), ([], {}, True), "the page after it")
+    body = '{"ground":"asked","serial":"05"}'
+    adds = {
+        "crl": lambda: control.ask("crl"), "request": lambda: it.desk.ask("POST", "/requests", body), "declined": lambda: control.ask("decline 1"),
+    }  # fmt: skip
+    for kind, add in adds.items():
+        positions = Tables(taken(t, control)).positions()
+        t.same(asked(t, it.desk, positions)[1:4], ([], {}, True), "a page without rows")
+        both = [waits(it, positions) for _ in range(2)]
+        t.same([is_answered(client) for client in both], [False, False], "answers without news")
+        add()
+        for client in both:
+            page = page_for(t, client)
+            t.same(page and [row for row, _ in page[0]], [kind], "the rows of a page that waited")
+    # Time passes, and no news come.
+    positions = Tables(taken(t, control)).positions()
+    asked(t, it.desk, positions)
+    client = waits(it, positions)
+    it.advance(999)
+    t.same(is_answered(client), False, "an answer before a second is over")
+    it.advance(1)
+    t.same(page_for(t, client), ([], {}, True), "a page after a second")
+
+
+@test(seconds=3)
+def news_come_with_the_reply_to_the_command(t):
+    """At the latest in the fastest of eight tries: a request that waits is answered together with the command that brings the news."""
+    t.register(lines=LINES)
+    t.clock(CLOCK)
+    leader, control = t.open(), t.control()
+    took = []
+    for number in range(3, 11):
+        positions = Tables(taken(t, control)).positions()
+        asked(t, leader, positions)
+        waiting = Waiting(lambda: (asked(t, leader, f"{positions}&wait=1"), time.monotonic()))
+        waiting.join(0.1)
+        t.same(control.ask(f"subscriber s{number}"), f"subscriber {number}")
+        replied = time.monotonic()
+        waiting.join(60 * program.PATIENCE)
+        took.append(waiting.answer[1] - replied)
+    t.true(min(took) < 0.15, f"seconds from the reply to the news: {took}")
+
+
+def now_text(seconds):
+    return program.moment_of(now() + seconds)
+
+
+@test(seconds=3)
+def a_command_that_waits_for_three_followers(t):
+    """Each follower counts once, by its number, and only with the positions after all rows. A CRL that a process signs waits, too."""
+    ca = Authority(t)
+    ca.signer()
+    ca.register()
+    leader = t.open("ca.db", "--confirm-by", "3", *ca.signing())
+    other = t.control()
+    unconfirmed = lambda: json.loads(parted(leader.ask("GET", "/health"))[2])["unconfirmed"]
+    for line, kind in (("subscriber acme", "subscriber"), ("crl", "crl")):
+        before = Tables(taken(t, other, f"before-{kind}.db")).positions()
+        sender = Sender(t, line)
+        until(lambda: sender.reply or unconfirmed(), "the command")
+        after = Tables(taken(t, other, f"after-{kind}.db")).positions()
+        t.true(before != after, "the row of the command")
+        stale = [f"{before}&follower={number}" for number in (1, 2, 3)]
+        for query in (*stale, f"{after}&follower=1", f"{after}&follower=1", f"{after}&follower=2&wait=1", after[:-1] + "x&follower=9"):
+            parted(leader.ask("GET", f"/changes?after={query}"))
+            t.same((unconfirmed() is None, sender.reply), (False, None), f"whether {line} is confirmed after {query}")
+        t.same(parted(leader.ask("GET", f"/changes?after={after}&follower=3&wait=1"))[0], 200, "the third follower")
+        sender.join(60 * program.PATIENCE)
+        t.true(sender.reply is not None and sender.reply.startswith(kind), f"the reply {sender.reply}")
+        t.same(unconfirmed(), None, "unconfirmed after the reply")
+
+
+@test(seconds=4)
+def without_news_nobody_is_busy(t):
+    """A leader, a follower whose requests wait there, and one whose requests don't: each waits for events nearly all the time."""
+    t.register(lines=LINES)
+    t.clock(CLOCK)
+    counting = [{"faults": faults.environment(count=t.room / f"count-{it}")} for it in range(3)]
+    leader, control = t.open(**counting[0]), t.control()
+    copies = [Copy(t, address(leader.port), **counting[1]), Copy(t, address(leader.port), "--lag", "4", file="copy-2.db", **counting[2])]
+    for copy in copies:
+        copy.is_like(control)
+    polls = lambda: [faults.counted(t.room / f"count-{it}")["poll"] for it in range(3)]
+    time.sleep(0.3)
+    before = polls()
+    for _ in range(7):
+        time.sleep(0.13)
+        for copy in copies:
+            copy.health()
+    took = [after - begun for after, begun in zip(polls(), before)]
+    t.true(all(it < 1_000 for it in took), f"calls of epoll_wait(2) in a second: {took}")
