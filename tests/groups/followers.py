@@ -231,3 +231,13 @@ def it_counts_as_an_open_desk_does(t):
     t.same([grown(f'desk_lines_total{{reply="{reply}"}}') for reply in ("accepted", "refused", "fault")], [1, 2, 0], "lines")
     t.same((after['desk_connections{at="port"}'], after['desk_connections{at="counter"}']), (1, 1), "open connections")
     t.true(grown("desk_connections_accepted_total") >= 6, "accepted connections")
+
+
+@test(seconds=6)
+def a_status_of_the_leader_is_kept(t):
+    """Only 409 says that the leader lacks a record of the copy; the copy asks again after any other status."""
+    copy, _, _, leader = faked(t)
+    for status in (400, 404, 503, 409):
+        leader.answer = (status, b"{}")
+        until(lambda: copy.leader["failure"] == f"leader answered {status}", f"status {status}", seconds=20)
+        t.same(copy.leader["diverged"], status == 409, f"diverged after {status}")
