@@ -808,6 +808,13 @@ def through_nginx_with_client_certificates(t):
     copy.is_like(control)
 
 
+def accepts(port):
+    with contextlib.suppress(OSError):
+        socket.create_connection(("127.0.0.1", port)).close()
+        return True
+    return False
+
+
 @test(seconds=8)
 def through_ssh(t):
     """`ssh -L` leads from a Unix socket to the leader's port."""
@@ -829,6 +836,7 @@ def through_ssh(t):
         "-o", f"AuthorizedKeysFile={t.room}/authorized", "-o", "StrictModes=no", "-o", f"PidFile={t.room}/sshd.pid",
     ], stderr=subprocess.DEVNULL)  # fmt: skip
     t.callback(end, server)
+    until(lambda: accepts(port), "sshd")
     words = ["ssh", "-N", "-F", "/dev/null", "-p", str(port), "-i", t.room / "user", "-o", "StrictHostKeyChecking=no",
              "-o", f"UserKnownHostsFile={t.room}/known", "-o", "ExitOnForwardFailure=yes",
              "-L", f"{t.room}/lead:127.0.0.1:{leader.port}", "127.0.0.1"]  # fmt: skip

@@ -1899,8 +1899,8 @@ def a_signer_whose_queue_is_full_is_soon_asked_again(t, waits):
         pool.submit(waits, t, desk)
         authority.until(lambda: counts()[0], "the desk to ask the signer")
         found, begun, before = [], time.monotonic(), counts()
-        # A slow machine may take four of the ten seconds that the signer has.
-        while len(found) < 4 and max(found, default=0) < 20:
+        # A slow machine may take eight of the ten seconds that the signer has.
+        while len(found) < 8 and max(found, default=0) < 20:
             first = counts()[0]
             time.sleep(1)
             found.append(counts()[0] - first)
