@@ -62,8 +62,9 @@ def a_log_in_the_place_of_a_register(t, log):
     t.register(lines=ENTERED)
     (t.room / "link").symlink_to("ca.db")
     before = (t.room / "ca.db").read_bytes()
-    for command in (["open", "ca.db", "--unsigned", "--control", "control"], ["serve", "ca.db", "--requests", "1"]):
-        ran = t.desk(*command, "--port", free_port(), "--log-file", log, "--why")
+    follows = ["follow", "ca.db", "--unsigned", "--from", "leader"]
+    for command in (["open", "ca.db", "--unsigned", "--control", "control"], ["serve", "ca.db", "--requests", "1"], follows):
+        ran = t.desk(*command, "--port", free_port(), "--log-file", log, "--why", timeout=60)
         t.same((ran.status, ran.out, ran.err), (1, b"", b"F5 write\n  the path already exists: give another one (--log-file)\n"))
     t.same((t.room / "ca.db").read_bytes(), before)
     t.has(t.done("audit", "ca.db"), "sound")

@@ -195,6 +195,15 @@ def a_table_has_a_million_rows(t):
     t.same(served, [True] * 2, "whether the highest number has the latest CRL")
 
 
+@test(seconds=20)
+def a_list_of_a_million_rows(t):
+    t.register()
+    rows = "WITH RECURSIVE row (id) AS (SELECT 1 UNION ALL SELECT id + 1 FROM row WHERE id < 1000000) SELECT id, 's' || id FROM row"
+    t.sql("ca.db", f"INSERT INTO subscriber {rows}")
+    listed = t.done("list", "ca.db", "subscribers")
+    t.same((listed.count("\n"), listed.splitlines()[-1]), (1_000_001, "1000000,s1000000"), "its lines, with the header, and the last one")
+
+
 def identifier_of(number):
     return hashlib.sha512(str(number).encode()).digest()
 

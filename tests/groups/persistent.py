@@ -133,6 +133,29 @@ def one_client_uses_one_connection(t):
     t.same((len(signer.asked), [len(it) for it in signer.kept]), (1, [49]), "messages on each connection")
 
 
+@test(seconds=3)
+def a_persistent_connection_that_a_full_queue_refuses_is_not_tried_again(t):
+    """The signer announces persistent connections, and then accepts none: the desk tries once, and answers others."""
+    with socket.socket(socket.AF_UNIX) as server, socket.socket(socket.AF_UNIX) as filled, ThreadPoolExecutor(1) as pool:
+        server.bind(str(t.room / "ca.sign"))
+        server.listen(0)
+        t.register(key=P256_KEY)
+        desk = t.open("ca.db", *SIGNING, faults=faults.environment(count=t.room / "count"))
+        answer = pool.submit(ocsp_answer, desk, 0x1100)
+        client, _ = server.accept()
+        message = read_all(client)
+        filled.connect(str(t.room / "ca.sign"))
+        with client:
+            client.sendall(ANNOUNCEMENT + own_signature(message))
+        t.true(is_own(answer.result(), 0x1100), "the answer has no signature")
+        tried = lambda: faults.counted(t.room / "count")["connect"]
+        authority.until(lambda: tried() > 1, "that the desk tries to connect again")
+        for _ in range(2):
+            with t.at_once("GET /counts"):
+                t.same(program.parted(desk.ask("GET", "/counts"))[0], 200, "GET /counts")
+        t.same(tried(), 2, "attempts to connect to the signer")
+
+
 @test(seconds=2)
 def long_messages_go_on_one_connection(t):
     """Each answer is for 900 CertIDs."""

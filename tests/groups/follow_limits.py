@@ -1,0 +1,162 @@
+"""Limits of a follower and of its leader: many rows, pages and waiting requests, long positions, full queues, out of memory, and system calls."""
+
+import time
+
+from groups.changes import LINES, Tables, asked, taken
+from groups.follow import CLOCK, LATER, OPEN, Copy, Forward, address, faked, led, paged, timed
+from groups.follow_steps import fills, page_for, waits
+from groups.limits import full_queue
+from lib import faults, program
+from lib.authority import until
+from lib.passing import Passing
+from lib.trial import test
+
+MORE_ROWS = "WITH RECURSIVE row (id) AS (SELECT 3 UNION ALL SELECT id + 1 FROM row WHERE id < ?) SELECT id, 's' || id FROM row"
+
+
+@test(seconds=20)
+def a_new_copy_of_sixty_six_thousand_rows(t):
+    """They come in one feed, and are entered in one transaction."""
+    t.register(lines=LINES)
+    t.sql("ca.db", f"INSERT INTO subscriber {MORE_ROWS}", 66_000)
+    t.clock(CLOCK)
+    leader = t.open()
+    copy = Copy(t, address(leader.port))
+    until(lambda: copy.leader["current"], "the leader", seconds=60)
+    t.same(copy.leader["positions"].split(".")[0], "66000", "subscribers of the copy")
+
+
+@test(seconds=10)
+def a_new_copy_of_more_than_512_pages(t):
+    """Each CRL is the end of a page. A follower that runs keeps 512 pages at most; a new copy takes all that there are."""
+    t.register(lines=LINES + f"{LATER} crl\n" * 515)
+    t.clock(CLOCK)
+    leader = t.open()
+    copy = Copy(t, address(leader.port))
+    copy.is_like(t.control())
+
+
+@test(seconds=3)
+def rows_of_several_tables_come_in_the_order_of_their_commands(t):
+    """A feed has its rows table by table. A decline comes before a later request, a revocation before a later request, and a request before a
+    revocation of the same second, with no CRL behind them."""
+    lines = (f"{LATER} request 08 asked", f"{LATER} revoke 5", f"2026-01-02T14:30:00Z request {OPEN} misuse", "2026-01-02T15:00:00Z subscriber last")
+    t.register(lines=LINES + "".join(f"{it}\n" for it in lines))
+    t.clock(CLOCK)
+    leader = t.open()
+    copy = Copy(t, address(leader.port))
+    copy.is_like(t.control())
+    copy.is_sound()
+
+
+@test(seconds=8)
+def a_new_copy_that_has_no_memory_says_so(t):
+    """An operator who is told of the store would look at the disk. At the end of its last page the feed has positions that it does not reach."""
+    other = lambda body: body[:-2] + (b"1" if body[-2:-1] == b"0" else b"0") + b"\n" if b"\nend " in body[-200:] else body
+    leader, server = fills(t, lambda target, status, body: (status, other(body)))
+    words = ["follow", "copy.db", "--from", address(server.port), "--port", program.free_port(), "--unsigned"]
+    whole, count = faults.run(t, words)
+    t.same((whole.status, whole.err_lines[-1]), (1, "broken-feed"), "its end without a fault")
+    last = count["alloc"]
+    ends = set()
+    for at in range(last, max(last - 1_200, 1), -80):
+        ran, count = faults.run(t, words, fail=f"alloc:{at}+")
+        ends.add((ran.status, ran.err_lines[-1] if ran.err_lines else ""))
+    t.true(ends <= {(1, "F1 memory"), (1, "broken-feed")} and (1, "F1 memory") in ends, f"status and last line: {ends}")
+
+
+@test(seconds=3)
+def a_new_copy_asks_again_after_a_second(t):
+    times, failures = [], iter([(503, b"")])
+
+    def answer(target, status, body):
+        times.append(time.monotonic())
+        return next(failures, None) or (status, body)
+
+    leader, server = fills(t, answer)
+    Copy(t, address(server.port))
+    t.true(0.9 < times[1] - times[0] < 8, f"it asked again after {times[1] - times[0]:.1f} seconds")
+
+
+@test(seconds=3)
+def a_leader_whose_queue_is_full_holds_up_no_client(t):
+    """Its socket is that of ssh, which has stopped. The copy tries once a second and answers meanwhile. It follows once there is room."""
+    leader, control, copy = led(t)
+    copy.is_like(control)
+    copy.desk.end()
+    with full_queue(t, "lead"):
+        copy = Copy(t, "lead", faults=faults.environment(count=t.room / "count"))
+        until(lambda: copy.leader["failure"] == "leader unreachable", "that it does not follow")
+        tried = faults.counted(t.room / "count")["connect"]
+        t.true(tried < 60, f"it has tried {tried} times")
+    (t.room / "lead").unlink()
+    t.enter_context(Forward(t.room / "lead", leader.port))
+    copy.is_like(control)
+
+
+@test(seconds=8)
+def a_page_of_megabytes_takes_few_reads_and_a_request_few_writes(t):
+    copy, tables, octets, leader = faked(t)
+    copy.desk.end()
+    der = b"x" * 8_000_000
+    page = 200, paged(tables, [f"crl 4 {LATER} {len(der)}"], octets=der + b"\n")
+    answers = iter([page])
+    copy = Copy(t, address(leader.server.getsockname()[1]), "--lag", "3600", faults=faults.environment(count=t.room / "count", only="socket"))
+    until(lambda: copy.leader["failure"] == "leader answered 500", "that it asks")
+    before, asked_before = faults.counted(t.room / "count"), leader.asked
+    leader.answer = lambda request: next(answers, (500, b""))
+    until(lambda: leader.asked > asked_before + 2, "the page, and two more requests", seconds=60)
+    after, requests = faults.counted(t.room / "count"), leader.asked - asked_before
+    reads, writes = (after[it] - before[it] for it in ("read", "write"))
+    t.true(100 < reads < 4_000, f"{reads} reads")
+    t.true(writes <= 5 * requests, f"{writes} writes of {requests} requests")
+
+
+@test(seconds=3)
+def a_refused_line_has_its_time_in_the_log(t):
+    """Each reading of the elapsed time is seven milliseconds later than the one before."""
+    leader, control, copy = led(t)
+    copy.is_like(control)
+    copy.desk.end()
+    copy = Copy(t, address(leader.port), "--log", faults=faults.environment(tick=7))
+    for line in ("crl", "revoke 4"):
+        t.same(copy.lines.ask(line), "follower", line)
+    micros = [it.rsplit(" ", 1)[1] for it in copy.desk.log if '" "follower" ' in it]
+    t.same(micros, ["7000"] * 2, "microseconds in the log")
+
+
+@test(seconds=3)
+def twelve_requests_wait_at_once(t):
+    """Each is answered after a second."""
+    t.register(lines=LINES)
+    t.clock(CLOCK)
+    it, control = Passing(t), t.control()
+    positions = Tables(taken(t, control)).positions()
+    t.same(asked(t, it.desk, positions)[1:4], ([], {}, True), "a page without rows")
+    clients = [waits(it, positions) for _ in range(12)]
+    it.advance(1_000)
+    t.same([page_for(t, client) for client in clients], [([], {}, True)] * 12, "pages after a second")
+
+
+@test(seconds=3)
+def a_request_waits_at_a_desk_whose_numbers_are_long(t):
+    """The file has only the last rows, whose numbers are those of full tables."""
+    most = 999_999
+    t.register(lines=LINES)
+    for statement in (
+        f"INSERT INTO subscriber VALUES ({most}, 'last')",
+        f"INSERT INTO orders VALUES ({most}, {most}, 398)",
+        f"INSERT INTO request SELECT {most}, serial, ground, received, 1 FROM request WHERE id = 2",
+    ):
+        t.sql("ca.db", statement)
+    t.clock(CLOCK)
+    leader, control = t.open(), t.control()
+    tables = Tables(taken(t, control))
+    counts = tables.counts() | {"subscriber": most, "order": most, "request": most}
+    for kind in ("subscriber", "order", "request"):
+        tables.lines[kind] = tables.lines[kind][-1:]
+    positions = tables.positions(counts, ["2", f"{most}"])
+    t.true(len(positions) > 96, f"the positions have only {len(positions)} characters")
+    t.same(asked(t, leader, positions)[1:4], ([], {}, True), "a page without rows")
+    took, page = timed(lambda: asked(t, leader, f"{positions}&wait=1"))
+    t.true(0.9 < took < 4 * program.PATIENCE, f"{took} seconds without news")
