@@ -57,8 +57,9 @@ pub struct Follower<'a, 'w> {
     /// When the next request is due.
     next_at: u64,
     started_at: u64,
-    /// When the last request was made whose answer ended the feed and was entered.
+    /// When the last request was made whose answer ended the feed and was entered; and whether that had news.
     reached_at: Option<u64>,
+    had_news: bool,
     entered: u64,
     refused: u64,
     failure: Option<FeedFailure>,
@@ -95,6 +96,7 @@ impl<'a, 'w> Follower<'a, 'w> {
             next_at: now,
             started_at: now,
             reached_at: None,
+            had_news: false,
             entered: 0,
             refused: 0,
             failure: None,
@@ -249,6 +251,7 @@ impl<'a, 'w> Follower<'a, 'w> {
         self.pages.clear();
         self.bytes = 0;
         self.after = self.own;
+        self.had_news = false;
         self.next_at = now.saturating_add(RETRY_MILLIS);
         if self.failure != Some(failure) {
             self.failure = Some(failure);
@@ -391,12 +394,15 @@ impl<'a, 'w> Follower<'a, 'w> {
         ensures asked_at { self.new.asked_at ≡ self.old.asked_at }
         ensures reached_at { self.new.reached_at ≡ Some self.old.asked_at }
     {
-        // After news, the follower asks again at once: by that the leader knows that they are on the follower's disk.
-        let pause = if positions == self.own {
-            self.pause()
-        } else {
+        // After news, the follower asks again at once: by that the leader knows that they are on the follower's disk. The leader answers that at once,
+        // so the follower asks at once again: this request can wait there for the next command.
+        let has_news = positions != self.own;
+        let pause = if has_news || self.had_news {
             0
+        } else {
+            self.pause()
         };
+        self.had_news = has_news;
         self.own = positions;
         self.after = positions;
         self.reached_at = Some(self.asked_at);
