@@ -115,14 +115,14 @@ def a_request_of_a_follower(t, words, pause, more):
         it.asks_after(pause)
     t.same(written(), before, "the last changes of its files")
     until(lambda: it.files <= files, f"no more descriptors than {files}; it has {it.files}")
-    # After news it asks at once, so that the leader knows that it has them.
+    # After news it asks at once, so that the leader knows that it has them, and once more, to wait for the next ones.
     then = with_rows(it.tables, subscriber=["3 x"])
     news = 200, paged(it.tables, ["subscriber 3 x"], tail=f"end {then.positions()}")
     it.leader.answer = lambda target: no_news(then, LATER) if then.positions() in target else news
     count = len(it.leader.targets)
     it.set_forward(pause)
     it.health()
-    it.asks(count + 2)
+    it.asks(count + 3)
     t.same(it.health()["positions"], then.positions(), "its positions")
     # After a failure it waits for a second.
     it.leader.answer = (500, b"")
@@ -405,6 +405,22 @@ def news_come_with_the_reply_to_the_command(t):
 
 def now_text(seconds):
     return program.moment_of(now() + seconds)
+
+
+@test(seconds=3)
+def commands_one_after_another_wait_for_no_pause(t):
+    """The elapsed time of leader and follower stands: a pause would never end, nor a wait for news at the leader."""
+    t.register(lines=LINES)
+    t.clock(CLOCK)
+    leader = Passing(t, "--confirm-by", "1").desk
+    copy = Copy(t, address(leader.port), "--lag", "4")
+    until(lambda: copy.leader["current"], "the leader")
+    copy.desk.end()
+    Passing(t, "--from", address(leader.port), "--unsigned", file="copy.db", command="follow")
+    for number in range(3, 9):
+        sender = Sender(t, f"subscriber s{number}")
+        sender.join(10 * program.PATIENCE)
+        t.same(sender.reply, f"subscriber {number}", "the reply")
 
 
 @test(seconds=3)
