@@ -5,6 +5,7 @@ use Rattle.std.specs.Io.KnownBytes.{Consumes, IsAtEnd, Keeps}
 use Rattle.std.proofs.KnownBytes.{Consumes-kept, Consumes-nil, Consumes-trans}
 use Rattle.std.proofs.lemmas.List.{append-nil, append_assoc}
 use Rattle.reg_crl_signer.specs.SignerConnections.{FailsAfterRead, FailsToReceive, HoldsAnswer, LeadsOn, Receives, read, memory, unawaited, short, long}
+use Rattle.reg_crl_signer.specs.declared.signer_connection.Framing.TheVariants.{ByLength}
 use Rattle.reg_crl_signer.specs.declared.signer_connection.Progress.{Progress}
 use Rattle.reg_crl_signer.specs.declared.signer_connection.Progress.TheVariants.{Idle, Waiting, Arrived, Failed}
 use Rattle.reg_crl_signer.specs.declared.signer_connection.SignerConnection.{SignerConnection}
@@ -160,6 +161,14 @@ module _ {S : Type 0} (remaining : S → Option (List ℕ)) where
   whole_on old middle new (inl same) last =
       subst (λ (it : SignerConnection S). it.progress ≡ Waiting → new.progress ≡ Arrived → HoldsAnswer new) same last
   whole_on old middle new (inr waits) last = λ waited. last waits
+
+  -- as long as an answer with its length is awaited, it is not whole
+  pub partial_on : (old middle new : SignerConnection S) → new.framing ≡ middle.framing → (middle ≡ old) ⊎ (middle.progress ≡ Waiting)
+      → (middle.progress ≡ Waiting → middle.framing ≡ ByLength → ¬ HoldsAnswer old → ¬ HoldsAnswer middle)
+      → (new.progress ≡ Waiting → new.framing ≡ ByLength → ¬ HoldsAnswer middle → ¬ HoldsAnswer new) → new.progress ≡ Waiting → new.framing ≡ ByLength
+      → ¬ HoldsAnswer old → ¬ HoldsAnswer new
+  partial_on old middle new same (inl is) first last waits counted none = last waits counted (subst (λ (it : SignerConnection S). ¬ HoldsAnswer it) (sym is) none)
+  partial_on old middle new same (inr waited) first last waits counted none = last waits counted (first waited (sym same ∙ counted) none)
 
   -- why the connection failed after more than one read
   fails_later : (read_failed : Type 0) (old middle new : SignerConnection S) → Receives remaining old middle → middle.progress ≡ Waiting

@@ -149,6 +149,8 @@ impl<S: Drop> SignerConnection<S> {
             → FailsAfterRead self.now is_at_end }
         ensures waits { result ≡ Progress.Waiting
             → ¬ (IsTrue is_at_end) × (length self.now.received.items ≤ 4100) }
+        ensures partial { result ≡ Progress.Waiting → self.now.framing ≡ Framing.ByLength
+            → ¬ HoldsAnswer self.now }
         ensures unawaited { ¬ (self.now.progress ≡ Progress.Waiting) → result ≡ Progress.Failed }
     {
         // No answer is awaited: the connection has ended, or bytes came to which no message belongs.
@@ -187,6 +189,8 @@ impl<S: Source + Drop> SignerConnection<S> {
             → S.failed }
         ensures whole { self.old.progress ≡ Progress.Waiting → self.new.progress ≡ Progress.Arrived
             → HoldsAnswer self.new }
+        ensures partial { self.new.progress ≡ Progress.Waiting → self.new.framing ≡ Framing.ByLength
+            → ¬ HoldsAnswer self.old → ¬ HoldsAnswer self.new }
         ensures fails { ¬ (self.old.progress ≡ Progress.Failed) → self.new.progress ≡ Progress.Failed
             → FailsToReceive S.failed S.remaining self.old self.new }
     {
@@ -207,6 +211,8 @@ impl<S: Source + Drop> SignerConnection<S> {
             → ¬ (self.new.progress ≡ Progress.Failed) → S.failed }
         ensures whole { self.old.progress ≡ Progress.Waiting → self.new.progress ≡ Progress.Arrived
             → HoldsAnswer self.new }
+        ensures partial { self.new.progress ≡ Progress.Waiting → self.new.framing ≡ Framing.ByLength
+            → ¬ HoldsAnswer self.old → ¬ HoldsAnswer self.new }
         ensures fails { ¬ (self.old.progress ≡ Progress.Failed) → self.new.progress ≡ Progress.Failed
             → FailsToReceive S.failed S.remaining self.old self.new }
     {
