@@ -2,11 +2,11 @@
 use Rattle.std.proofs.Common.{◌≡◌, ◌⊎◌, ℕ, ◌+◌, ◌<◌, ◌≤◌, Bool, List, [], ◌++◌, Option, true, length, length-drop, drop, refl, sym, subst, ap, ◌∙◌, arith, inl, inr}
 use Rattle.std.proofs.KnownBytes.{Consumes-nil}
 use Rattle.std.proofs.lemmas.List.{append-nil, nil_from_length}
-use Rattle.reg_http_head.specs.ResponseStart.{HasHead}
+use Rattle.reg_http_head.specs.ResponseStart.{HasHead, NeverAccepted}
 use Rattle.reg_http_head.specs.declared.response_head.ResponseHead.{ResponseHead}
 use Rattle.reg_http_head.proofs.PublicLaws.{one_response_head}
 use Rattle.reg_desk_server.specs.Buffers.{Receives, SendsUnsent, unsent_of}
-use Rattle.reg_desk_server.specs.FeedExchanges.{HasResponse, Proceeds, ReceivesResponse, Transfers, longest_response}
+use Rattle.reg_desk_server.specs.FeedExchanges.{FailsBy, HasResponse, LacksResponse, Proceeds, ReceivesResponse, Transfers, longest_response}
 use Rattle.reg_desk_server.specs.declared.feed_exchange.FeedExchange.{FeedExchange}
 use Rattle.reg_desk_server.specs.declared.request_bytes.Received.{Received}
 use Rattle.reg_desk_server.specs.declared.request_bytes.Received.TheVariants as received
@@ -36,6 +36,29 @@ module _ {S : Type 0} where
       let all : length exchange.received.items ≡ head.end + head.length =
       subst (λ (it : ResponseHead). length exchange.received.items ≡ it.end + it.length) same has.2 in
       absurd (omega (arith, all, short))
+
+  -- more bytes than a response has are none
+  too_many_bytes : (exchange : FeedExchange S) (head : ResponseHead) → HasHead exchange.received.items head
+      → head.end + head.length < length exchange.received.items → LacksResponse exchange
+  too_many_bytes exchange head begins long other has =
+      let same : other ≡ head = one_response_head exchange.received.items other head has.1.0 begins.0 has.1.1 begins.1 in
+      let all : length exchange.received.items ≡ head.end + head.length =
+      subst (λ (it : ResponseHead). length exchange.received.items ≡ it.end + it.length) same has.2 in
+      absurd (omega (arith, all, long))
+
+  pub fails_over : (now : ℕ) (exchange : FeedExchange S) (head : ResponseHead) → HasHead exchange.received.items head
+      → head.end + head.length < length exchange.received.items → FailsBy now exchange × LacksResponse exchange
+  fails_over now exchange head begins long = (inr (inr (head, begins, long)), too_many_bytes exchange head begins long)
+
+  -- bytes that begin with no accepted head are no response
+  never_response : (exchange : FeedExchange S) → NeverAccepted exchange.received.items → LacksResponse exchange
+  never_response exchange never head has =
+      let all : List ℕ = exchange.received.items in
+      let begins : HasHead (all ++ []) head = subst (λ (l : List ℕ). HasHead l head) (sym (append-nil all)) has.1 in
+      never [] begins.0 (drop head.end (all ++ [])) head.length begins.1.reads begins.1.accepted
+
+  pub fails_never : (now : ℕ) (exchange : FeedExchange S) → NeverAccepted exchange.received.items → FailsBy now exchange × LacksResponse exchange
+  fails_never now exchange never = (inr (inl never), never_response exchange never)
 
   -- while a part of the request is unsent, there is no response
   pub waits_to_send : (exchange : FeedExchange S) → 0 < length (unsent_of exchange.request) → (head : ResponseHead) → ¬ HasResponse exchange head

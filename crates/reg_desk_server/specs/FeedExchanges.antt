@@ -25,12 +25,21 @@ has_failed (Waiting millis) = false
 has_failed (Arrived head) = false
 has_failed Failed = true
 
+-- an exchange that waits is to be advanced at once
+abbrev pub WaitsAtOnce : FeedProgress → Type 0
+WaitsAtOnce (Waiting millis) = millis ≡ 0
+WaitsAtOnce other = Unit {0}
+
 module _ {S : Type 0} where
   -- the whole request was sent, and exactly a response came, which begins with this head
   abbrev pub HasResponse : FeedExchange S → ResponseHead → Type 0
   HasResponse exchange head =
       (unsent_of exchange.request ≡ []) × HasHead exchange.received.items head
       × (length exchange.received.items ≡ head.end + head.length)
+
+  -- there is no whole response
+  abbrev pub LacksResponse : FeedExchange S → Type 0
+  LacksResponse exchange = (head : ResponseHead) → ¬ HasResponse exchange head
 
   -- why no response comes: no byte was sent or came for five seconds, no accepted head begins with what came, or more came than the head states
   abbrev pub FailsBy : ℕ → FeedExchange S → Type 0
@@ -43,21 +52,28 @@ module _ {S : Type 0} where
   abbrev pub HasProgress : ℕ → FeedExchange S → FeedProgress → Type 0
   HasProgress now exchange (Waiting millis) =
       (now < exchange.moved_at + patience) × (now + millis ≤ exchange.moved_at + patience)
-      × ((head : ResponseHead) → ¬ HasResponse exchange head)
+      × LacksResponse exchange
   HasProgress now exchange (Arrived head) = HasResponse exchange head
-  HasProgress now exchange Failed = FailsBy now exchange
+  HasProgress now exchange Failed = FailsBy now exchange × LacksResponse exchange
+
+  -- an exchange that waits until more can be read is to be advanced five seconds after the last byte, if none comes
+  abbrev pub WaitsPatiently : ℕ → FeedExchange S → FeedProgress → Type 0
+  WaitsPatiently now exchange (Waiting millis) = exchange.moved_at ≤ now → now + millis ≡ exchange.moved_at + patience
+  WaitsPatiently now exchange other = Unit {0}
 
   -- the facts that the last progress states: no more comes
   abbrev pub HasLastProgress : FeedExchange S → FeedProgress → Type 0
   HasLastProgress exchange (Waiting millis) = ⊥
   HasLastProgress exchange (Arrived head) = HasResponse exchange head
-  HasLastProgress exchange Failed = Unit {0}
+  HasLastProgress exchange Failed = LacksResponse exchange
 
   -- the facts that the progress states after bytes were received with this result
   abbrev pub HasProgressAfter : Received → ℕ → FeedExchange S → FeedProgress → Type 0
-  HasProgressAfter received.Blocked now exchange progress = HasProgress now exchange progress
-  HasProgressAfter received.More now exchange progress = HasProgress now exchange progress
-  HasProgressAfter other now exchange progress = HasLastProgress exchange progress
+  HasProgressAfter received.Blocked now exchange progress =
+      HasProgress now exchange progress × WaitsPatiently now exchange progress
+  HasProgressAfter received.More now exchange progress = HasProgress now exchange progress × WaitsAtOnce progress
+  HasProgressAfter received.Ended now exchange progress = HasLastProgress exchange progress
+  HasProgressAfter other now exchange progress = progress ≡ Failed
 
   -- the next bytes were received, as long as the response is not too long
   pub record ReceivesResponse (remaining : S → Option (List ℕ)) (old new : FeedExchange S) (result : Received) : Type 0 where

@@ -1,8 +1,8 @@
 //! One request to another desk, and its response, without blocking.
 
-ghost use Rattle.std.specs.Prelude.{◌≡◌, ◌≤◌, ◌⊎◌, [], drop, length};
+ghost use Rattle.std.specs.Prelude.{◌≡◌, ◌<◌, ◌≤◌, ◌⊎◌, [], drop, length};
 ghost use Rattle.reg_desk_server.specs.Buffers.{unsent_of};
-ghost use Rattle.reg_desk_server.specs.FeedExchanges.{HasLastProgress, HasProgress, HasResponse};
+ghost use Rattle.reg_desk_server.specs.FeedExchanges.{HasLastProgress, HasProgress, LacksResponse, WaitsAtOnce, WaitsPatiently};
 ghost use Rattle.reg_desk_server.specs.FeedExchanges.{Proceeds, Progresses, ReceivesResponse, Transfers, has_failed, longest_response};
 
 use crate::control_connection::gather;
@@ -69,7 +69,7 @@ impl<S: Drop> FeedExchange<S> {
 
     /// The progress, if the connection may still give more.
     fn progress(&self, now: u64) -> FeedProgress
-        ensures { HasProgress now self.now result }
+        ensures { HasProgress now self.now result × WaitsPatiently now self.now result }
     {
         if self.request.len() > 0 {
             return self.waiting(now);
@@ -90,7 +90,7 @@ impl<S: Drop> FeedExchange<S> {
 
     /// The progress if more may be sent or received at once.
     fn progress_at_once(&self, now: u64) -> FeedProgress
-        ensures { HasProgress now self.now result }
+        ensures { HasProgress now self.now result × WaitsAtOnce result }
     {
         match self.progress(now) {
             FeedProgress::Waiting(_) => FeedProgress::Waiting(0),
@@ -111,8 +111,8 @@ impl<S: Drop> FeedExchange<S> {
     }
 
     fn waiting(&self, now: u64) -> FeedProgress
-        requires { (head : ResponseHead) → ¬ HasResponse self.now head }
-        ensures { HasProgress now self.now result }
+        requires { LacksResponse self.now }
+        ensures { HasProgress now self.now result × WaitsPatiently now self.now result }
     {
         let idle = now.saturating_sub(self.moved_at);
         if idle < PATIENCE_MILLIS {
@@ -130,6 +130,10 @@ impl<S: Read + Write + Drop> FeedExchange<S> {
         ensures progress { Progresses S.contents S.remaining now self.old self.new result }
         ensures idle { unsent_of self.new.request ≡ unsent_of self.old.request → self.new.received.items ≡ self.old.received.items
             → self.new.moved_at ≡ self.old.moved_at }
+        ensures sent { length (unsent_of self.new.request) < length (unsent_of self.old.request)
+            → self.new.moved_at ≡ now }
+        ensures came { length self.old.received.items < length self.new.received.items
+            → self.new.moved_at ≡ now }
         ensures moved { (self.new.moved_at ≡ self.old.moved_at) ⊎ (self.new.moved_at ≡ now) }
         ensures short { length self.old.received.items ≤ longest_response → length self.new.received.items ≤ longest_response }
     {
@@ -148,6 +152,10 @@ impl<S: Read + Write + Drop> FeedExchange<S> {
         ensures transfers { Transfers S.contents S.remaining self.old self.new result }
         ensures idle { unsent_of self.new.request ≡ unsent_of self.old.request → self.new.received.items ≡ self.old.received.items
             → self.new.moved_at ≡ self.old.moved_at }
+        ensures sent { length (unsent_of self.new.request) < length (unsent_of self.old.request)
+            → self.new.moved_at ≡ now }
+        ensures came { length self.old.received.items < length self.new.received.items
+            → self.new.moved_at ≡ now }
         ensures moved { (self.new.moved_at ≡ self.old.moved_at) ⊎ (self.new.moved_at ≡ now) }
     {
         let unsent = self.request.len();

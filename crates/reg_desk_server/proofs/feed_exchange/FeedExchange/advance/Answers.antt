@@ -49,19 +49,19 @@ pub returns-in-Whole-clause-progress : goal.returns-in-Whole-clause-progress
 returns-in-Whole-clause-progress g c = record {
   result = received.Whole;
   transfers = rw c.in-Whole.is at c.transfer_at.ensures.transfers;
-  states = tt;
+  states = refl;
 }
 
 pub returns-in-Broken-clause-progress : goal.returns-in-Broken-clause-progress
 returns-in-Broken-clause-progress g c = record {
   result = received.Broken;
   transfers = rw c.in-Broken.is at c.transfer_at.ensures.transfers;
-  states = tt;
+  states = refl;
 }
 
 pub returns-in-OutOfMemory-clause-progress : goal.returns-in-OutOfMemory-clause-progress
 returns-in-OutOfMemory-clause-progress g c = record {
   result = received.OutOfMemory;
   transfers = rw c.in-OutOfMemory.is at c.transfer_at.ensures.transfers;
-  states = tt;
+  states = refl;
 }
