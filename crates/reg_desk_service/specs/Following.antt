@@ -1,9 +1,11 @@
 -- What a follower does that another desk does not: the work by which it follows its leader, and the lines that it refuses.
-use Rattle.std.specs.Prelude.{◌≡◌, ◌⊎◌, ◌==◌, ◌-◌, ◌/◌, ℕ, nat_le, Bool, true, false, List, length, codes, if◌then◌else◌, unwrap_or, Option, Some, None, Ok, IfSome, IsFalse, IsTrue}
+use Rattle.std.specs.Prelude.{◌≡◌, ◌⊎◌, ◌==◌, ◌+◌, ◌-◌, ◌/◌, ◌<◌, ◌≤◌, ℕ, min, nat_le, Bool, true, false, List, [], length, codes, if◌then◌else◌, unwrap_or, Option, Some, None, Ok, IfSome, IsFalse, IsTrue}
 use Rattle.reg_core.specs.declared.refusal.Fault.TheVariants as fault
 use Rattle.reg_core_lists.specs.declared.feed_reader.ReceivedPage.{ReceivedPage}
 use Rattle.reg_desk_cli.specs.declared.failure.Failure.{Failure}
 use Rattle.reg_desk_cli.specs.declared.failure.Failure.TheVariants as failure
+use Rattle.reg_desk_metrics.specs.Tallies.{greatest}
+use Rattle.reg_desk_metrics.specs.declared.follower_status.FeedFailure.{FeedFailure}
 use Rattle.reg_desk_metrics.specs.declared.follower_status.FollowerStatus.{FollowerStatus}
 use Rattle.reg_lines.specs.Meaning.{IsUnreadable, LineMeans, is_ocsp_line, means_query}
 use Rattle.reg_lines.specs.Script.{IsShortUntimedLine, line_of}
@@ -76,6 +78,19 @@ pub record KeepsProgress (old new : Follower) : Type 0 where
   pub own : new.own ≡ old.own
   pub asked_at : new.asked_at ≡ old.asked_at
   pub reached_at : new.reached_at ≡ old.reached_at
+
+-- A request failed at this moment. The pages that were kept are dropped, and the next request, a second later, goes on from its records.
+pub record NotesFailure (failure : FeedFailure) (now : ℕ) (old new : Follower) : Type 0 where
+  pub pages : new.pages.items ≡ []
+  pub bytes : new.bytes ≡ 0
+  pub after : new.after ≡ old.own
+  pub next_at : new.next_at ≡ min (now + 1000) greatest
+  pub failure_is : new.failure ≡ Some failure
+  pub stop : new.stop ≡ old.stop
+
+-- more pages, or bytes of them, are kept than a follower has room for, 512 and 160,000,000
+abbrev pub IsTooFarBehind : Follower → Type 0
+IsTooFarBehind it = (512 ≤ length it.pages.items) ⊎ (160000000 < it.bytes)
 
 -- it began an exchange with its next request at this moment, or could not; or it did nothing
 abbrev pub SendsRequest : ℕ → Follower → Follower → Type 0

@@ -1,11 +1,11 @@
 //! A follower: it asks a leader for changes, keeps the pages in memory up to the one that ends the feed, and then has its office enter them.
 
-ghost use Rattle.std.specs.Prelude.{◌≡◌, ◌*◌, min, None, Some, Ok, IfErr, IfOk, IfSome, IsTrue, OnErr, OnOk, is_some};
+ghost use Rattle.std.specs.Prelude.{◌≡◌, ◌⊎◌, ◌++◌, ◌∷◌, ◌*◌, [], min, None, Some, Ok, IfErr, IfOk, IfSome, IsFalse, IsTrue, OnErr, OnOk, is_some};
 ghost use Rattle.reg_desk_metrics.specs.Tallies.{greatest};
 ghost use Rattle.reg_desk_server.specs.Buffers.{unsent_of};
 ghost use Rattle.reg_office_api.specs.Follows.{FollowStep, FormsSign};
 ghost use Rattle.reg_desk_service.specs.ExpectedCrls.{ExpectsCrls, LeadsWithCrls};
-ghost use Rattle.reg_desk_service.specs.Following.{SendsRequest, FollowsAt, KeepsProgress, KeepsRecords, LastEnds, Reaches, TakesResponse, has_diverged, is_current_at, may_wait, next_request, reached_within, progress_at};
+ghost use Rattle.reg_desk_service.specs.Following.{NotesFailure, IsTooFarBehind, SendsRequest, FollowsAt, KeepsProgress, KeepsRecords, LastEnds, Reaches, TakesResponse, has_diverged, is_current_at, may_wait, next_request, reached_within, progress_at};
 
 use crate::feed_request::changes_request;
 use crate::machine::Machine;
@@ -245,7 +245,8 @@ impl<'a, 'w> Follower<'a, 'w> {
     /// Drops the pages that are kept, and asks again later, from the own records on. Reports the failure unless the last request failed in the same
     /// way.
     fn fail<M: Machine>(&mut self, machine: &M, failure: FeedFailure, now: u64)
-        ensures { KeepsProgress self.old self.new }
+        ensures kept { KeepsProgress self.old self.new }
+        ensures failed { NotesFailure failure now self.old self.new }
     {
         self.exchange = None;
         self.pages.clear();
@@ -253,8 +254,9 @@ impl<'a, 'w> Follower<'a, 'w> {
         self.after = self.own;
         self.had_news = false;
         self.next_at = now.saturating_add(RETRY_MILLIS);
-        if self.failure != Some(failure) {
-            self.failure = Some(failure);
+        let is_new = self.failure != Some(failure);
+        self.failure = Some(failure);
+        if is_new {
             report::<M>(self.alloc, machine, &failure);
         }
     }
@@ -281,7 +283,9 @@ impl<'a, 'w> Follower<'a, 'w> {
 
     /// The leader answered 409 (`diverged`).
     fn take_conflict<M: Machine>(&mut self, machine: &M, now: u64)
-        ensures { KeepsProgress self.old self.new }
+        ensures kept { KeepsProgress self.old self.new }
+        ensures diverged { self.old.pages.items ≡ [] → self.new.stop ≡ Some Failure.Diverged }
+        ensures replaced { ¬ (self.old.pages.items ≡ []) → self.new.stop ≡ self.old.stop }
     {
         // If pages are kept, only the positions after them may be unknown, as after the leader was replaced.
         if self.pages.is_empty() {
@@ -331,7 +335,11 @@ impl<'a, 'w> Follower<'a, 'w> {
     /// Keeps a page. An error if it does not end the feed and does not lead on either.
     fn keep_page(&mut self, page: ReceivedPage, length: usize, now: u64) -> Result<(), FeedFailure>
         ensures kept { KeepsProgress self.old self.new }
+        ensures pages { OnOk result (self.new.pages.items ≡ self.old.pages.items ++ page ∷ []) }
+        ensures after { OnOk result ((self.new.after ≡ page.positions) × (self.new.next_at ≡ now)) }
         ensures ends { OnOk result (IsTrue page.ends → LastEnds self.new.pages.items) }
+        ensures err { IfErr result (λ why. (why ≡ FeedFailure.Memory)
+            ⊎ (IsFalse page.ends × (page.positions ≡ self.old.after))) }
     {
         let positions = page.positions;
         if !page.ends && positions == self.after {
@@ -349,7 +357,9 @@ impl<'a, 'w> Follower<'a, 'w> {
 
     /// An error if the leader has more changes than are kept in memory.
     fn check_room(&mut self) -> Result<(), FeedFailure>
-        ensures { KeepsProgress self.old self.new }
+        ensures kept { KeepsProgress self.old self.new }
+        ensures ok { OnOk result ((self.new ≡ self.old) × ¬ IsTooFarBehind self.old) }
+        ensures err { OnErr result (IsTooFarBehind self.old) }
     {
         if self.pages.len() >= MOST_PAGES || self.bytes > MOST_BYTES {
             self.stop = Some(Failure::TooFarBehind);
@@ -393,6 +403,9 @@ impl<'a, 'w> Follower<'a, 'w> {
         ensures lag { self.new.lag ≡ self.old.lag }
         ensures asked_at { self.new.asked_at ≡ self.old.asked_at }
         ensures reached_at { self.new.reached_at ≡ Some self.old.asked_at }
+        ensures works { (self.new.failure ≡ None) × (self.new.stop ≡ None) }
+        ensures none { (self.new.pages.items ≡ []) × (self.new.bytes ≡ 0) × (self.new.after ≡ positions) }
+        ensures soon { ¬ (positions ≡ self.old.own) → self.new.next_at ≡ self.old.asked_at }
     {
         // After news, the follower asks again at once: by that the leader knows that they are on the follower's disk. The leader answers that at once,
         // so the follower asks at once again: this request can wait there for the next command.

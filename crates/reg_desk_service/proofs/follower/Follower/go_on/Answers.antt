@@ -6,7 +6,7 @@ pub returns-in-Waiting : goal.returns-in-Waiting
 returns-in-Waiting g c = takes_none g.M.Office.Office _ _ _ _ c.advance.ensures refl
 
 pub returns-in-Failed : goal.returns-in-Failed
-returns-in-Failed g c = takes_none g.M.Office.Office _ _ _ _ (progress_then _ _ _ c.advance.ensures c.fail.ensures) refl
+returns-in-Failed g c = takes_none g.M.Office.Office _ _ _ _ (progress_then _ _ _ c.advance.ensures c.fail.ensures.kept) refl
 
 pub returns-in-Arrived : goal.returns-in-Arrived
 returns-in-Arrived g c = takes_after g.M.Office.Office _ _ _ _ _ c.advance.ensures c.receive.ensures

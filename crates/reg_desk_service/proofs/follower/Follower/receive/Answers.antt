@@ -10,7 +10,7 @@ returns-in-200 g c = takes_after g.M.Office.Office _ _ _ _ _ (record { lag = ref
 
 pub returns-in-409 : goal.returns-in-409
 returns-in-409 g c =
-    takes_none g.M.Office.Office _ _ _ _ (progress_then _ _ _ (record { lag = refl; own = refl; asked_at = refl; reached_at = refl }) c.take_conflict.ensures) refl
+    takes_none g.M.Office.Office _ _ _ _ (progress_then _ _ _ (record { lag = refl; own = refl; asked_at = refl; reached_at = refl }) c.take_conflict.ensures.kept) refl
 
 pub returns : goal.returns
-returns g c = takes_none g.M.Office.Office _ _ _ _ (progress_then _ _ _ (record { lag = refl; own = refl; asked_at = refl; reached_at = refl }) c.fail.ensures) refl
+returns g c = takes_none g.M.Office.Office _ _ _ _ (progress_then _ _ _ (record { lag = refl; own = refl; asked_at = refl; reached_at = refl }) c.fail.ensures.kept) refl

@@ -16,7 +16,7 @@ returns-then-ends-clause-ok g c = takes_if g.M.Office.Office c.enter.result _ _ 
 
 pub returns-else-ends-clause-ok : goal.returns-else-ends-clause-ok
 returns-else-ends-clause-ok g c =
-    on_ok c.check_room.result (takes_none g.M.Office.Office _ _ _ _ (progress_then _ _ _ c.keep_page.ensures.kept c.check_room.ensures) refl)
+    on_ok c.check_room.result (takes_none g.M.Office.Office _ _ _ _ (progress_then _ _ _ c.keep_page.ensures.kept c.check_room.ensures.kept) refl)
 
 pub returns-else-ends-clause-kept : goal.returns-else-ends-clause-kept
 returns-else-ends-clause-kept g c = on_err c.check_room.result (keeps_none g.M.Office.Office _ _ refl)
