@@ -6,3 +6,7 @@ pub mod Replaying
 pub mod EachRow
 pub mod ConversationLemmas
 pub mod FollowRuns
+pub mod KeptByLines
+pub mod KeptByRequests
+pub mod PagesInTurn
+pub mod RequestsPath

@@ -2,6 +2,7 @@ pub mod Conversations
 pub mod Digest
 pub mod Ends
 pub mod FollowJobs
+pub mod FollowedRuns
 pub mod LogEntries
 pub mod Published
 pub mod Replays

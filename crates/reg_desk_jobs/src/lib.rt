@@ -7,6 +7,7 @@ mod copy_job;
 mod fill_job;
 mod follow_job;
 mod jobs;
+pub mod laws;
 mod lines_job;
 mod list_job;
 mod log_entries;
