@@ -1,6 +1,6 @@
 -- A run of a follower's desk enters pages in turn, and so it follows its leader.
+use Rattle.std.specs.Prelude.{Option, Result}
 use Rattle.std.proofs.Common.{◌≡◌, ◌⊎◌, ◌∙◌, ◌≤◌, ℕ, List, [], ◌∷◌, Ok, ap, arith, inl, inr, le_refl, refl, subst, subst₂, sym}
-use Rattle.std.specs.List.{AllByRecursion}
 use Rattle.reg_core.specs.Records.{Records}
 use Rattle.reg_core_lists.specs.declared.feed_reader.ReceivedPage.{ReceivedPage}
 use Rattle.reg_core_lists.specs.declared.positions.Declines.{Declines}
@@ -9,9 +9,12 @@ use Rattle.reg_core_lists.specs.declared.positions.RowCounts.{RowCounts}
 use Rattle.reg_io.specs.RunsOfAnswers.{Answered}
 use Rattle.reg_office_api.specs.FollowedLeaders.{AreFeedPages, AreFollowCalls, CallsFollowLeader, FollowCall, FollowsLeader, IsLeader}
 use Rattle.reg_office_api.specs.Follows.{ArePositionsOf, FollowStep, FormsSign}
-use Rattle.reg_office_api.specs.Leads.{Leads}
+use Rattle.reg_office_api.specs.Leads.{Leads, Looks}
 use Rattle.reg_office_api.specs.Signers.{OfficeSigners}
 use Rattle.reg_office_api.specs.declared.office.Office.{Ghosts as Office}
+use Rattle.reg_desk_cli.specs.declared.failure.Failure.{Failure}
+use Rattle.reg_desk_cli.specs.declared.job.FollowJob.{FollowJob}
+use Rattle.reg_desk_service.specs.Admission.{first_admission}
 use Rattle.reg_desk_service.specs.ExpectedCrls.{ExpectsCrls, LeadsWithCrls}
 use Rattle.reg_desk_server.specs.Exchange.{HandlesOrWorks, Input, Outcome, lines, request, work, later, pending, said}
 use Rattle.reg_desk_service.specs.Following.{FollowerAnswers, FollowerAnswersLines, FollowerDefers, FollowerState, FollowerWorks, SendsRequest, TakesResponse, is_current_at, progress_at}
@@ -20,7 +23,7 @@ use Rattle.reg_desk_service.specs.declared.follower.Follower.{Follower}
 use Rattle.reg_desk_service.specs.declared.machine.Machine.{Ghosts as Machine}
 use Rattle.reg_desk_service.specs.declared.unsigned_responses.Unsigned.{Unsigned}
 use Rattle.reg_lines.specs.Meaning.{OneMeaning}
-use Rattle.reg_desk_jobs.specs.FollowedRuns.{AreLeaderPages, AreLeaderRuns, EnteredPages, EntersInRuns, EntersInTurn, IsOneInput, JobRun, PagesFollowLeader, RunsEnterPages, RunsFollowLeader}
+use Rattle.reg_desk_jobs.specs.FollowedRuns.{AreLeaderPages, AreLeaderRuns, EnteredPages, EntersInRuns, EntersInTurn, JobRun, PagesFollowLeader, RunsEnterPages, RunsFollowLeader, ServesByRun}
 use Rattle.reg_desk_jobs.proofs.KeptByLines.{lines_keep}
 use Rattle.reg_desk_jobs.proofs.KeptByRequests.{finished, request_keeps}
 
@@ -86,6 +89,17 @@ module _ {O : Type 0} (office : Office O) where
         (signers.crls, after, same signers before after made, stands_now)),
   )
 
+  -- a look, and then a step
+  look_then : (seen : Records → Type 0) (step : Records → Records → Type 0) (s m t : O) → Looks office.is_clean office.stands seen s m
+      → LeadsWithCrls office step m t → LeadsWithCrls office (λ before after. seen before × step before after) s t
+  look_then seen step s m t looked led = (
+    (λ clean. looked.0 (led.0 clean)),
+    (λ signers before stood clean.
+        let (middle, found, stands_middle) = looked.1 signers before stood (led.0 clean) in
+        let (crls, after, made, stands_after) = led.1 signers middle stands_middle clean in
+        (crls, after, (found.0, subst (λ (r : Records). step r after) found.1 made), stands_after)),
+  )
+
   -- nothing is done
   pub expects_none : (s t : O) → t ≡ s → ExpectsCrls office s t
   expects_none s t same = (
@@ -113,8 +127,8 @@ module _ {O : Type 0} (office : Office O) where
       ((own' ≡ own) × ExpectsCrls office s t)
       ⊎ ((entered : EnteredPages) × (own' ≡ entered.reached) × LeadsWithCrls office (FollowStep own entered.pages (Ok entered.reached)) s t)
 
-  module _ {S Q A : Type 0} (office_of : S → O) (own_of : S → Positions) (answers : S → Q → A → S → Type 0) (Allowed : Q → Type 0)
-      (each : (s : S) (q : Q) (a : A) (t : S) → Allowed q → answers s q a t → Enters (own_of s) (own_of t) (office_of s) (office_of t)) where
+  module _ {S Q A : Type 0} (office_of : S → O) (own_of : S → Positions) (answers : S → Q → A → S → Type 0)
+      (each : (s : S) (q : Q) (a : A) (t : S) → answers s q a t → Enters (own_of s) (own_of t) (office_of s) (office_of t)) where
     -- a step, and then others
     step_then : (s m t : S) (more : List EnteredPages) → Enters (own_of s) (own_of m) (office_of s) (office_of m)
         → LeadsWithCrls office (EntersInTurn (own_of m) more (own_of t)) (office_of m) (office_of t)
@@ -133,20 +147,20 @@ module _ {O : Type 0} (office : Office O) where
           (office_of s) (office_of m) (office_of t) led rest,
     )
 
-    pub run_enters : (s t : S) (asked : List Q) (given : List A) → AllByRecursion Allowed asked → Answered answers s asked given t
+    pub run_enters : (s t : S) (asked : List Q) (given : List A) → Answered answers s asked given t
         → (entered : List EnteredPages) × LeadsWithCrls office (EntersInTurn (own_of s) entered (own_of t)) (office_of s) (office_of t)
-    run_enters s t [] [] all run = (
+    run_enters s t [] [] run = (
       [],
       (
         (λ clean. subst (λ (it : S). office.is_clean (office_of it)) run clean),
         (λ signers before stood clean. (signers.crls, before, (ap own_of run, refl), subst (λ (it : S). office.stands signers (office_of it) before) (sym run) stood)),
       ),
     )
-    run_enters s t [] (a ∷ given) all run = absurd run
-    run_enters s t (q ∷ asked) [] all run = absurd run
-    run_enters s t (q ∷ asked) (a ∷ given) all run =
-        let (more, rest) = run_enters run.0 t asked given all.1 run.2 in
-        step_then s run.0 t more (each s q a run.0 all.0 run.1) rest
+    run_enters s t [] (a ∷ given) run = absurd run
+    run_enters s t (q ∷ asked) [] run = absurd run
+    run_enters s t (q ∷ asked) (a ∷ given) run =
+        let (more, rest) = run_enters run.0 t asked given run.2 in
+        step_then s run.0 t more (each s q a run.0 run.1) rest
 
 -- ---- the steps of a follower's desk
 
@@ -187,9 +201,9 @@ module _ {M O D S R : Type 0} (machines : Machine M O D S R) (offices : Office O
   request_step s bytes later t (millis, read, follower, moved) =
       inl (own_same s.2 t.2 follower, keeps_of offices _ s.0 t.0 moved (λ signers before after none. absurd none))
 
-  lines_step : OneMeaning → (s : State) (bytes text : List ℕ) (t : State) → IsOneInput (lines bytes) → FollowerAnswersLines machines offices s bytes text t → Effect s t
-  lines_step one s bytes text t alone (millis, read, inl refuses) = stays s t refuses.1
-  lines_step one s bytes text t alone (millis, read, inr (may, (follower, admission, moved))) = inl (
+  lines_step : OneMeaning → (s : State) (bytes text : List ℕ) (t : State) → FollowerAnswersLines machines offices s bytes text t → Effect s t
+  lines_step one s bytes text t (alone, millis, read, inl refuses) = stays s t refuses.1
+  lines_step one s bytes text t (alone, millis, read, inr (may, (follower, admission, moved))) = inl (
     own_same s.2 t.2 follower,
     keeps_of offices _ s.0 t.0 moved (lines_keep one (is_current_at s.2 millis) offices.signs machines.clock_reached s.1.accepted bytes text alone may),
   )
@@ -215,23 +229,32 @@ module _ {M O D S R : Type 0} (machines : Machine M O D S R) (offices : Office O
     work_step s t (inl none) = stays s t none
     work_step s t (inr (millis, read, admission, (sent, sends, takes))) = takes_step s.2 sent t.2 s.0 t.0 (sends_own millis s.2 sent sends) takes
 
-    input_step : OneMeaning → (s : State) (input : Input) (outcome : Outcome Unsigned) (t : State) → IsOneInput input
+    input_step : OneMeaning → (s : State) (input : Input) (outcome : Outcome Unsigned) (t : State)
         → HandlesOrWorks (FollowerAnswers machines offices) (FollowerAnswersLines machines offices) (FollowerDefers machines offices) (FollowerWorks machines offices) s input outcome t
         → Effect s t
-    input_step one s (request bytes) (said text) t alone step = request_step s bytes (said text) t step
-    input_step one s (request bytes) (pending ticket) t alone step = request_step s bytes (pending ticket) t step
-    input_step one s (request bytes) later t alone step = request_step s bytes later t step
-    input_step one s (lines bytes) (said text) t alone step = lines_step one s bytes text t alone step
-    input_step one s (lines bytes) (pending ticket) t alone step = absurd step
-    input_step one s (lines bytes) later t alone step = defer_step s bytes t step
-    input_step one s work (said text) t alone step = absurd step
-    input_step one s work (pending ticket) t alone step = absurd step
-    input_step one s work later t alone step = work_step s t step
+    input_step one s (request bytes) (said text) t step = request_step s bytes (said text) t step
+    input_step one s (request bytes) (pending ticket) t step = request_step s bytes (pending ticket) t step
+    input_step one s (request bytes) later t step = request_step s bytes later t step
+    input_step one s (lines bytes) (said text) t step = lines_step one s bytes text t step
+    input_step one s (lines bytes) (pending ticket) t step = absurd step
+    input_step one s (lines bytes) later t step = defer_step s bytes t step
+    input_step one s work (said text) t step = absurd step
+    input_step one s work (pending ticket) t step = absurd step
+    input_step one s work later t step = work_step s t step
 
   pub runs_enter_pages : OneMeaning → RunsEnterPages machines offices
-  runs_enter_pages one forms s t inputs outcomes alone run =
+  runs_enter_pages one forms s t inputs outcomes run =
       run_enters offices (λ (it : State). it.0) (λ (it : State). it.2.own)
       (HandlesOrWorks (FollowerAnswers machines offices) (FollowerAnswersLines machines offices) (FollowerDefers machines offices) (FollowerWorks machines offices))
-      IsOneInput
-      (λ s input outcome t alone step. input_step forms one s input outcome t alone step)
-      s t inputs outcomes alone run
+      (λ s input outcome t step. input_step forms one s input outcome t step)
+      s t inputs outcomes run
+
+  pub serves_by_run : OneMeaning → {W : Type 0} (contents : W → Option (List ℕ)) → ServesByRun machines offices contents
+  serves_by_run one contents forms writer writer' it result first last (inl kept) = inl (keeps_of offices _ first last kept.0 (λ signers before after same. same))
+  serves_by_run one contents forms writer writer' it result first last (inr (bound, (middle, follower, follower', admission, inputs, outcomes, starts, run, ends))) =
+      let entered = runs_enter_pages one forms (middle, first_admission, follower) (last, admission, follower') inputs outcomes run in
+      inr (
+        record { own = follower.own; entered = entered.0 },
+        follower'.own,
+        look_then offices (λ records. ArePositionsOf records follower.own) (EntersInTurn follower.own entered.0 follower'.own) first middle last starts.own entered.1,
+      )

@@ -1,16 +1,17 @@
 -- The law of a follower's job: nothing but pages of its leader's feed changes its records. So they are records that the leader had.
-use Rattle.std.specs.Prelude.{◌≡◌, ◌≤◌, ℕ, List, [], ◌∷◌, Ok}
-use Rattle.std.specs.List.{AllByRecursion}
+use Rattle.std.specs.Prelude.{◌≡◌, ◌⊎◌, ◌≤◌, ℕ, List, [], ◌∷◌, Option, Result, Ok}
 use Rattle.reg_core.specs.Records.{Records}
 use Rattle.reg_core_lists.specs.declared.feed_reader.ReceivedPage.{ReceivedPage}
 use Rattle.reg_core_lists.specs.declared.positions.Positions.{Positions}
-use Rattle.reg_desk_server.specs.Exchange.{HandlesOrWorks, Input, Outcome, lines}
-use Rattle.reg_desk_server.specs.LineEnds.{IsLine}
+use Rattle.reg_desk_cli.specs.declared.failure.Failure.{Failure}
+use Rattle.reg_desk_cli.specs.declared.job.FollowJob.{FollowJob}
+use Rattle.reg_desk_server.specs.Exchange.{HandlesOrWorks, Input, Outcome}
 use Rattle.reg_io.specs.RunsOfAnswers.{Answered}
 use Rattle.reg_office_api.specs.FollowedLeaders.{AreFeedPages, IsLeader, OnlyAddsRows}
 use Rattle.reg_office_api.specs.Follows.{ArePositionsOf, FollowStep, FormsSign}
 use Rattle.reg_office_api.specs.declared.office.Office.{Ghosts as Office}
-use Rattle.reg_desk_service.specs.ExpectedCrls.{LeadsWithCrls}
+use Rattle.reg_desk_jobs.specs.FollowJobs.{FollowsRegister}
+use Rattle.reg_desk_service.specs.ExpectedCrls.{ExpectsCrls, LeadsWithCrls}
 use Rattle.reg_desk_service.specs.Following.{FollowerAnswers, FollowerAnswersLines, FollowerDefers, FollowerState, FollowerWorks}
 use Rattle.reg_desk_service.specs.declared.machine.Machine.{Ghosts as Machine}
 use Rattle.reg_desk_service.specs.declared.unsigned_responses.Unsigned.{Unsigned}
@@ -90,11 +91,6 @@ RunsFollowLeader =
 
 -- ---- runs of a follower's desk
 
--- a request, one line of a control connection, or work
-abbrev pub IsOneInput : Input → Type 0
-IsOneInput (lines bytes) = IsLine bytes
-IsOneInput other = Unit {0}
-
 module _ {M O D S R : Type 0} (machines : Machine M O D S R) (offices : Office O) where
   -- requests, lines and work of a follower's desk, one after the other, with their outcomes
   abbrev pub FollowerRuns
@@ -104,13 +100,24 @@ module _ {M O D S R : Type 0} (machines : Machine M O D S R) (offices : Office O
       Answered (HandlesOrWorks (FollowerAnswers machines offices) (FollowerAnswersLines machines offices)
       (FollowerDefers machines offices) (FollowerWorks machines offices))
 
-  -- Whatever clients ask and send, line by line: a follower's desk only enters pages in turn, from its positions before to those after. No request
-  -- and no line changes the records.
+  -- Whatever clients ask and send: a follower's desk only enters pages in turn, from its positions before to those after. No request and no line
+  -- changes the records.
   abbrev pub RunsEnterPages : Type 0
   RunsEnterPages =
       FormsSign offices.signs offices.forms
       → (s t : FollowerState machines offices) (inputs : List Input) (outcomes : List (Outcome Unsigned))
-      → AllByRecursion IsOneInput inputs
       → FollowerRuns s inputs outcomes t
       → (entered : List EnteredPages)
       × LeadsWithCrls offices (EntersInTurn s.2.own entered t.2.own) s.0 t.0
+
+  -- A register is served by the job: no record changes; or the job runs as above, from the positions of the records on.
+  abbrev pub ServesByRun : {W : Type 0} → (W → Option (List ℕ)) → Type 0
+  ServesByRun {W = W} contents =
+      FormsSign offices.signs offices.forms
+      → (writer writer' : W) (it : FollowJob) (result : Result (Unit {0}) Failure) (first last : O)
+      → FollowsRegister machines offices contents writer writer' it result first last
+      → ExpectsCrls offices first last
+      ⊎ ((run : JobRun) × (reached : Positions)
+      × LeadsWithCrls offices
+      (λ before after. ArePositionsOf before run.own × EntersInTurn run.own run.entered reached before after)
+      first last)

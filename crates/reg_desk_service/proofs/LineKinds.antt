@@ -1,8 +1,8 @@
 -- The kinds of lines at a follower's control socket, and the first of some lines.
 use Rattle.std.specs.Prelude.{MatchOption}
 use Rattle.std.proofs.Common.{◌≡◌, ◌⊎◌, ◌++◌, ℕ, Bool, Option, Some, None, Result, Ok, Err, IfOk, OnErr, ◌≤◌, ◌<◌, List, [], ◌∷◌, take, length, arith, ap, inl, inr, refl, subst, sym, ◌∙◌}
-use Rattle.reg_io.proofs.PublicLaws.{first_delimiter_in_prefix}
-use Rattle.reg_desk_server.specs.LineEnds.{EndsLine, FirstLineEnds, HasNoLine, IsWholeLines}
+use Rattle.reg_io.proofs.PublicLaws.{first_delimiter_in_prefix, first_delimiter_of_byte}
+use Rattle.reg_desk_server.specs.LineEnds.{EndsLine, FirstLineEnds, HasNoLine, IsLine, IsWholeLines}
 use Rattle.reg_desk_service.specs.ControlWords.{WordMeaning, meaning_in}
 use Rattle.std.proofs.lemmas.List.{take_all}
 use Rattle.reg_core.specs.declared.refusal.Fault.TheVariants as fault
@@ -30,6 +30,10 @@ ends_lines lines n first = (first.within, first.here)
 -- one line is whole lines
 pub line_is_whole : (line : List ℕ) → FirstLineEnds line (length line) → IsWholeLines line
 line_is_whole line first = subst (λ (l : List ℕ). IsWholeLines l) (take_all (length line) line (omega arith)) first.here
+
+-- its only LF is its last byte
+pub line_is_one : (line : List ℕ) → FirstLineEnds line (length line) → IsLine line
+line_is_one line first = subst (λ (l : List ℕ). IsLine l) (take_all (length line) line (omega arith)) (first_delimiter_of_byte 10 line (length line) first)
 
 -- whole lines have a first one
 pub has_first : (lines : List ℕ) → HasNoLine lines → IsWholeLines lines → ⊥

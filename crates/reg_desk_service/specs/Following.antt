@@ -12,6 +12,7 @@ use Rattle.reg_lines.specs.Script.{IsShortUntimedLine, line_of}
 use Rattle.reg_core.specs.declared.command.Query.{Query}
 use Rattle.reg_desk_server.specs.Buffers.{unsent_of}
 use Rattle.reg_desk_server.specs.Exchange.{Outcome}
+use Rattle.reg_desk_server.specs.LineEnds.{IsLine}
 use Rattle.reg_office_api.specs.Calls.{KeepsIn, LeadsIn}
 use Rattle.reg_office_api.specs.Follows.{FollowStep, FormsSign, IsLastOf}
 use Rattle.reg_office_api.specs.declared.office.Office.{Ghosts as Office}
@@ -202,10 +203,10 @@ module _ {M O D S R : Type 0} (machines : Machine M O D S R) (offices : Office O
       identity before bytes text after)
       s.0 t.0
 
-  -- A line at the control socket. One that is refused changes nothing; any other is no command, and is answered as by an open desk.
+  -- One line at the control socket. If it is refused, it changes nothing; any other is no command, and is answered as by an open desk.
   abbrev pub FollowerAnswersLines : FollowerState → List ℕ → List ℕ → FollowerState → Type 0
   FollowerAnswersLines s bytes text t =
-      (millis : ℕ) × machines.millis_read millis
+      IsLine bytes × (millis : ℕ) × machines.millis_read millis
       × ((RefusesLine (is_current_at s.2 millis) bytes text × (t ≡ s))
       ⊎ (MayAnswerLine (is_current_at s.2 millis) bytes × AnswersLinesAsOpen s bytes text t))
 
