@@ -91,6 +91,38 @@ def eight_followers_confirm(t):
     t.same(sender.reply, "subscriber 3", "the reply with eight followers")
 
 
+@test(seconds=4)
+def clients_that_leave_before_their_replies(t):
+    """Sixteen clients leave while their replies wait, half of them as soon as they have sent their line: each leaves its place to the next one."""
+    t.register(lines=LINES)
+    t.clock(CLOCK)
+    leader = t.open("ca.db", "--confirm-by", "1")
+    for at in range(16):
+        lines = program.Control(t.room / "control")
+        lines.stream.sendall(f"subscriber s{at}\n".encode())
+        if at % 2:
+            until(lambda: f"s{at}" in [row.split()[-1] for _, row in asked(t, leader)[1]], "the row")
+        lines.file.close()
+        lines.stream.close()
+    t.same(program.Control(t.room / "control", timeout=20).ask("counts"), "good 2 revoked 2 expired 0", "a query after them")
+    t.true(unconfirmed(leader), "the commands")
+
+
+@test(seconds=2)
+def a_client_that_sends_no_more_gets_its_reply(t):
+    """It has shut down its sending side while its reply waits."""
+    t.register(lines=LINES)
+    t.clock(CLOCK)
+    leader, other = t.open("ca.db", "--confirm-by", "1"), t.control()
+    lines = t.control()
+    lines.stream.sendall(b"subscriber third\n")
+    until(lambda: unconfirmed(leader), "the command")
+    lines.stream.shutdown(socket.SHUT_WR)
+    time.sleep(0.2)
+    confirm(t, leader, other, 7)
+    t.same(lines.file.readline().strip(), b"subscriber 3", "the reply")
+
+
 @test(seconds=3)
 def a_crl_that_a_signer_signs_waits(t):
     """The CRL is signed while others are answered: then its reply waits for the follower, too."""

@@ -113,7 +113,7 @@ impl<H: Handler> ControlConnections<H> {
     fn reply_on(
         &mut self,
         slot: usize,
-        connection: ControlConnection<UnixStream>,
+        mut connection: ControlConnection<UnixStream>,
         was_answered: bool,
         shared: &mut Shared,
         handler: &H,
@@ -122,6 +122,8 @@ impl<H: Handler> ControlConnections<H> {
             → (self.new ≡ record self.old { held = self.new.held }) × (shared.new ≡ shared.old) }
     {
         if was_answered && handler.holds_replies() {
+            // A client that has hung up already is reported by the next poll, as the connection is registered again.
+            let _ = register(slot, &mut connection, Interest::READABLE, &shared.poller);
             // The vector has capacity for each slot.
             let _ = self.held.push(HeldConnection { slot, connection });
         } else {
@@ -162,9 +164,20 @@ impl<H: Handler> ControlConnections<H> {
         }
     }
 
-    pub(crate) fn advance(&mut self, slot: usize, shared: &mut Shared) {
+    /// Sends or receives on the connection in a slot. If its replies wait, closes it once its client has hung up: other clients need the slot.
+    pub(crate) fn advance(&mut self, slot: usize, has_hung_up: bool, shared: &mut Shared) {
         if let Some(connection) = self.slots.take(slot) {
             self.drive(slot, connection, shared);
+        } else if has_hung_up {
+            self.close_held(slot, shared);
+        }
+    }
+
+    fn close_held(&mut self, slot: usize, shared: &mut Shared) {
+        if let Some(index) = self.held.iter().position(|held| held.slot == slot) {
+            let HeldConnection { connection, .. } = self.held.swap_remove(index);
+            let why = connection.loss();
+            self.close_lost(slot, connection, shared, why);
         }
     }
 
@@ -181,16 +194,7 @@ impl<H: Handler> ControlConnections<H> {
                 self.slots.put(slot, connection);
             }
             NextStep::Poll(interest) => {
-                let token = slot.saturating_add(FIRST_CONTROL);
-                let ControlConnection {
-                    stream,
-                    is_registered,
-                    ..
-                } = &mut connection;
-                if shared
-                    .poller
-                    .register_again(stream, token, interest, is_registered)
-                {
+                if register(slot, &mut connection, interest, &shared.poller) {
                     self.slots.put(slot, connection);
                 } else {
                     // The poller failed. Reported even if no reply is unsent: the client may be about to send a line.
@@ -326,4 +330,23 @@ impl<H: Handler> ControlConnections<H> {
             }
         }
     }
+}
+
+fn register(
+    slot: usize,
+    connection: &mut ControlConnection<UnixStream>,
+    interest: Interest,
+    poller: &Poller,
+) -> bool {
+    let ControlConnection {
+        stream,
+        is_registered,
+        ..
+    } = connection;
+    poller.register_again(
+        stream,
+        slot.saturating_add(FIRST_CONTROL),
+        interest,
+        is_registered,
+    )
 }

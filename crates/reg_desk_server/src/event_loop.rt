@@ -11,7 +11,7 @@ use crate::http_connection::HttpConnection;
 use crate::http_connections::{HttpConnections, MOST_HTTP_CONNECTIONS, SWEEP_MILLIS};
 use crate::poller::{
     CONTROL_LISTENER, FIRST_CONTROL, FIRST_HTTP, FIRST_SIGNATURE, HTTP_LISTENER, LINE_SIGNER,
-    MOST_SIGNATURES,
+    MOST_SIGNATURES, Ready,
 };
 use crate::shared::{ConnectionFaultReport, Shared};
 use crate::signature_requests::{PendingSignature, Requester, SignatureRequests, TIMEOUT_MILLIS};
@@ -136,9 +136,9 @@ impl<H: Handler> EventLoop<H> {
             .min(Duration::from_millis(until_work));
         self.shared.poller.poll(handler, longest)?;
         let now = handler.millis()?;
-        for index in 0..self.shared.poller.tokens.len() {
-            if let Some(token) = self.shared.poller.tokens.get(index).copied() {
-                self.advance(token, now);
+        for index in 0..self.shared.poller.ready.len() {
+            if let Some(ready) = self.shared.poller.ready.get(index).copied() {
+                self.advance(ready, now);
             }
         }
         if self.acceptor.lacks_descriptors || self.control.lacks_descriptors {
@@ -169,14 +169,15 @@ impl<H: Handler> EventLoop<H> {
         idle.min(for_signatures)
     }
 
-    fn advance(&mut self, token: usize, now: u64) {
+    fn advance(&mut self, ready: Ready, now: u64) {
+        let Ready { token, has_hung_up } = ready;
         if token == HTTP_LISTENER {
             self.acceptor.mark_ready();
         } else if token == CONTROL_LISTENER {
             self.control.may_accept = true;
         } else if token < FIRST_SIGNATURE {
             let slot = token.saturating_sub(FIRST_CONTROL);
-            self.control.advance(slot, &mut self.shared);
+            self.control.advance(slot, has_hung_up, &mut self.shared);
         } else if token < LINE_SIGNER {
             self.signatures
                 .advance(token.saturating_sub(FIRST_SIGNATURE));

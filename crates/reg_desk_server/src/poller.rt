@@ -39,26 +39,33 @@ pub(crate) const HANDLER: usize = LINE_SIGNER + 1;
 
 pub(crate) const FIRST_HTTP: usize = HANDLER + 1;
 
-/// Polls the registered sockets. `tokens` are those of the sockets that the last poll found ready, at most `MOST_EVENTS`; a later poll finds others.
+/// A socket that a poll found ready. `has_hung_up`: its peer neither sends nor receives any more.
+#[derive(Clone, Copy)]
+pub(crate) struct Ready {
+    pub(crate) token: usize,
+    pub(crate) has_hung_up: bool,
+}
+
+/// Polls the registered sockets. `ready` are those that the last poll found ready, at most `MOST_EVENTS`; a later poll finds others.
 #[derive(Drop)]
 pub(crate) struct Poller {
     poll: Poll,
     events: Events,
-    pub(crate) tokens: Vec<usize>,
+    pub(crate) ready: Vec<Ready>,
 }
 
 impl Poller {
     pub(crate) fn new(rt: &(impl Net + AllocGlobal)) -> io::Result<Poller>
-        ensures { IfOk result (λ poller. poller.tokens.items ≡ []) }
+        ensures { IfOk result (λ poller. poller.ready.items ≡ []) }
     {
         let alloc = rt.alloc();
-        let tokens = Vec::with_capacity(alloc, MOST_EVENTS)?;
+        let ready = Vec::with_capacity(alloc, MOST_EVENTS)?;
         let events = Events::with_capacity(alloc, MOST_EVENTS)?;
         let poll = Poll::new(rt)?;
         Ok(Poller {
             poll,
             events,
-            tokens,
+            ready,
         })
     }
 
@@ -110,11 +117,12 @@ impl Poller {
     {
         // The handler makes the call, so that contracts can count its waits (`Handler::waited`).
         handler.wait(&mut self.poll, &mut self.events, longest)?;
-        self.tokens.clear();
+        self.ready.clear();
         for event in &self.events {
             let Token(token) = event.token();
+            let has_hung_up = event.is_write_closed();
             // The vector has capacity for each event.
-            let _ = self.tokens.push(token);
+            let _ = self.ready.push(Ready { token, has_hung_up });
         }
         Ok(())
     }
