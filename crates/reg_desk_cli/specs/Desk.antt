@@ -98,12 +98,12 @@ open_app = with_rules (new_app (codes "open"))
     ∷ takes_value (codes "published") ∷ takes_value (codes "confirm-by") ∷ flag (codes "log") ∷ takes_value (codes "log-file")
     ∷ flag (codes "why") ∷ [])
 
--- `follow FILE --from ADDRESS --port N [--listen ADDRESS] [--control SOCKET] [--lag SECONDS] [--signer SOCKET --algorithm NAME] [--unsigned]
+-- `follow FILE --from ADDRESS --port N [--listen ADDRESS] [--control SOCKET] [--lag SECONDS] [--follower N] [--signer SOCKET --algorithm NAME] [--unsigned]
 -- [--responder CERT --responder-signer SOCKET --responder-algorithm NAME | --embed CERT] [--log] [--log-file PATH] [--why]`
 abbrev pub follow_app : App
 follow_app = with_rules (new_app (codes "follow"))
     (must (codes "file") ∷ needs (codes "from") ∷ needs (codes "port") ∷ takes_value (codes "listen")
-    ∷ takes_value (codes "control") ∷ takes_value (codes "lag")
+    ∷ takes_value (codes "control") ∷ takes_value (codes "lag") ∷ takes_value (codes "follower")
     ∷ takes_value (codes "signer") ∷ takes_value (codes "algorithm") ∷ flag (codes "unsigned")
     ∷ takes_value (codes "responder") ∷ takes_value (codes "responder-signer")
     ∷ takes_value (codes "responder-algorithm") ∷ takes_value (codes "embed")

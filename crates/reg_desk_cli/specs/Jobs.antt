@@ -260,6 +260,7 @@ follow_of rows = do
   leader ← leader_in rows
   endpoint ← endpoint_in rows
   lag ← lag_in rows
+  number ← value_or_default 0 (codes "follower") rows
   responder ← responder_in rows
   signer ← signer_or_unsigned responder rows
   Some (Follow (record {
@@ -270,6 +271,7 @@ follow_of rows = do
     signer = signer;
     responder = responder;
     lag = lag;
+    number = number;
   }))
 
 -- the terms of the orders; `Some None` if `--orders` is not given, `None` if its values are not two numbers

@@ -243,6 +243,7 @@ fn read_follow<'a>(given: &ArgMatches<'a>) -> Option<Job<'a>>
     let leader = leader_option(given)?;
     let endpoint = endpoint_of(given)?;
     let lag = lag_option(given)?;
+    let number = number_or(given, "follower", 0)?;
     let ocsp_responder = responder(given)?;
     let signer = signer_or_unsigned(given, &ocsp_responder)?;
     Some(Job::Follow(FollowJob {
@@ -253,6 +254,7 @@ fn read_follow<'a>(given: &ArgMatches<'a>) -> Option<Job<'a>>
         signer,
         responder: ocsp_responder,
         lag,
+        number,
     }))
 }
 

@@ -139,6 +139,8 @@ pub struct FollowJob<'a> {
     pub responder: ResponderChoice<'a>,
     /// For how many seconds the desk answers after the leader was last reached, 1 to 86,400.
     pub lag: u64,
+    /// The number by which the leader tells its followers apart.
+    pub number: u64,
 }
 
 /// Writes a list of a register's rows to standard output, as CSV with a header or as one JSON object for each line. `from` names the list: it is

@@ -124,6 +124,9 @@ const FOLLOW_CONTROL: &str =
 const LAG: &str =
     "For how many seconds to answer after the leader was last reached, 1 to 86400 [default: 60]";
 
+const FOLLOWER: &str =
+    "The number of this follower, 1 to 18 digits; a leader with --confirm-by counts each number once, so give each of its followers its own [default: 0]";
+
 const FOLLOW_SIGNER: &str =
     "The Unix socket of the signer with the issuer's key, for OCSP answers; needs --algorithm; leave it out only with --unsigned, or with --responder";
 
@@ -298,6 +301,7 @@ pub(crate) const OTHER_COMMANDS: &[CommandEntry] = &[
             Part::OptionalOption("listen", "ADDRESS", LISTEN),
             Part::OptionalOption("control", "SOCKET", FOLLOW_CONTROL),
             Part::OptionalOption("lag", "SECONDS", LAG),
+            Part::OptionalOption("follower", "N", FOLLOWER),
             Part::OptionalOption("signer", "SOCKET", FOLLOW_SIGNER),
             Part::OptionalOption("algorithm", "NAME", ALGORITHM),
             Part::Flag("unsigned", FOLLOW_UNSIGNED),

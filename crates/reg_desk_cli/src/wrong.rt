@@ -23,7 +23,7 @@ pub(crate) const LONGEST_LAG: u64 = 86_400;
 const MOST: u64 = 999_999_999_999_999_999;
 
 /// The options whose value is a number: the id and the name of each, and the least and greatest number. `policy_of` checks a policy's bounds later.
-const NUMBERS: [(&str, &str, u64, u64); 9] = [
+const NUMBERS: [(&str, &str, u64, u64); 10] = [
     ("days", "--days", 0, MOST),
     ("crl-life", "--crl-life", 0, MOST),
     ("ocsp-life", "--ocsp-life", 0, MOST),
@@ -32,6 +32,7 @@ const NUMBERS: [(&str, &str, u64, u64); 9] = [
     ("port", "--port", 1, LAST_PORT),
     ("requests", "--requests", 1, MOST_REQUESTS),
     ("lag", "--lag", 1, LONGEST_LAG),
+    ("follower", "--follower", 0, MOST),
     ("confirm-by", "--confirm-by", 1, MOST_CONFIRMING),
 ];
 

@@ -84,8 +84,7 @@ fn serve_copy<'a, 'w, M: Machine, W: Write>(
     let tally = Cell::new(Tally::new(signing, responder_not_after(machine, &job.responder)));
     let connection_totals = Cell::new(ConnectionTotals::nothing());
     let admission = Admission::new();
-    let number = machine.micros();
-    let follower = Follower::new(alloc, &job.leader, job.lag, positions, number, now);
+    let follower = Follower::new(alloc, &job.leader, job.lag, positions, job.number, now);
     let mut follow_desk: FollowDesk<'_, '_, M> = FollowDesk {
         desk: Desk {
             office,

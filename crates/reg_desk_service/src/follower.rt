@@ -41,7 +41,7 @@ const MOST_BYTES: u64 = 160_000_000;
 pub struct Follower<'a, 'w> {
     alloc: Global,
     leader: &'a LeaderAddress<'w>,
-    /// A number by which the leader tells followers apart: the microseconds of the monotonic clock at the start.
+    /// The number by which the leader tells its followers apart.
     number: u64,
     /// For how many milliseconds answers are given after the leader was last reached.
     lag: u64,
@@ -79,6 +79,7 @@ impl<'a, 'w> Follower<'a, 'w> {
     ) -> Follower<'a, 'w>
         ensures lag { result.lag ≡ min (lag * 1000) greatest }
         ensures own { result.own ≡ own }
+        ensures number { result.number ≡ number }
         ensures reached_at { result.reached_at ≡ None }
         ensures stop { result.stop ≡ None }
     {
