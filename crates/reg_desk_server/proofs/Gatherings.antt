@@ -1,12 +1,13 @@
 -- Lemmas about the bytes that come on a control connection and are kept, read by read.
 use Rattle.std.proofs.Common.{◌≡◌, ℕ, Bool, List, ◌++◌, [], ◌⊎◌, refl, sym, subst, ap, ◌∙◌, inl, inr}
 use Rattle.std.specs.Prelude.{Option, Some, None, true, false}
-use Rattle.std.specs.Io.KnownBytes.{Consumes}
+use Rattle.std.specs.Io.KnownBytes.{Consumes, IsAtEnd}
 use Rattle.std.proofs.KnownBytes.{Consumes-nil, Consumes-trans}
 use Rattle.std.proofs.lemmas.List.{append-nil, append_assoc}
-use Rattle.reg_desk_server.specs.Buffers.{Receives, SendsUnsent, unsent_of}
-use Rattle.reg_desk_server.specs.ControlLines.{Advances, Gathers, StaysEnded}
+use Rattle.reg_desk_server.specs.Buffers.{ReadsToEnd, Receives, SendsUnsent, unsent_of}
+use Rattle.reg_desk_server.specs.ControlLines.{Advances, Gathers, StaysEnded, ends_by, fault_by}
 use Rattle.reg_desk_server.specs.declared.control_connection.ControlConnection.{ControlConnection}
+use Rattle.reg_desk_server.specs.declared.handler.ConnectionFault.TheVariants as fault
 use Rattle.reg_desk_server.specs.declared.request_bytes.Received.{Received}
 use Rattle.reg_desk_server.specs.declared.request_bytes.Received.TheVariants as received
 use Rattle.reg_desk_server.specs.declared.unsent.Unsent.{Unsent}
@@ -54,6 +55,25 @@ gathers_then a b c x y z ended ended' goes first rest = record {
   held = rest.held ∙ ap (λ (l : List ℕ). l ++ rest.kept) first.held ∙ append_assoc x first.kept rest.kept;
   whole = rest.whole;
 }
+
+-- a read that ends a connection was at the end of its input, failed, or had no memory for what came
+pub ends_by_read : (failed : Type 0) (left : Option (List ℕ)) (t : Received) → ReadsToEnd failed left t → ends_by t ≡ true
+    → IsAtEnd left ⊎ (failed ⊎ (fault_by t ≡ Some fault.Memory))
+ends_by_read failed left received.Ended is ends = inl is
+ends_by_read failed left received.Broken is ends = inr (inl is)
+ends_by_read failed left received.OutOfMemory is ends = inr (inr refl)
+ends_by_read failed left received.Whole is ends = let bad : ⊥ = cc in absurd bad
+ends_by_read failed left received.Blocked is ends = let bad : ⊥ = cc in absurd bad
+ends_by_read failed left received.More is ends = let bad : ⊥ = cc in absurd bad
+
+-- a read after which bytes were kept, or lost, is not at the end
+pub kept_is_no_end : (failed : Type 0) (left : Option (List ℕ)) (t : Received) → (t ≡ received.More) ⊎ (t ≡ received.OutOfMemory) → ReadsToEnd failed left t
+kept_is_no_end failed left t (inl is) = subst (ReadsToEnd failed left) (sym is) tt
+kept_is_no_end failed left t (inr is) = subst (ReadsToEnd failed left) (sym is) tt
+
+pub kept_waits_not : (t : Received) → (t ≡ received.More) ⊎ (t ≡ received.OutOfMemory) → t ≡ received.Blocked → ⊥
+kept_waits_not t (inl is) blocked = let other : received.More ≡ received.Blocked = sym is ∙ blocked in let bad : ⊥ = cc in bad
+kept_waits_not t (inr is) blocked = let other : received.OutOfMemory ≡ received.Blocked = sym is ∙ blocked in let bad : ⊥ = cc in bad
 
 -- more of a reply was sent, and then the bytes that came were received
 pub advances_taken : {S : Type 0} (contents remaining : S → Option (List ℕ)) (old new : ControlConnection S) (m : S) (u : Unsent) (rests : Sent)

@@ -1,6 +1,6 @@
 -- The received bytes that are kept, and the part of a text that was sent.
 use Rattle.std.specs.Prelude.{◌≡◌, ◌⊎◌, ℕ, List, [], ◌∷◌, ◌++◌, Option, drop}
-use Rattle.std.specs.Io.KnownBytes.{Appends, Consumes}
+use Rattle.std.specs.Io.KnownBytes.{Appends, Consumes, IsAtEnd}
 use Rattle.reg_http_head.specs.Bytes.{collected_bytes}
 use Rattle.reg_http_head.specs.Collected.{IsWholeRequest}
 use Rattle.reg_http_head.specs.declared.collected.Collected.{Collected}
@@ -19,6 +19,15 @@ abbrev pub AddsTo : List ℕ → List ℕ → List ℕ → Received → Type 0
 AddsTo before arrived after received.OutOfMemory =
     (kept : List ℕ) × (lost : List ℕ) × (arrived ≡ kept ++ lost) × (after ≡ before ++ kept)
 AddsTo before arrived after other = after ≡ before ++ arrived
+
+-- after a read with this result: the input is at its end, if that is the result; reading failed, if that is
+abbrev pub ReadsToEnd : Type 0 → Option (List ℕ) → Received → Type 0
+ReadsToEnd failed left received.Ended = IsAtEnd left
+ReadsToEnd failed left received.Broken = failed
+ReadsToEnd failed left received.Whole = Unit {0}
+ReadsToEnd failed left received.Blocked = Unit {0}
+ReadsToEnd failed left received.More = Unit {0}
+ReadsToEnd failed left received.OutOfMemory = Unit {0}
 
 -- the bytes that were taken from the reader were appended to the kept ones; if there was no memory, the last of them may be lost
 pub record Receives (input left : Option (List ℕ)) (before after : List ℕ) (result : Received) : Type 0 where

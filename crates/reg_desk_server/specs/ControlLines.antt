@@ -1,6 +1,6 @@
 -- One control connection: the handler's replies to lines, the bytes that are left after them, and how received bytes are kept until then.
-use Rattle.std.specs.Prelude.{◌≡◌, ℕ, Bool, true, false, List, [], ◌∷◌, ◌++◌, ◌⊎◌, Option, Some, None, take, drop}
-use Rattle.std.specs.Io.KnownBytes.{Appends, Consumes}
+use Rattle.std.specs.Prelude.{◌≡◌, ℕ, Bool, true, false, List, [], ◌∷◌, ◌++◌, ◌⊎◌, ◌≤◌, Option, Some, None, length, take, drop}
+use Rattle.std.specs.Io.KnownBytes.{Appends, Consumes, IsAtEnd}
 use Rattle.reg_desk_server.specs.Buffers.{unsent_of}
 use Rattle.reg_desk_server.specs.LineEnds.{EndsLine, FirstLineEnds, HasNoLine}
 use Rattle.reg_desk_server.specs.declared.control_connection.ControlConnection.{ControlConnection}
@@ -22,6 +22,15 @@ module _ {S : Type 0} where
   -- if the connection has ended, no more bytes are kept, and it stays ended
   abbrev pub StaysEnded : ControlConnection S → ControlConnection S → Type 0
   StaysEnded old new = old.has_ended ≡ true → (new.arrived.items ≡ old.arrived.items) × (new.has_ended ≡ true)
+
+  -- a connection that had not ended has ended since: its input is at its end, a read failed, or there was no memory for what came
+  abbrev pub EndsOnlyBy : Type 0 → Option (List ℕ) → ControlConnection S → ControlConnection S → Type 0
+  EndsOnlyBy failed left old new =
+      old.has_ended ≡ false → new.has_ended ≡ true → IsAtEnd left ⊎ (failed ⊎ (new.fault ≡ Some fault.Memory))
+
+  -- a connection that has nothing to send may be closed: it has ended, or its first line is too long
+  abbrev pub MayClose : ControlConnection S → Type 0
+  MayClose it = (it.has_ended ≡ true) ⊎ (8194 ≤ length it.arrived.items)
 
   -- the kept bytes and the unsent bytes did not change
   abbrev pub SameLines : ControlConnection S → ControlConnection S → Type 0

@@ -28,7 +28,8 @@ has_failed Failed = true
 -- an exchange that waits is to be advanced at once
 abbrev pub WaitsAtOnce : FeedProgress → Type 0
 WaitsAtOnce (Waiting millis) = millis ≡ 0
-WaitsAtOnce other = Unit {0}
+WaitsAtOnce (Arrived head) = Unit {0}
+WaitsAtOnce Failed = Unit {0}
 
 module _ {S : Type 0} where
   -- the whole request was sent, and exactly a response came, which begins with this head
@@ -59,7 +60,8 @@ module _ {S : Type 0} where
   -- an exchange that waits until more can be read is to be advanced five seconds after the last byte, if none comes
   abbrev pub WaitsPatiently : ℕ → FeedExchange S → FeedProgress → Type 0
   WaitsPatiently now exchange (Waiting millis) = exchange.moved_at ≤ now → now + millis ≡ exchange.moved_at + patience
-  WaitsPatiently now exchange other = Unit {0}
+  WaitsPatiently now exchange (Arrived head) = Unit {0}
+  WaitsPatiently now exchange Failed = Unit {0}
 
   -- the facts that the last progress states: no more comes
   abbrev pub HasLastProgress : FeedExchange S → FeedProgress → Type 0

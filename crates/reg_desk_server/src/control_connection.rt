@@ -1,9 +1,9 @@
 //! One connection at the control socket: receives lines, passes them to the handler in their order, and sends the replies.
 
-ghost use Rattle.std.specs.Prelude.{◌≡◌, ◌+◌, ◌≤◌, ◌⊎◌, [], length, drop, Some, None, true, false, MatchOption, IfNone, OnOk, OnErr};
-ghost use Rattle.reg_desk_server.specs.Buffers.{AddsTo, Receives, unsent_of};
+ghost use Rattle.std.specs.Prelude.{◌≡◌, ◌+◌, ◌≤◌, ◌<◌, ◌⊎◌, [], length, drop, Some, None, true, false, MatchOption, IfNone, OnOk, OnErr};
+ghost use Rattle.reg_desk_server.specs.Buffers.{AddsTo, ReadsToEnd, Receives, unsent_of};
 ghost use Rattle.reg_desk_server.specs.LineEnds.{EndsLine, FirstLineEnds, HasNoLine};
-ghost use Rattle.reg_desk_server.specs.ControlLines.{Advances, DefersFirstLine, GathersOn, IsFresh, SameStreamAndEnd, StaysEnded, AnswersFirstLines, AnswersDeferred, ends_by, fault_by, loss_of};
+ghost use Rattle.reg_desk_server.specs.ControlLines.{Advances, DefersFirstLine, EndsOnlyBy, GathersOn, MayClose, IsFresh, SameStreamAndEnd, StaysEnded, AnswersFirstLines, AnswersDeferred, ends_by, fault_by, loss_of};
 
 use crate::handler::{ConnectionFault, Deferred, EventLoopFault, Handler, LineReplies};
 use crate::http_connection::NextStep;
@@ -12,9 +12,9 @@ use crate::stream::ClientStream;
 use crate::unsent::{Sent, Unsent};
 use mio::Interest;
 use reg_crl_signer::SignatureRequest;
-use reg_io::first_delimiter;
+use reg_io::{Source, first_delimiter};
 use std::alloc::Global;
-use std::io::{ErrorKind, Read};
+use std::io::ErrorKind;
 
 /// A connection that keeps at least this many bytes without an LF is closed. No valid line is so long: with its LF it has at most 8,193 bytes.
 const OVERLONG_LINE: usize = 8_194;
@@ -91,6 +91,11 @@ impl<S: ClientStream> ControlConnection<S> {
     pub fn advance(&mut self, read_buffer: &mut [u8]) -> NextStep
         ensures advances { Advances S.Write.contents S.Read.remaining self.old self.new }
 
+        ensures ends { 0 < length read_buffer.old
+            → EndsOnlyBy S.failed (S.Read.remaining self.new.stream) self.old self.new }
+        ensures closes { result ≡ NextStep.Close
+            → (unsent_of self.new.unsent ≡ [] → MayClose self.new) }
+
         // Once the previous reply is sent, a whole line is due, even if the client has half-closed.
         ensures whole { unsent_of self.new.unsent ≡ []
             → (result ≡ NextStep.Due) ⊎ HasNoLine self.new.arrived.items }
@@ -108,6 +113,9 @@ impl<S: ClientStream> ControlConnection<S> {
     fn receive(&mut self, read_buffer: &mut [u8]) -> NextStep
         ensures gathers { GathersOn S.Read.remaining self.old self.new }
         ensures ended { StaysEnded self.old self.new }
+        ensures ends { 0 < length read_buffer.old
+            → EndsOnlyBy S.failed (S.Read.remaining self.new.stream) self.old self.new }
+        ensures closes { result ≡ NextStep.Close → MayClose self.new }
         ensures unsent { self.new.unsent ≡ self.old.unsent }
         ensures whole { (result ≡ NextStep.Due) ⊎ HasNoLine self.new.arrived.items }
     {
@@ -129,6 +137,7 @@ impl<S: ClientStream> ControlConnection<S> {
     /// The next step if no more is to be read: `Due` if a line is whole, `Close` if the input ended without one or the line is too long. Else `None`.
     fn after_reading(&self) -> Option<NextStep>
         ensures goes_on { IfNone result (self.now.has_ended ≡ false) }
+        ensures closes { result ≡ Some NextStep.Close → MayClose self.now }
         ensures whole { (result ≡ Some NextStep.Due) ⊎ HasNoLine self.now.arrived.items }
     {
         match line_end(self.arrived.as_slice()) {
@@ -142,6 +151,8 @@ impl<S: ClientStream> ControlConnection<S> {
     /// Reads once. `false` if the read would block; `true` if another read may give more, or if nothing more is received (`has_ended`).
     fn receive_once(&mut self, read_buffer: &mut [u8]) -> bool
         ensures gathers { GathersOn S.Read.remaining self.old self.new }
+        ensures ends { 0 < length read_buffer.old
+            → EndsOnlyBy S.failed (S.Read.remaining self.new.stream) self.old self.new }
         ensures unsent { self.new.unsent ≡ self.old.unsent }
         ensures waits { result ≡ false → self.new.arrived.items ≡ self.old.arrived.items }
         ensures fault { (self.new.fault ≡ None) ⊎ (self.new.has_ended ≡ true) }
@@ -271,17 +282,18 @@ impl<S: ClientStream> ControlConnection<S> {
 }
 
 /// Reads once into `read_buffer`, which all connections share, and appends what came to `buffer`.
-pub(crate) fn gather<R: Read>(
+pub(crate) fn gather<R: Source>(
     reader: &mut R,
     buffer: &mut Vec<u8>,
     read_buffer: &mut [u8],
 ) -> Received
     ensures receives { Receives (R.remaining reader.old) (R.remaining reader.new)
         buffer.old.items buffer.new.items result }
+    ensures ends { 0 < length read_buffer.old → ReadsToEnd R.failed (R.remaining reader.new) result }
     ensures waits { result ≡ Received.Blocked → buffer.new.items ≡ buffer.old.items }
     ensures bounded { length buffer.new.items ≤ length buffer.old.items + length read_buffer.old }
 {
-    match reader.read(read_buffer) {
+    match reader.try_read(read_buffer) {
         Ok(0) => Received::Ended,
         Ok(count) => keep_bytes(buffer, &read_buffer[..count]),
         Err(error) => match error.kind() {
@@ -294,7 +306,7 @@ pub(crate) fn gather<R: Read>(
 
 fn keep_bytes(buffer: &mut Vec<u8>, arrived: &[u8]) -> Received
     ensures adds { AddsTo buffer.old.items arrived.now buffer.new.items result }
-    ensures goes { ¬ (result ≡ Received.Blocked) }
+    ensures goes { (result ≡ Received.More) ⊎ (result ≡ Received.OutOfMemory) }
     ensures bounded { length buffer.new.items ≤ length buffer.old.items + length arrived.now }
 {
     match buffer.extend_from_slice(arrived) {

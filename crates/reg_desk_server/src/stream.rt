@@ -3,10 +3,10 @@
 use mio::event::Source;
 use mio::net::{TcpStream, UnixStream};
 use std::io;
-use std::io::{Read, Write};
+use std::io::Write;
 use std::net::Shutdown;
 
-pub trait ClientStream: Read + Write + Source {
+pub trait ClientStream: reg_io::Source + Write + Source {
     /// Shuts down the sending side of the connection. The errors are those of shutdown(2).
     fn finish(&self) -> io::Result<()>;
 }

@@ -1,10 +1,10 @@
-use Rattle.std.proofs.Common.{refl, sym, subst, inr, ℕ, List, ◌∷◌, [], ◌∙◌}
+use Rattle.std.proofs.Common.{refl, sym, subst, inr, ◌<◌, ℕ, List, ◌∷◌, [], ◌∙◌}
 use Rattle.reg_io.specs.Delimiter.{HasNoDelimiter}
 use Rattle.reg_desk_server.proofs.Gatherings.{gathers_none, gathers_then, goes_on, not_due}
 use Rattle.reg_desk_server.proofs.control_connection.ControlConnection.receive.Goals as goal
 
 pub loop-init : goal.loop-init
-loop-init g c = (gathers_none _ _ _, λ was. (refl, was), refl)
+loop-init g c = (gathers_none _ _ _, λ was. (refl, was), refl, λ room was ends. absurd (goes_on _ was ends), refl)
 
 pub returns-then-not-receive_once-clause-gathers : goal.returns-then-not-receive_once-clause-gathers
 returns-then-not-receive_once-clause-gathers g c =
@@ -22,4 +22,10 @@ loop-preserved g c = (
   gathers_then _ _ _ _ _ _ _ _ c.in_default.ensures.goes_on c.loop.invariant.0 c.receive_once.ensures.gathers,
   λ was. absurd (goes_on _ c.in_default.ensures.goes_on (c.loop.invariant.1 was).1),
   c.receive_once.ensures.unsent ∙ c.loop.invariant.2,
+  λ room was. c.receive_once.ensures.ends (subst (λ (n : ℕ). 0 < n) (sym c.loop.invariant.4) room) c.in_default.ensures.goes_on,
+  c.receive_once.auto.read_buffer ∙ c.loop.invariant.4,
 )
+
+pub returns-then-not-receive_once-clause-ends : goal.returns-then-not-receive_once-clause-ends
+returns-then-not-receive_once-clause-ends g c room was =
+    c.receive_once.ensures.ends (subst (λ (n : ℕ). 0 < n) (sym c.loop.invariant.4) room) c.in_default.ensures.goes_on
