@@ -76,21 +76,25 @@ module _ {S T : Type 0} (answers : S → List ℕ → Outcome T → S → Type 0
         none = λ is. let bad : ⊥ = cc in absurd bad;
       }
 
--- A desk, whether it is open, its limits, and the records that stand in it; who signs, and what the clock reached.
+-- A desk, whether it is open, its limits, and the records that stand in it; who signs, what the clock reached, and what followers confirm.
 module _ {S : Type 0} (is_clean : S → Type 0) (stands : OfficeSigners → S → Records → Type 0) (is_open : S → Bool) (admission_of : S → Admission)
-    (signs : Signs) (signer_answered : List ℕ → List ℕ → List ℕ → Type 0) (socket : Option (List ℕ)) (clock : ℕ → Type 0) where
+    (signs : Signs) (signer_answered : List ℕ → List ℕ → List ℕ → Type 0) (socket : Option (List ℕ)) (clock : ℕ → Type 0)
+    (confirms : S → List ℕ → Outcome Unsigned → S → Type 0) (confirms_lines : S → List ℕ → S → Type 0) (confirms_none : S → S → Type 0) where
   -- what it answers, tells and looks at
   abbrev AnswersOf : S → List ℕ → Outcome Unsigned → S → Type 0
   AnswersOf s came outcome t = (is_open t ≡ is_open s) × Leads is_clean stands
       (λ signers before after. Meets (FinishesUnsigned (AnsweredAtSomePath signer_answered))
       (λ text. AnswersBy (is_open s) signs clock (admission_of s) (admission_of t) signers before came text after) outcome) s t
+      × confirms s came outcome t
 
   abbrev AnswersLinesOf : S → List ℕ → List ℕ → S → Type 0
   AnswersLinesOf s came text t = IsTrue (is_open s) × IsTrue (is_open t) × IsAdmissionAfter came (admission_of s) (admission_of t)
       × Leads is_clean stands (λ signers before after. AnswersLinesByClock (admission_of s).accepted signs clock signers before came text after) s t
+      × confirms_lines s came t
 
   abbrev DefersOf : S → List ℕ → S → Type 0
   DefersOf s came t = (is_open t ≡ is_open s) × (admission_of t ≡ admission_of s) × Leads is_clean stands (λ signers before after. after ≡ before) s t
+      × confirms_none s t
 
   -- the records that stand in it, and its limits
   abbrev Stands : OfficeSigners → S → DeskState → Type 0

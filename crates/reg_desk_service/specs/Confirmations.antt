@@ -1,9 +1,11 @@
 -- When the replies to commands wait for followers, and which requests confirm that a follower has all commands.
-use Rattle.std.specs.Prelude.{◌==◌, ◌&&◌, ◌||◌, ◌-◌, ◌+◌, ℕ, nat_le, nat_lt, not, Bool, true, false, cond, List, [], ◌++◌, length, take, drop, is_none, codes, if◌then◌else◌, Option, Some, None, slice_set}
+use Rattle.std.specs.Prelude.{◌≡◌, ◌⊎◌, ◌==◌, ◌&&◌, ◌||◌, ◌-◌, ◌+◌, ℕ, nat_le, nat_lt, not, Bool, true, false, cond, List, [], ◌++◌, length, take, drop, is_none, codes, if◌then◌else◌, Option, Some, None, IsFalse, slice_set}
 use Rattle.std.specs.List.{ends_with, list_any, position, starts_with}
 use Rattle.std.specs.Option.{option_or}
 use Rattle.reg_core.specs.Number.{number_of}
 use Rattle.reg_desk_server.specs.Exchange.{Outcome, said, pending, later}
+use Rattle.reg_desk_server.specs.LineEnds.{FirstLineEnds}
+use Rattle.reg_desk_service.specs.Following.{IsNoCommand}
 use Rattle.reg_desk_service.specs.declared.confirmation.Confirmation.{Confirmation}
 
 -- ---- a request that confirms
@@ -84,6 +86,13 @@ after_lines had_command now it =
     if is_wanted it then cond had_command
     (record it { had_command = true; count = 0; since = option_or it.since (Some now) })
     (record it { had_command = false }) else it
+
+-- the same after the first of these lines, or the first several: they may have no command only if the first one is none
+abbrev pub AfterFirstLine : List ℕ → ℕ → Confirmation → Confirmation → Type 0
+AfterFirstLine lines now old new =
+    (IsFalse (is_wanted old) × (new ≡ old))
+    ⊎ ((end : ℕ) × (had_command : Bool) × FirstLineEnds lines end × (new ≡ after_lines had_command now old)
+    × (IsFalse had_command → IsNoCommand (take end lines)))
 
 -- whether a follower is among those that have all commands
 abbrev pub has_follower : ℕ → Confirmation → Bool

@@ -1,6 +1,15 @@
 -- The end of the changes feed, as far as a desk knows it, and the requests that wait for changes after it.
-use Rattle.std.specs.Prelude.{◌==◌, ◌&&◌, ℕ, not, Bool, false, List, length, take, drop, codes, Option, Some, None}
+use Rattle.std.specs.Prelude.{◌≡◌, ◌⊎◌, ◌==◌, ◌&&◌, ℕ, not, Bool, false, List, [], length, take, drop, codes, Option, Some, None}
 use Rattle.std.specs.List.{ends_with, position, starts_with}
+use Rattle.reg_desk_server.specs.LineEnds.{FirstLineEnds}
+use Rattle.reg_desk_service.specs.Following.{IsNoCommand}
+use Rattle.reg_desk_service.specs.declared.feed_end.FeedEnd.{FeedEnd}
+
+-- after the first of these lines, or the first several, no end is known, unless the first one is no command
+abbrev pub ForgetsAfter : List ℕ → FeedEnd → FeedEnd → Type 0
+ForgetsAfter lines old new =
+    (new.positions.items ≡ [])
+    ⊎ ((new ≡ old) × ((end : ℕ) × FirstLineEnds lines end × IsNoCommand (take end lines)))
 
 -- parameters, of which a space ends the last, at this index: they begin with `&`, and the last is `wait=1`
 abbrev pub waits_before : List ℕ → Option ℕ → Bool

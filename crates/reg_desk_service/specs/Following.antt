@@ -157,6 +157,10 @@ HasKind line commands kind = IsCommandLineKind line kind
 abbrev pub IsLineKind : List ℕ → LineKind → Type 0
 IsLineKind line kind = HasKind line (meaning_in line) kind
 
+-- the line is a query, or of another kind, but no command
+abbrev pub IsNoCommand : List ℕ → Type 0
+IsNoCommand line = IsLineKind line Question ⊎ IsLineKind line Other
+
 -- a follower that is current or not refuses a line: a command with `follower`; a query with `behind` once its lag is over; or it is out of memory
 abbrev pub RefusesLine : Bool → List ℕ → List ℕ → Type 0
 RefusesLine is_current line text =

@@ -4,6 +4,10 @@ use Rattle.std.specs.List.{flat_map, position}
 use Rattle.std.specs.Option.{option_map_or}
 use Rattle.reg_core.specs.Calendar.{moment_text}
 use Rattle.reg_core.specs.Serial.{serial_text}
+use Rattle.reg_desk_metrics.specs.Tallies.{one_more}
+use Rattle.reg_desk_metrics.specs.declared.numbers.ConnectionTotals.{ConnectionTotals}
+use Rattle.reg_desk_server.specs.declared.handler.ConnectionFault.{ConnectionFault}
+use Rattle.reg_desk_server.specs.declared.handler.ConnectionFault.TheVariants.{Broken, TimedOut, Evicted, Memory}
 use Rattle.reg_http.specs.declared.answered.LoggedRevocationRequest.{LoggedRevocationRequest}
 use Rattle.reg_http.specs.RouteNames.{before}
 
@@ -53,3 +57,17 @@ exchange_line now client asked answered micros named signature_failed =
 -- the line of a fault of a connection, without its LF
 abbrev pub lost_line : ℕ → List ℕ → List ℕ → List ℕ
 lost_line now client why = moment_text now ++ (32 ∷ client) ++ codes " lost " ++ why
+
+-- the word for the fault in that line
+abbrev pub loss_word : ConnectionFault → List ℕ
+loss_word Broken = codes "broken"
+loss_word TimedOut = codes "late"
+loss_word Evicted = codes "crowded"
+loss_word Memory = codes "memory"
+
+-- the counts of connections with one more that was lost by the fault
+abbrev pub with_loss : ConnectionTotals → ConnectionFault → ConnectionTotals
+with_loss totals Broken = record totals { broken = one_more totals.broken }
+with_loss totals TimedOut = record totals { late = one_more totals.late }
+with_loss totals Evicted = record totals { evicted = one_more totals.evicted }
+with_loss totals Memory = record totals { memory = one_more totals.memory }

@@ -2,10 +2,11 @@
 
 ghost use Rattle.std.specs.Prelude.{◌≡◌, ◌==◌, ◌<◌, length, IsTrue, IfSome};
 ghost use Rattle.std.specs.List.{position};
+ghost use Rattle.reg_desk_server.specs.LineEnds.{IsWholeLines};
 ghost use Rattle.reg_desk_server.specs.Outcomes.{outcome_of};
-ghost use Rattle.reg_desk_service.specs.Confirmations.{after_lines, after_outcome, after_request, follower_in_query, follower_number, confirming_in, confirming_number, ends_feed, follower_in, has_follower, holds_reply, is_confirmed, is_done_with, is_wanted, unwaiting, with_follower};
+ghost use Rattle.reg_desk_service.specs.Confirmations.{AfterFirstLine, after_lines, after_outcome, after_request, follower_in_query, follower_number, confirming_in, confirming_number, ends_feed, follower_in, has_follower, holds_reply, is_confirmed, is_done_with, is_wanted, unwaiting, with_follower};
 
-use crate::line_kinds::{LineKind, before_line_end, kind_of};
+use crate::line_kinds::{first_line, may_be_command};
 use crate::unsigned_responses::Unsigned;
 use reg_core::{Moment, read_number};
 use reg_io::ReadyOrUnsigned;
@@ -97,17 +98,14 @@ impl Confirmation {
     }
 
     /// The first of these lines was answered at `now`, or the first several, which are then commands.
-    pub(crate) fn first_lines_answered(&mut self, alloc: Global, lines: &[u8], now: Moment) {
+    pub(crate) fn first_lines_answered(&mut self, alloc: Global, lines: &[u8], now: Moment)
+        requires { IsWholeLines lines.now }
+        ensures { AfterFirstLine lines.now now self.old self.new }
+    {
         if !self.is_wanted() {
             return;
         }
-        // A line for which there was no memory may have been a command.
-        let had_command = match kind_of(alloc, before_line_end(lines)) {
-            Ok(LineKind::Query) => false,
-            Ok(LineKind::Other) => false,
-            Ok(LineKind::Command) => true,
-            Err(_) => true,
-        };
+        let had_command = may_be_command(alloc, first_line(lines));
         self.lines_answered(had_command, now);
     }
 

@@ -2,7 +2,7 @@
 
 ghost use Rattle.std.specs.Prelude.{◌≡◌, IfOk, IfSome, OnErr, option_copied};
 ghost use Rattle.reg_office_api.specs.Calls.{KeepsIn, LeadsIn};
-ghost use Rattle.reg_desk_service.specs.LineSignatures.{AnsweredBySigner, IsLineSignature, socket_for};
+ghost use Rattle.reg_desk_service.specs.LineSignatures.{AnsweredBySigner, IsLineSignature, kind_of_signature, socket_for};
 ghost use Rattle.reg_desk_service.specs.Signers.{crl_socket};
 ghost use Rattle.reg_desk_service.specs.ControlWords.{IsAdmissionAfter, AnswersLinesByClock};
 ghost use Rattle.reg_desk_server.specs.LineEnds.{IsLine};
@@ -51,7 +51,9 @@ pub(crate) struct LineSignature {
 /// How many milliseconds after `began` a signer without an answer has timed out. The event loop's ten seconds begin earlier than `began`: hence less.
 const TIMEOUT: u64 = 9_500;
 
-fn signature_kind_by(command_line: &ParsedLine<'_>) -> Option<SignatureKind> {
+fn signature_kind_by(command_line: &ParsedLine<'_>) -> Option<SignatureKind>
+    ensures { result ≡ kind_of_signature command_line.now }
+{
     match *command_line {
         ParsedLine::Command(Command::Crl) => Some(SignatureKind::Crl),
         ParsedLine::Ocsp(_) => Some(SignatureKind::Answer),
@@ -219,6 +221,7 @@ impl<'a, 'w, M: Machine> Desk<'a, 'w, M> {
     ) -> Option<Deferred<LineTicket>>
         ensures open { self.new.is_open ≡ self.old.is_open }
         ensures admission { self.new.admission ≡ self.old.admission }
+        ensures confirmation { self.new.confirmation ≡ self.old.confirmation }
         ensures moves { KeepsIn M.Office.Office
             self.old.office self.new.office }
     {
@@ -255,6 +258,7 @@ impl<'a, 'w, M: Machine> Desk<'a, 'w, M> {
     fn is_ahead(&mut self, moment: Moment) -> bool
         ensures open { self.new.is_open ≡ self.old.is_open }
         ensures admission { self.new.admission ≡ self.old.admission }
+        ensures confirmation { self.new.confirmation ≡ self.old.confirmation }
         ensures moves { KeepsIn M.Office.Office
             self.old.office self.new.office }
     {
@@ -295,6 +299,7 @@ impl<'a, 'w, M: Machine> Desk<'a, 'w, M> {
         requires line { IsLine line.now }
         ensures open { self.new.is_open ≡ self.old.is_open }
         ensures admission { IsAdmissionAfter line.now self.old.admission self.new.admission }
+        ensures confirmation { self.new.confirmation ≡ self.old.confirmation }
         ensures moves { LeadsIn M.Office.Office
             (λ identity before after. AnswersLinesByClock self.old.admission.accepted
             M.Office.signs M.clock_reached

@@ -1,6 +1,7 @@
 //! The handler of `desk serve` and `desk open`: it answers HTTP requests, and lines at the control socket.
 
 ghost use Rattle.std.specs.Prelude.{◌≡◌, IfOk, MatchOption, OnErr};
+ghost use Rattle.reg_desk_service.specs.Log.{with_loss};
 
 use crate::admission::Admission;
 use crate::confirmation::Confirmation;
@@ -68,8 +69,8 @@ impl<'a, 'w, M: Machine> Desk<'a, 'w, M> {
 
 // The trait `Handler` describes each function and relation. `kept`: an earlier signature request, whose connection to the signer may be used again.
 impl<'a, 'w, M: Machine> Handler for Desk<'a, 'w, M> {
-    ghost use Rattle.std.specs.Prelude.{[], ◌&&◌, IsTrue};
-    ghost use Rattle.reg_desk_service.specs.Confirmations.{holds_reply, is_confirmed, is_done_with};
+    ghost use Rattle.std.specs.Prelude.{[], ◌&&◌, ℕ, IsTrue};
+    ghost use Rattle.reg_desk_service.specs.Confirmations.{AfterFirstLine, after_outcome, holds_reply, is_confirmed, is_done_with};
     ghost use Rattle.reg_desk_service.specs.FeedEnds.{waits_for_changes};
     ghost use Rattle.reg_office_api.specs.Calls.{KeepsIn, LeadsIn};
     ghost use Rattle.reg_desk_service.specs.ControlWords.{IsAdmissionAfter, AnswersLinesByClock};
@@ -89,16 +90,16 @@ impl<'a, 'w, M: Machine> Handler for Desk<'a, 'w, M> {
         (λ identity before after. Meets (FinishesUnsigned (AnsweredAtSomePath M.signer_answered))
         (λ text. AnswersBy s.is_open M.Office.signs M.clock_reached s.admission t.admission
         identity before request text after) outcome)
-        s.office t.office };
+        s.office t.office × (t.confirmation ≡ after_outcome request outcome s.confirmation) };
 
     ghost answers_lines = { λ s bytes text t. IsTrue s.is_open × IsTrue t.is_open
         × IsAdmissionAfter bytes s.admission t.admission × LeadsIn M.Office.Office
         (λ identity before after. AnswersLinesByClock s.admission.accepted M.Office.signs M.clock_reached
         identity before bytes text after)
-        s.office t.office };
+        s.office t.office × ((now : ℕ) × AfterFirstLine bytes now s.confirmation t.confirmation) };
 
     ghost defers = { λ s line t. (t.is_open ≡ s.is_open) × (t.admission ≡ s.admission)
-        × KeepsIn M.Office.Office s.office t.office };
+        × KeepsIn M.Office.Office s.office t.office × (t.confirmation ≡ s.confirmation) };
 
     ghost finishes = { λ s. FinishesUnsigned
         (AnsweredByOcspSigner M.signer_answered s.signer.now s.responder.now) };
@@ -234,9 +235,10 @@ impl<'a, 'w, M: Machine> Handler for Desk<'a, 'w, M> {
             last_reason,
         );
         self.tally.set(tally);
+        let answered = &lines[..replies.length];
         self.confirmation
-            .first_lines_answered(self.alloc, lines, now);
-        self.feed_end.first_lines_answered(self.alloc, lines);
+            .first_lines_answered(self.alloc, answered, now);
+        self.feed_end.first_lines_answered(self.alloc, answered);
         Ok(replies)
     }
 
@@ -270,13 +272,15 @@ impl<'a, 'w, M: Machine> Handler for Desk<'a, 'w, M> {
         requires line { IsLine line.now }
         ensures ok { IfOk result (λ answered. MatchOption answered
             ((self.new.is_open ≡ self.old.is_open) × (self.new.admission ≡ self.old.admission)
-            × KeepsIn M.Office.Office self.old.office self.new.office)
+            × KeepsIn M.Office.Office self.old.office self.new.office
+            × (self.new.confirmation ≡ self.old.confirmation))
             (λ text. IsTrue self.old.is_open × IsTrue self.new.is_open
             × IsAdmissionAfter line.now self.old.admission self.new.admission × LeadsIn M.Office.Office
             (λ identity before after. AnswersLinesByClock self.old.admission.accepted
             M.Office.signs M.clock_reached
             identity before line.now text.items after)
-            self.old.office self.new.office)) }
+            self.old.office self.new.office
+            × ((now : ℕ) × AfterFirstLine line.now now self.old.confirmation self.new.confirmation))) }
         ensures err { OnErr result ((self.new ≡ self.old) × (last_reason.new ≡ last_reason.old)) }
         ensures fails { OnErr result M.failed }
     {
@@ -341,7 +345,9 @@ impl<'a, 'w, M: Machine> Handler for Desk<'a, 'w, M> {
     }
 }
 
-fn with_loss(connection_totals: ConnectionTotals, why: ConnectionFault) -> ConnectionTotals {
+fn with_loss(connection_totals: ConnectionTotals, why: ConnectionFault) -> ConnectionTotals
+    ensures { result ≡ with_loss connection_totals why }
+{
     let mut connection_totals = connection_totals;
     match why {
         ConnectionFault::Broken => connection_totals.broken = connection_totals
@@ -363,7 +369,13 @@ fn with_loss(connection_totals: ConnectionTotals, why: ConnectionFault) -> Conne
 fn with_connection_counts(
     connection_totals: ConnectionTotals,
     connection_counts: ConnectionCounts,
-) -> ConnectionTotals {
+) -> ConnectionTotals
+    ensures { result ≡ record connection_totals {
+      open_http = connection_counts.open_http;
+      open_control = connection_counts.open_control;
+      accepted = connection_counts.accepted;
+    } }
+{
     ConnectionTotals {
         open_http: connection_counts.open_http as u64,
         open_control: connection_counts.open_control as u64,

@@ -1,5 +1,8 @@
 //! Writes exchanges and faults of connections to the log, if there is one. A [`LoggedRevocationRequest`] is a request for revocation, not of HTTP.
 
+ghost use Rattle.std.specs.Prelude.{◌≡◌};
+ghost use Rattle.reg_desk_service.specs.Log.{loss_word};
+
 use crate::log_lines::{exchange_line, lost_line};
 use crate::machine::Machine;
 use reg_core::Moment;
@@ -106,7 +109,9 @@ fn put<M: Machine>(machine: &M, line: Result<Vec<u8>, AllocError>) {
 }
 
 /// The log's word for a fault. `late` and `crowded` are older words for `TimedOut` and `Evicted`, kept for programs that read the log.
-fn word_of(why: ConnectionFault) -> &'static [u8] {
+fn word_of(why: ConnectionFault) -> &'static [u8]
+    ensures { result.now ≡ loss_word why }
+{
     match why {
         ConnectionFault::Broken => b"broken",
         ConnectionFault::TimedOut => b"late",

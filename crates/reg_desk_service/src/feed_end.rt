@@ -1,10 +1,11 @@
 //! Whether a request for changes has to wait: the last page ended the changes feed with the positions that it asks for, and nothing came since.
 
 ghost use Rattle.std.specs.Prelude.{◌≡◌, []};
-ghost use Rattle.reg_desk_service.specs.FeedEnds.{asks_after, waits_for_changes, waits_in};
+ghost use Rattle.reg_desk_server.specs.LineEnds.{IsWholeLines};
+ghost use Rattle.reg_desk_service.specs.FeedEnds.{ForgetsAfter, asks_after, waits_for_changes, waits_in};
 
 use crate::confirmation::first_space;
-use crate::line_kinds::{LineKind, before_line_end, kind_of};
+use crate::line_kinds::{first_line, may_be_command};
 use crate::unsigned_responses::Unsigned;
 use reg_io::ReadyOrUnsigned;
 use std::alloc::Global;
@@ -42,16 +43,15 @@ impl FeedEnd {
     }
 
     /// The first of these lines was answered, or the first several, which are then commands. After a command there may be news.
-    pub(crate) fn first_lines_answered(&mut self, alloc: Global, lines: &[u8]) {
+    pub(crate) fn first_lines_answered(&mut self, alloc: Global, lines: &[u8])
+        requires { IsWholeLines lines.now }
+        ensures { ForgetsAfter lines.now self.old self.new }
+    {
         if self.positions.is_empty() {
             return;
         }
-        // A line for which there was no memory may have been a command.
-        match kind_of(alloc, before_line_end(lines)) {
-            Ok(LineKind::Query) => {}
-            Ok(LineKind::Other) => {}
-            Ok(LineKind::Command) => self.forget(),
-            Err(_) => self.forget(),
+        if may_be_command(alloc, first_line(lines)) {
+            self.forget();
         }
     }
 

@@ -1,8 +1,8 @@
 //! The kinds of lines at the control socket: commands, queries and others.
 
-ghost use Rattle.std.specs.Prelude.{◌≡◌, IfOk, length, take};
+ghost use Rattle.std.specs.Prelude.{◌≡◌, IfOk, IsFalse, length, take};
 ghost use Rattle.reg_desk_server.specs.LineEnds.{FirstLineEnds, IsWholeLines};
-ghost use Rattle.reg_desk_service.specs.Following.{IsLineKind, IsTextKind};
+ghost use Rattle.reg_desk_service.specs.Following.{IsLineKind, IsNoCommand, IsTextKind};
 
 use crate::words::{ControlWord, read_control_line};
 use reg_desk_server::line_end;
@@ -49,11 +49,15 @@ fn kind_of_text(text: &[u8]) -> LineKind
     }
 }
 
-/// The bytes up to the first line end, with it; all bytes if there is none.
-pub(crate) fn before_line_end(lines: &[u8]) -> &[u8] {
-    match line_end(lines) {
-        Some(end) => &lines[..end],
-        None => lines,
+/// Whether a line is a command, or may be one, because there is no memory to read it.
+pub(crate) fn may_be_command(alloc: Global, line: &[u8]) -> bool
+    ensures { IsFalse result → IsNoCommand line.now }
+{
+    match kind_of(alloc, line) {
+        Ok(LineKind::Query) => false,
+        Ok(LineKind::Other) => false,
+        Ok(LineKind::Command) => true,
+        Err(_) => true,
     }
 }
 

@@ -1,8 +1,10 @@
 //! The reasons in the replies to `why` at the control socket, and those of refused registrations that `--strict --why` (`script`, `import`) prints.
 
-ghost use Rattle.std.specs.Prelude.{◌≡◌, ◌++◌, ◌∷◌, [], IfOk, IfSome};
+ghost use Rattle.std.specs.Prelude.{◌≡◌, ◌⊎◌, ◌≤◌, ◌++◌, ◌∷◌, [], IfNone, IfOk, IfSome, option_map};
 ghost use Rattle.reg_office_api.specs.Calls.{KeepsIn};
 ghost use Rattle.reg_desk_service.specs.ControlReplies.{ReportsLineOutcome};
+ghost use Rattle.reg_desk_service.specs.Syntax.{wrong_in};
+ghost use Rattle.reg_lines.specs.Fields.{fields_of};
 ghost use Rattle.reg_desk_service.specs.Reasons.{IsReasonLine, ahead_text, last_second, latest_text, text_with_number, other_text, reason_text, kept_reason_text};
 
 use crate::control_reply::{ControlReply, LineOutcome};
@@ -97,7 +99,9 @@ pub(crate) fn keep_syntax_reason(
     }
 }
 
-fn wrong_field_reason(line: &[u8]) -> Option<Reason> {
+fn wrong_field_reason(line: &[u8]) -> Option<Reason>
+    ensures { result ≡ option_map (λ field. Reason.Wrong field) (wrong_in (fields_of line.now)) }
+{
     Some(Reason::Wrong(wrong_field(line)?))
 }
 
@@ -152,7 +156,8 @@ pub fn keep_reason<M: Machine>(
 
 /// The last second of a validity of `days` days from `not_before` on. Both ends count (RFC 5280 4.1.2.5), so one second is subtracted.
 fn last_moment_of(not_before: Moment, days: u64) -> Option<Moment>
-    ensures { IfSome result (λ at. at ≡ last_second not_before days) }
+    ensures some { IfSome result (λ at. at ≡ last_second not_before days) }
+    ensures none { IfNone result ((days ≡ 0) ⊎ (253402300800 ≤ last_second not_before days)) }
 {
     let seconds = days.checked_mul(DAY)?.checked_sub(1)?;
     Moment::of_secs(not_before.secs().checked_add(seconds)?)

@@ -1,8 +1,9 @@
-use Rattle.std.proofs.Common.{[], ap, inl, inr, refl}
+use Rattle.std.proofs.Common.{◌≡◌, ℕ, [], ap, inl, inr, refl}
 use Rattle.std.specs.Prelude.{is_some}
 use Rattle.reg_office_api.proofs.PublicLaws.{follows, stays}
 use Rattle.reg_core.specs.Records.{Records}
 use Rattle.reg_desk_service.specs.Admission.{first_admission}
+use Rattle.reg_desk_service.specs.Confirmations.{AfterFirstLine, after_outcome}
 use Rattle.reg_desk_service.specs.Signers.{answer_socket}
 use Rattle.reg_desk_jobs.proofs.DeskRuns.{desk_moves}
 use Rattle.reg_desk_jobs.proofs.PrintedTexts.{unbound}
@@ -31,6 +32,9 @@ returns g c =
     g.M.Machine.signer_answered
     (answer_socket c.args.signer.now c.args.responder.now)
     g.M.Machine.clock_reached
+    (λ desk request outcome after. after.confirmation ≡ after_outcome request outcome desk.confirmation)
+    (λ desk came after. (now : ℕ) × AfterFirstLine came now desk.confirmation after.confirmation)
+    (λ desk after. after.confirmation ≡ desk.confirmation)
     (is_some c.args.control_path)
     _
     c.run_event_loop-ending.new.handler

@@ -20,5 +20,9 @@ returns-clause-ok g c =
             (λ identity before after. AnswersLinesAt accepted g.M.Office.Office.signs c.in-Ok.now identity before (pieces bytes) replies.text.items after)
             (λ identity before after. AnswersLinesByClock accepted g.M.Office.Office.signs g.M.Machine.clock_reached identity before bytes replies.text.items after)
             (λ identity before after said. (c.in-Ok.now, c.in-Ok.ensures.by_clock, said)) _ _ c.answer_first_lines-replies.ensures.moves,
+        (c.in-Ok.now, c.first_lines_answered.ensures),
       ),
     )
+
+pub first_lines_answered-requires : goal.first_lines_answered-requires
+first_lines_answered-requires g c = c.answer_first_lines-replies.ensures.ends.1
