@@ -44,8 +44,8 @@ const MOST_EVENTS: usize = 8;
 
 /// Creates a file at a path with the register of the leader. All its pages are kept in memory first. Another file, whose name ends with `.fill`, then
 /// gets their rows in one transaction; it is copied, and removed. While the leader can't be reached, it is asked once a second. Errors: `BrokenFeed`
-/// if a page can't be read or breaks a rule; `BadSigner` if the issuer's key doesn't fit the algorithm of the first CRL; `Memory`; `Store`; `Read` if
-/// the clock or the sockets fail.
+/// if a page can't be read or breaks a rule; `BadSigner` if the issuer's key doesn't fit the algorithm of the first signed CRL; `Memory`; `Store`;
+/// `Read` if the clock or the sockets fail.
 pub(crate) fn fill<M: Machine>(
     rt: &HostRuntime,
     machine: &mut M,
@@ -115,7 +115,7 @@ fn path_with(alloc: Global, file: &str, suffix: &str) -> Result<String, Failure>
     }
 }
 
-/// Creates a register at a path, and enters all pages. Its signer of CRLs signs nothing, and has the algorithm of the first CRL.
+/// Creates a register at a path, and enters all pages. Its signer of CRLs signs nothing, and has the algorithm of the first signed CRL.
 fn fill_file<M: Machine>(
     alloc: Global,
     machine: &mut M,

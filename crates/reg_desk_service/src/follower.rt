@@ -457,14 +457,20 @@ fn no_progress() -> BrokenFeed {
     }
 }
 
-/// The algorithm of the first CRL in pages. `None` if there is none, or if it has a placeholder digest or an unknown algorithm.
+/// The algorithm of the first CRL in pages that has a signature; the ones before it have placeholder digests. `None` if no CRL has a known algorithm.
 pub fn algorithm_in(pages: &[ReceivedPage]) -> Option<Algorithm> {
     for page in pages {
-        if let Some(crl) = &page.crl {
-            return Algorithm::from_identifier(crl_algorithm(&crl.der)?);
+        if let Some(algorithm) = algorithm_on(page) {
+            return Some(algorithm);
         }
     }
     None
+}
+
+/// The algorithm of the CRL of a page. `None` for a page without a CRL, a placeholder digest, or an unknown algorithm.
+fn algorithm_on(page: &ReceivedPage) -> Option<Algorithm> {
+    let crl = page.crl.as_ref()?;
+    Algorithm::from_identifier(crl_algorithm(&crl.der)?)
 }
 
 /// Writes a failure to standard error; without memory, nothing.

@@ -30,7 +30,7 @@ use Rattle.reg_office_reads.proofs.PublicLaws.{of_failure}
 -- ---- the next CRL
 
 -- its nextUpdate is one life behind its thisUpdate
-next_of :
+pub next_of :
     (records : Records) (now : ℕ) (next : CrlRow × ℕ) → IsNextOf records now next → next.1 ≡ next.0.this_update + records.policy.crl_life
 next_of records now next is = is.next_update ∙ ap (λ (n : ℕ). n + records.policy.crl_life) (sym (ap (λ (r : CrlRow). r.this_update) is.row_is))
 

@@ -1,5 +1,6 @@
 pub mod Agreeing
 pub mod Batching
+pub mod BeforeKey
 pub mod BatchStops
 pub mod CommandsRun
 pub mod DeclinedTwice

@@ -35,13 +35,14 @@ use Rattle.reg_store_tables.specs.Steps.{WritesRows}
 use Rattle.reg_office.specs.Batches.{StandsWithin}
 use Rattle.reg_office.specs.Issuing.{IsNextOf}
 use Rattle.reg_office_reads.specs.Looking.{IsAcceptance}
-use Rattle.reg_office.specs.Replays.{LeadsIf, LeadsWithin, MayTakeHead, with_feed_row}
+use Rattle.reg_office.specs.Replays.{LeadsIf, LeadsWithin, MayBeNextCrl, MayTakeHead, with_feed_row}
 use Rattle.reg_office.specs.declared.feed_row.FeedRow.{FeedRow}
 use Rattle.reg_office.specs.Stands.{SoundFor}
 use Rattle.reg_office.proofs.Batching.{until_end}
 use Rattle.reg_office.proofs.CommandsRun.{MayChange, may_change}
 use Rattle.reg_office.proofs.Following.{schedule_keeps_sound_for, step_keeps_sound_for}
-use Rattle.reg_office.proofs.Issuing.{may_issue}
+use Rattle.reg_office.proofs.BeforeKey.{MayEnter, next_keeps_sound}
+use Rattle.reg_office.proofs.Issuing.{next_of}
 use Rattle.reg_office.proofs.NewIssuer.{issuer_keeps_sound}
 
 -- ---- the last accepted moment alone
@@ -182,16 +183,28 @@ module _ {C : Type 0} (g : Ghosts C) (signs : Identity → List ℕ → List ℕ
     sound = sound;
   }
 
+  -- a change that may be entered
+  pub changed_leads : {May : Records → Type 0} (old new : Held C) (now : ℕ) (change : Change)
+      → (IsInTransaction (state g old) → HasCleanDisk (state g new) → Moves (state g old) (state g new) (Enters now change (state g old).now))
+      → ((records : Records) → May records → SoundFor signs identity records → MayEnter signs identity records now change)
+      → LeadsIf g signs identity May old new (λ before after. after ≡ changed_by before now change)
+  changed_leads old new now change moves may within clean records stands holds =
+      let it = may records holds stands.sound in
+      (changed_by records now change, refl, entered old new now change records stands (moves within clean) it.not_back it.fits it.sound)
+
   -- a change that a command makes
   pub entered_leads : {May : Records → Type 0} (old new : Held C) (now : ℕ) (command : Command) (change : Change)
       → (IsInTransaction (state g old) → HasCleanDisk (state g new) → Moves (state g old) (state g new) (Enters now change (state g old).now))
       → ((records : Records) → May records → SoundRows records → (reply : Reply) × MayChange (signed_by signs identity) records now command reply change)
       → LeadsIf g signs identity May old new (λ before after. after ≡ changed_by before now change)
-  entered_leads old new now command change moves may within clean records stands holds =
-      let (reply, it) = may records holds stands.sound.rows in
-      let after = changed_by records now change in
-      let sound = step_keeps_sound_for signs identity records now command (Ok reply) after stands.sound it.happens in
-      (after, refl, entered old new now change records stands (moves within clean) it.not_back it.fits sound)
+  entered_leads old new now command change moves may =
+      changed_leads old new now change moves (λ records holds sound.
+      let (reply, it) = may records holds sound.rows in
+      record {
+        not_back = it.not_back;
+        fits = it.fits;
+        sound = step_keeps_sound_for signs identity records now command (Ok reply) (changed_by records now change) sound it.happens;
+      })
 
   -- the last accepted moment alone
   pub touched_leads : {May : Records → Type 0} (old new : Held C) (now : ℕ)
@@ -252,20 +265,18 @@ module _ {C : Type 0} (g : Ghosts C) (signs : Identity → List ℕ → List ℕ
       (entered_leads mid new now command decided.1 moves (λ records accepted sound. (decided.0, may_change records now command decided other accepted))))
       (λ before after is. is ∙ same before now)
 
-  -- the CRL is entered whose octets are signed over what the records list
+  -- the CRL is entered whose octets are those that the records give
   pub crl_leads : {IsSo : Records → Type 0} (old mid new : Held C) (row : CrlRow) (next_update : ℕ) (der : Bor (List ℕ)) (bytes : List ℕ) → der.now ≡ bytes
       → LooksUp g old mid IsSo → mid.in_transaction ≡ true → StepsWithin g mid new
       → (IsInTransaction (state g mid) → HasCleanDisk (state g new) → Moves (state g mid) (state g new) (Enters row.this_update (NewCrl row der) (state g mid).now))
-      → ((records : Records) → IsSo records → next_update ≡ row.this_update + records.policy.crl_life → signed_by signs identity (cert_list records row.number row.this_update) bytes)
+      → ((records : Records) → IsSo records → next_update ≡ row.this_update + records.policy.crl_life → MayBeNextCrl signs identity records row bytes)
       → LeadsIf g signs identity (λ records. IsNextOf records row.this_update (row, next_update)) old new
       (λ before after. after ≡ with_crl before row.this_update (record { number = row.number; this_update = row.this_update; bytes = bytes }))
-  crl_leads {IsSo = IsSo} old mid new row next_update der bytes same looks under stepped moves signed within clean records stands next =
+  crl_leads {IsSo = IsSo} old mid new row next_update der bytes same looks under stepped moves may within clean records stands next =
       let entered_now : LeadsIf g signs identity (λ r. IsNextOf r row.this_update (row, next_update)) old new (λ before after. after ≡ changed_by before row.this_update (NewCrl row der)) =
       after_look_leads_if old mid new looks under stepped
-      (entered_leads mid new row.this_update IssueCrl (NewCrl row der) moves (λ r it sound. (
-        CrlIssued row.number (length (listed_revocations r row.number)),
-        may_issue (signed_by signs identity) r row.this_update (row, next_update) bytes (length (listed_revocations r row.number)) der same (it.0, λ update. (signed r it.1 update, refl)),
-      ))) in
+      (changed_leads mid new row.this_update (NewCrl row der) moves
+      (λ r it sound. next_keeps_sound signs identity r row next_update bytes der same it.0 sound (may r it.1 (next_of r row.this_update (row, next_update) it.0)))) in
       let (after, is, standing) = entered_now within clean records stands next in
       (after, is ∙ ap (λ octets. with_crl records row.this_update (record { number = row.number; this_update = row.this_update; bytes = octets })) same, standing)
 
@@ -278,10 +289,6 @@ ok_leads (Err fault) first follows = tt
 pub ok_more : {T E A : Type 0} {First Second : T → Type 0} (result : Result T E) → OnOk result A → IfOk result First → ((given : T) → A → First given → Second given) → IfOk result Second
 ok_more (Ok given) holds first follows = follows given holds first
 ok_more (Err fault) holds first follows = tt
-
--- octets whose signature has the form of one count as signed
-pub signed_by_form : (signs forms : Identity → List ℕ → List ℕ → Type 0) (identity : Identity) (list : CertList) (octets : List ℕ) → FormsSign signs forms → signed_by forms identity list octets → signed_by signs identity list octets
-signed_by_form signs forms identity list octets sign (signature, has, is) = (signature, sign identity (tbs_of identity.algorithm list) signature has, is)
 
 -- octets are a signed CRL, if they are those of its parts, with a signature in the form of one
 pub has_signed_form : (forms : Identity → List ℕ → List ℕ → Type 0) (identity : Identity) (list : CertList) (signature tbs octets first second : List ℕ) → first ≡ identity.algorithm → second ≡ identity.algorithm

@@ -4,17 +4,19 @@ use Rattle.std.specs.List.{slice_get}
 use Rattle.sqlite_trees.specs.declared.store.Store.{Ghosts}
 use Rattle.sqlite.specs.Held.{Held, state}
 use Rattle.sqlite.specs.State.{HasCleanDisk}
+use Rattle.reg_core.specs.Crls.{CertList, cert_list, latest}
 use Rattle.reg_core.specs.Changes.{declined_if, touched, with_certificate, with_crl, with_declined, with_order, with_request, with_revocation, with_schedule, with_subscriber}
 use Rattle.reg_core.specs.Issuer.{Issuer}
 use Rattle.reg_core.specs.Policy.{Terms}
-use Rattle.reg_core.specs.Records.{Records, request_in}
+use Rattle.reg_core.specs.Records.{Records, Crl, request_in}
 use Rattle.reg_core.specs.Schedule.{one_step}
 use Rattle.reg_core.specs.declared.rows.CrlRow.{CrlRow}
 use Rattle.reg_core_lists.specs.Feed.{RowLists, feed_crl_of, feed_rows_of}
 use Rattle.reg_core_lists.specs.declared.feed.FeedCrl.{FeedCrl}
 use Rattle.reg_core_lists.specs.declared.feed_reader.FeedHead.{FeedHead}
 use Rattle.reg_core_lists.specs.declared.feed_reader.ReceivedPage.{ReceivedPage}
-use Rattle.reg_crl.specs.Signing.{Identity}
+use Rattle.reg_crl.specs.Crl.{certificate_list, tbs_of}
+use Rattle.reg_crl.specs.Signing.{Identity, has_placeholder_digest, signed_by}
 use Rattle.reg_der.specs.Authority.{key_identifier_at, name_of}
 use Rattle.reg_der.specs.Issuers.{with_issuer}
 use Rattle.reg_office_api.specs.Follows.{AddsRequests, AddsRows, no_feed_rows, page_crls, page_rows}
@@ -94,6 +96,23 @@ IsNextFeedRow rows done (Revocation row) next =
 abbrev pub EntersPageCrl : Option FeedCrl → Records → Records → Type 0
 EntersPageCrl None before after = after ≡ before
 EntersPageCrl (Some crl) before after = after ≡ with_crl before crl.row.this_update (feed_crl_of crl)
+
+-- the bytes are a CRL with this algorithm, whatever its fields and its signature (RFC 5280 5.1.1.2)
+abbrev pub HasAlgorithm : List ℕ → List ℕ → Type 0
+HasAlgorithm bytes algorithm =
+    (list : CertList) × (signature : List ℕ)
+    × (bytes ≡ certificate_list (tbs_of algorithm list) algorithm signature)
+
+-- there is no CRL, or the latest one does not have this algorithm
+abbrev pub IsBeforeKey : List ℕ → Records → Type 0
+IsBeforeKey algorithm records = (crl : Crl) → latest records.crls ≡ Some crl → ¬ HasAlgorithm crl.bytes algorithm
+
+-- The bytes are the CRL that the records give for this row, signed by the signer; or with the placeholder digest, if the signer has signed none yet.
+abbrev pub MayBeNextCrl : Signs → Identity → Records → CrlRow → List ℕ → Type 0
+MayBeNextCrl signs identity records row bytes =
+    signed_by signs identity (cert_list records row.number row.this_update) bytes
+    ⊎ (IsBeforeKey identity.algorithm records
+    × has_placeholder_digest (cert_list records row.number row.this_update) bytes)
 
 -- A received CRL has this row, and is entered over records whose next CRL at its moment has this row and this nextUpdate.
 abbrev pub EntersDecidedCrl

@@ -2,6 +2,7 @@
 #![tactic(auto)]
 
 mod batches;
+mod before_key;
 mod crls;
 mod feed_row;
 mod follow;

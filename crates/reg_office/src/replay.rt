@@ -1,18 +1,19 @@
 //! Replays the commands that entered the rows of pages of the changes feed: the register decides each again, and its decision must be the row.
 
-ghost use Rattle.std.specs.Prelude.{◌+◌, ◌≡◌, ◌≤◌, length, map, true, None, IfOk, IfSome, IsSome, IsTrue, OnOk};
+ghost use Rattle.std.specs.Prelude.{◌+◌, ◌≡◌, ◌≤◌, length, map, true, None, IfOk, IfSome, IsFalse, IsSome, IsTrue, OnOk};
 ghost use Rattle.reg_core.specs.Changes.{declined_if, with_crl};
 ghost use Rattle.reg_core.specs.Crls.{EntriesAscend, cert_list};
 ghost use Rattle.reg_core.specs.Records.{request_in};
 ghost use Rattle.reg_core_lists.specs.Feed.{RowLists, feed_crl_of, feed_rows_of};
-ghost use Rattle.reg_crl.specs.Signing.{signed_by};
+ghost use Rattle.reg_crl.specs.Signing.{has_placeholder_digest, signed_by};
 ghost use Rattle.reg_office.specs.Calls.{SignsNothing};
-ghost use Rattle.reg_office.specs.Replays.{ReplaysMore, AreAllReplayed, EntersDecidedCrl, EntersFeedRow, EntersPageCrl, HasReplayedAll, LeadsWithin, joined_rows, none_replayed, with_feed_row};
+ghost use Rattle.reg_office.specs.Replays.{ReplaysMore, AreAllReplayed, EntersDecidedCrl, EntersFeedRow, EntersPageCrl, HasReplayedAll, LeadsWithin, MayBeNextCrl, joined_rows, none_replayed, with_feed_row};
 ghost use Rattle.reg_office.specs.declared.feed_row.FeedRow.TheVariants.{Declined};
 ghost use Rattle.reg_office_api.specs.Follows.{FormsSign};
 ghost use Rattle.reg_store_changes.specs.WithinTransactions.{StepsWithin};
 ghost use Rattle.reg_store_tables.specs.LookUps.{LooksUp};
 
+use crate::before_key::may_have_digest;
 use crate::crls::{listed, next_row};
 use crate::feed_row::FeedRow;
 use crate::office::Office;
@@ -20,7 +21,7 @@ use crate::replay_order::{NextRow, Replayed, are_all_replayed, next_of, row_at, 
 use crate::stopped::{Stopped, broken, undecided};
 use reg_core::{Change, CrlRow, Entry, Memory, Moment, Refusal};
 use reg_core_lists::{FeedCrl, FeedRows, ReceivedPage};
-use reg_crl::{Signer, crl_tbs, crl_whole};
+use reg_crl::{DigestSeal, Signer, crl_tbs, crl_whole};
 use reg_der::{Issuer, take};
 use reg_office_api::{FeedPart, FeedRule};
 use reg_office_reads::decide;
@@ -290,7 +291,8 @@ fn all_or_stopped(rows: &FeedRows, pages: &[ReceivedPage], done: &Replayed) -> R
 
 // ---- the octets of a CRL
 
-/// The rule that the octets of a received CRL break, if any: they must be those of the records, with a signature in the form of one by the signer.
+/// The rule that the octets of a received CRL break, if any: they must be those of the records, with a signature in the form of one by the signer;
+/// or, if no CRL of the records has such a signature yet, with the placeholder digest.
 fn checked_crl<C: Alter, S: Signer>(
     tables: &mut Tables<C>,
     signer: &S,
@@ -301,13 +303,64 @@ fn checked_crl<C: Alter, S: Signer>(
 ) -> Result<Option<FeedRule>, DatabaseFault>
     ensures { LooksUp C.Store tables.old tables.new (λ records.
         next_update ≡ row.now.this_update + records.policy.crl_life → IfOk result (λ wrong. wrong ≡ None
-        → signed_by S.forms (S.identity signer.now)
-        (cert_list records row.now.number row.now.this_update) der.now)) }
+        → MayBeNextCrl S.forms (S.identity signer.now) records row.now der.now)) }
 {
+    let has_digest = may_have_digest(tables, signer, der)?;
     let (issuer, entries) = listed(tables, row.number)?;
-    match wrong_octets(alloc, signer, &issuer, row, next_update, &entries, der) {
+    match wrong_form(
+        alloc,
+        signer,
+        has_digest,
+        &issuer,
+        row,
+        next_update,
+        &entries,
+        der,
+    ) {
         Ok(wrong) => Ok(wrong),
         Err(Memory) => Err(DatabaseFault::Memory),
+    }
+}
+
+/// As [`wrong_octets`], by the signer, or by the placeholder digest (`has_digest`).
+fn wrong_form<S: Signer>(
+    alloc: Global,
+    signer: &S,
+    has_digest: bool,
+    issuer: &Issuer,
+    row: &CrlRow,
+    next_update: Moment,
+    entries: &[Entry],
+    der: &[u8],
+) -> Result<Option<FeedRule>, Memory>
+    requires ascending { EntriesAscend entries.now }
+    requires few { length entries.now ≤ 1000000 }
+    ensures digest { IsTrue has_digest → IfOk result (λ wrong. wrong ≡ None
+        → has_placeholder_digest
+        (record {
+          issuer = issuer.now;
+          number = row.now.number;
+          this_update = row.now.this_update;
+          next_update = next_update;
+          entries = entries.now;
+        })
+        der.now) }
+    ensures signed { IsFalse has_digest → IfOk result (λ wrong. wrong ≡ None
+        → signed_by S.forms (S.identity signer.now)
+        (record {
+          issuer = issuer.now;
+          number = row.now.number;
+          this_update = row.now.this_update;
+          next_update = next_update;
+          entries = entries.now;
+        })
+        der.now) }
+{
+    if has_digest {
+        let digest = DigestSeal;
+        wrong_octets(alloc, &digest, issuer, row, next_update, entries, der)
+    } else {
+        wrong_octets(alloc, signer, issuer, row, next_update, entries, der)
     }
 }
 

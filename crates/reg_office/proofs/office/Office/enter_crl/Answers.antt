@@ -1,12 +1,12 @@
 use Rattle.std.proofs.Common.{◌≡◌, ap, subst, ◌∙◌}
 use Rattle.reg_core.specs.Changes.{with_crl}
-use Rattle.reg_core.specs.Crls.{cert_list}
 use Rattle.reg_core.specs.declared.rows.CrlRow.{CrlRow}
-use Rattle.reg_crl.specs.Signing.{signed_by}
 use Rattle.reg_store_changes.proofs.PublicLaws.{looked_step, steps_then}
 use Rattle.reg_store_tables.proofs.PublicLaws.{under_before}
 use Rattle.reg_office_reads.proofs.PublicLaws.{lent}
-use Rattle.reg_office.proofs.Replaying.{crl_leads, leads_if_as, signed_by_form}
+use Rattle.reg_office.specs.Replays.{MayBeNextCrl}
+use Rattle.reg_office.proofs.BeforeKey.{may_by_form}
+use Rattle.reg_office.proofs.Replaying.{crl_leads, leads_if_as}
 use Rattle.reg_office.proofs.office.Office.enter_crl.Goals as goal
 
 pub returns-in-Ok-clause-made : goal.returns-in-Ok-clause-made
@@ -22,8 +22,8 @@ returns-in-Ok-clause-made g c forms =
       leads_if_as s signs identity c.args.self.now.store c.enter.new.self
           (crl_leads s signs identity c.args.self.now.store c.checked_crl.new.tables c.enter.new.self row c.args.next_update c.as_slice-der.result crl.der.items c.as_slice-der.ensures.value
           looks c.in-Ok.ensures.under_way c.enter.ensures.stepped c.in-Ok.ensures.made
-          (λ records checked update. signed_by_form signs g.S.Signer.forms identity (cert_list records row.number row.this_update) crl.der.items forms
-          (subst (signed_by g.S.Signer.forms identity (cert_list records row.number row.this_update)) c.as_slice-der.ensures.value (checked update c.in-None.is))))
+          (λ records checked update. may_by_form signs g.S.Signer.forms identity records row crl.der.items forms
+          (subst (MayBeNextCrl g.S.Signer.forms identity records row) c.as_slice-der.ensures.value (checked update c.in-None.is))))
           (λ before after is. is ∙ ap (λ (r : CrlRow). with_crl before row.this_update (record { number = r.number; this_update = r.this_update; bytes = crl.der.items })) same),
     )
 
