@@ -11,10 +11,10 @@ import threading
 import time
 
 from groups.changes import KINDS, LINES, Tables, asked, page_of, taken
-from groups.follow import CLOCK, LATER, Copy, Sender, Waiting, address, led, paged
+from groups.follow import CLOCK, LATER, OCSP, Copy, Leader, Sender, Waiting, address, led, paged, refuses
 from groups.responder import Responder
 from lib import faults, program
-from lib.authority import Authority, end, now, until
+from lib.authority import Authority, body_of, end, first_day, now, until
 from lib.passing import Passing
 from lib.program import parted, read_all
 from lib.trial import each, test
@@ -22,10 +22,10 @@ from lib.trial import each, test
 
 class Server:
     """A leader of the test. `answer` is a status and a body, or a function that gives these for a target, or None for no answer. `targets` are those
-    that it was asked for, and `answered` says how many it has answered."""
+    that it was asked for, `requests` the whole requests, and `answered` says how many it has answered."""
 
     def __init__(self, answer, port=None):
-        self.answer, self.answered, self.targets, self.silent = answer, 0, [], []
+        self.answer, self.answered, self.targets, self.requests, self.silent = answer, 0, [], [], []
         self.port = port or program.free_port()
         self.server = socket.create_server(("127.0.0.1", self.port))
         threading.Thread(target=self.serve, daemon=True).start()
@@ -34,7 +34,8 @@ class Server:
         with contextlib.suppress(OSError):
             while True:
                 client, _ = self.server.accept()
-                self.targets.append(client.recv(65536).decode("latin-1").partition(" HTTP")[0].partition(" ")[2])
+                self.requests.append(client.recv(65536).decode("latin-1"))
+                self.targets.append(self.requests[-1].partition(" HTTP")[0].partition(" ")[2])
                 answer = self.answer(self.targets[-1]) if callable(self.answer) else self.answer
                 if answer is None:
                     self.silent.append(client)
@@ -56,6 +57,9 @@ class Server:
 
 
 # ---- a follower whose elapsed time the test sets
+
+# How many requests it makes at once after its start: one before which it does not know the schedule of its file, one after that news, and one more.
+FIRST = 3
 
 
 def with_rows(tables, **rows):
@@ -106,7 +110,7 @@ class Slow(Passing):
 def a_request_of_a_follower(t, words, pause, more):
     """When it asks, what, and that it keeps neither descriptors nor writes of what it asked."""
     it = Slow(t, *words)
-    it.asks(1)
+    it.asks(FIRST)
     it.asks_after(pause)
     # Without news nothing is written.
     written = lambda: [os.stat(t.room / f"copy.db{end}").st_mtime_ns for end in ("", "-wal") if (t.room / f"copy.db{end}").exists()]
@@ -133,41 +137,50 @@ def a_request_of_a_follower(t, words, pause, more):
     it.asks_after(1_000)
     it.asks_after(1_000)
     t.same(it.health()["failure"], "leader answered 500", "the failure")
-    numbers = {target.partition("&follower=")[2].partition("&")[0] for target in it.leader.targets}
+    # Its first request has neither its number nor the schedule of its file, which it has not read.
+    t.same(it.leader.targets[0], f"/changes?after={it.tables.positions()}", "its first request")
+    numbers = {target.partition("&follower=")[2].partition("&")[0] for target in it.leader.targets[1:]}
     asked_for = lambda tables: [f"/changes?after={tables.positions()}&follower={number}{more}" for number in numbers]
     t.same(len(numbers), 1, "numbers of the follower")
-    t.same({*it.leader.targets}, {*asked_for(it.tables), *asked_for(then)}, "what it asked for")
+    t.same({*it.leader.targets[1:]}, {*asked_for(it.tables), *asked_for(then)}, "what it asked for")
+    steps = next(line.partition(" ")[2] for line in it.tables.head.decode().splitlines() if line.startswith("schedule "))
+    t.same([schedule_given(head) for head in it.leader.requests], [None] + [steps] * (len(it.leader.requests) - 1), "the schedules that it gave")
+
+
+def schedule_given(head):
+    """The value of the header `desk-schedule` of a request; None without it."""
+    return next((line.partition(": ")[2] for line in head.split("\r\n") if line.startswith("desk-schedule: ")), None)
 
 
 @test(seconds=2)
 def a_feed_that_breaks_off(t):
     """A page came, and the next one does not: the follower drops it, and fetches it again. 409 after a page does not mean that it has diverged."""
     it = Slow(t)
-    it.asks(1)
+    it.asks(FIRST)
     middle, last = with_rows(it.tables, subscriber=["3 x"]), with_rows(it.tables, subscriber=["3 x", "4 y"])
     first = 200, paged(it.tables, ["subscriber 3 x"], tail=f"more {middle.positions()}")
     second = 200, paged(it.tables, ["subscriber 4 y"], tail=f"end {last.positions()}")
     after = lambda tables: f"/changes?after={tables.positions()}"
     answers = iter([first, (409, b"{}"), first, (503, b""), first, second, (409, b"{}"), no_news(last, LATER)])
     it.leader.answer = lambda target: next(answers)
-    wanted = [after(it.tables)] + [after(it.tables), after(middle)] * 3 + [after(last)] * 2
+    wanted = [after(it.tables)] * FIRST + [after(it.tables), after(middle)] * 3 + [after(last)] * 2
     entered = it.health()["pages"]
     it.set_forward(10)
     it.health()
-    for count, failure in ((3, "leader answered 409"), (5, "leader answered 503")):
-        it.asks(count)
+    for count, failure in ((2, "leader answered 409"), (4, "leader answered 503")):
+        it.asks(FIRST + count)
         got = it.health()
         t.same((got["failure"], got["diverged"], got["positions"]), (failure, False, it.tables.positions()), "after a page, and none after it")
         it.set_forward(1_000)
         it.health()
     # Now it has all pages, and asks again at once. 409 then means that it has diverged.
-    it.asks(8)
+    it.asks(FIRST + 7)
     got = it.health()
     t.same((got["positions"], got["pages"] - entered, got["refused"]), (last.positions(), 2, 0), "positions, and pages")
     t.same((got["diverged"], got["failure"], got["current"]), (True, "leader answered 409", True), "after 409 without a page")
     it.set_forward(1_000)
     it.health()
-    it.asks(9)
+    it.asks(FIRST + 8)
     got = it.health()
     t.same((got["diverged"], got["failure"], got["current"]), (False, None, True), "once the leader has its records")
     t.same([target.partition("&")[0] for target in it.leader.targets], wanted, "what it asked for")
@@ -177,15 +190,15 @@ def a_feed_that_breaks_off(t):
 def a_leader_that_is_too_far_ahead(t):
     """After 512 pages without an end the follower says so. It answers until its lag is over, and then ends."""
     it = Slow(t)
-    it.asks(1)
+    it.asks(FIRST)
     counts = it.tables.positions().split(".")
     page = lambda number: (200, paged(it.tables, [f"subscriber {number} s{number}"], tail="more " + ".".join([str(number), *counts[1:]])))
     pages = iter(range(3, 10_000))
     it.leader.answer = lambda target: page(next(pages))
     it.set_forward(10)
-    until(lambda: it.health()["failure"] or len(it.leader.targets) > 513, "512 pages")
+    until(lambda: it.health()["failure"] or len(it.leader.targets) > FIRST + 512, "512 pages")
     got = it.health()
-    t.same((got["failure"], got["refused"], got["diverged"], len(it.leader.targets)), ("too far behind", 1, False, 513), "after 512 pages")
+    t.same((got["failure"], got["refused"], got["diverged"], len(it.leader.targets)), ("too far behind", 1, False, FIRST + 512), "after 512 pages")
     t.same(parted(it.desk.ask("GET", "/status/05"))[0], 200, "an answer within the lag")
     it.set_forward(60_000)
     with contextlib.suppress(OSError):
@@ -206,22 +219,22 @@ def megabytes(it, count):
 def a_page_of_160_megabytes(t):
     """The same after pages of 160 MB."""
     it = Slow(t)
-    it.asks(1)
+    it.asks(FIRST)
     page = megabytes(it, 160)
-    it.leader.answer = lambda target: page if len(it.leader.targets) == 2 else (500, b"")
+    it.leader.answer = lambda target: page if len(it.leader.targets) == FIRST + 1 else (500, b"")
     it.set_forward(10)
     until(lambda: it.health()["failure"], "the failure")
-    t.same((it.health()["failure"], len(it.leader.targets)), ("too far behind", 2), "after one page")
+    t.same((it.health()["failure"], len(it.leader.targets)), ("too far behind", FIRST + 1), "after one page")
 
 
 @test(seconds=5)
 def the_bytes_of_dropped_pages_do_not_count(t):
     it = Slow(t)
-    it.asks(1)
+    it.asks(FIRST)
     page = megabytes(it, 90)
-    it.leader.answer = lambda target: page if len(it.leader.targets) % 2 == 0 else (500, b"")
+    it.leader.answer = lambda target: page if (len(it.leader.targets) - FIRST) % 2 else (500, b"")
     it.set_forward(10)
-    for count in (3, 5):
+    for count in (FIRST + 2, FIRST + 4):
         until(lambda: it.leader.answered >= count or it.health()["failure"] == "too far behind", "a page, and none after it")
         until(lambda: it.health()["failure"], "the failure")
         t.same(it.health()["failure"], "leader answered 500", f"why request {count} failed")
@@ -233,7 +246,7 @@ def the_bytes_of_dropped_pages_do_not_count(t):
 def a_lag_without_a_leader(t):
     """A follower that has not reached its leader since its start answers nothing; its lag is the time since its start."""
     it = Slow(t)
-    it.asks(1)
+    it.asks(FIRST)
     it.desk.end()
     it.leader.__exit__()
     it = Passing(t, "--from", address(it.leader.port), "--unsigned", file="copy.db", command="follow")
@@ -246,7 +259,7 @@ def a_lag_without_a_leader(t):
 @test(seconds=2)
 def lines_that_a_follower_refuses_are_in_its_log(t):
     it = Slow(t)
-    it.asks(1)
+    it.asks(FIRST)
     lines = t.control("copy")
     for line in ("crl", "revoke 4", "counts"):
         lines.ask(line)
@@ -310,7 +323,7 @@ def a_new_copy_of_a_page_that_is_wrong(t, part, other, failure):
 def a_leader_that_never_answers(t):
     """After five seconds without a byte a new copy, and one that nobody asks meanwhile, say that they can't reach their leader."""
     it = Slow(t)
-    it.asks(1)
+    it.asks(FIRST)
     it.desk.end()
     server = t.enter_context(Server(lambda target: None))
     old = t.open("copy.db", "--from", address(server.port), "--unsigned", command="follow")
@@ -320,6 +333,78 @@ def a_leader_that_never_answers(t):
     said = Waiting(new.stderr.readline)
     until(lambda: said.answer and old.log, "what both say", seconds=15)
     t.same((said.answer, old.log), (b"follow: leader unreachable\n", ["follow: leader unreachable"]), "what they say")
+
+
+# ---- CRLs with placeholder digests, and then signatures
+
+
+def sets_out(t, by_issuer):
+    """A CA with a responder, its register without records, and the options of a follower that expects CRLs of the CA's signer."""
+    ca = Authority(t)
+    responder = Responder(ca)
+    ca.signer()
+    responder.signer()
+    ca.register()
+    return ca, ca.signing() if by_issuer else responder.words()
+
+
+FOLLOWERS = {"a follower with a responder": False, "a follower with the signer": True}
+
+
+@each(FOLLOWERS, seconds=8)
+def a_register_that_got_a_signer_later(t, by_issuer):
+    """Its first CRLs have placeholder digests, the later ones signatures. A new copy takes all of them in one feed; so does a copy without a CRL, and
+    one that has a digest."""
+    ca, words = sets_out(t, by_issuer)
+    t.done("script", "ca.db", given=first_day(now() - 3600).rsplit("\n", 2)[0] + "\n")
+    leader = t.open("ca.db", "--unsigned")
+    control = t.control()
+    for file, line in (("none.db", "crl"), ("one.db", "request 06 superseded"), ("two.db", "crl")):
+        copy = Copy(t, address(leader.port), file=file, signing=words)
+        copy.is_like(control)
+        copy.desk.end()
+        t.true(control.ask(line)[0] not in "EF", line)
+    leader.end()
+    leader = t.open("ca.db", *ca.signing(), "--port", str(leader.port))
+    control = t.control()
+    replies = [control.ask(line).split(" due ")[0] for line in ("crl", "revoke 2", "subscriber third", "crl")]
+    t.same(replies, ["crl 3 entries 1", "revoked", "subscriber 2", "crl 4 entries 2"])
+    for file in ("new.db", "none.db", "one.db", "two.db"):
+        copy = Copy(t, address(leader.port), file=file, signing=words)
+        copy.is_like(control)
+        copy.is_sound()
+        ca.verifies(parted(copy.desk.ask("GET", "/crl"))[2])
+        t.same(ca.reads("06", body_of(t, copy.desk.ask("POST", "/ocsp", ca.asks("06"), headers=[OCSP]))), "revoked", f"OCSP of {file}")
+    t.same(control.ask("crl"), "crl 5 entries 2")
+    copy.is_like(control)
+
+
+@each(FOLLOWERS, seconds=6)
+def a_digest_after_a_signature(t, by_issuer):
+    """Once a CRL is signed, none with a placeholder digest is taken. Before, only one with the right digest is."""
+    ca, words = sets_out(t, by_issuer)
+    ca.register("digests.db")
+    begins, later = now() - 3600, now_text(-1800)
+    t.done("script", "ca.db", *ca.signing(), given=first_day(begins))
+    t.done("script", "digests.db", given=first_day(begins))
+    for file, rule in (("ca.db", "other-crl"), ("digests.db", "no-signature")):
+        leader = t.open(file, *(ca.signing() if file == "ca.db" else ("--unsigned",)))
+        copy = Copy(t, address(leader.port), "--lag", "3600", file=f"copy-{file}", signing=words)
+        copy.is_like(t.control())
+        tables = Tables(t.room / "taken.db")
+        leader.end()
+        # The CRL of the same records with a digest.
+        if file == "ca.db":
+            t.done("copy", "digests.db", "next.db")
+            t.done("script", "next.db", given=f"{later} crl\n")
+        ((der,),) = t.sql("next.db", "SELECT der FROM crl WHERE number = 2")
+        wrong = der if file == "ca.db" else der[:-1] + bytes([der[-1] ^ 1])
+        with Leader(leader.port, (500, b"")) as fake:
+            page = lambda octets: paged(tables, [f"crl 2 {later} {len(octets)}"], last=later, octets=octets + b"\n")
+            refuses(t, copy, fake, page(wrong), f"broken page: crl 2 {rule}", f"a digest for {file}")
+            if file == "digests.db":
+                refuses(t, copy, fake, page(der), "broken page: positions other-positions", "the right digest")
+        copy.desk.end()
 
 
 # ---- a leader whose elapsed time the test sets, and requests that wait at it
@@ -446,6 +531,74 @@ def a_command_that_waits_for_three_followers(t):
         sender.join(60 * program.PATIENCE)
         t.true(sender.reply is not None and sender.reply.startswith(kind), f"the reply {sender.reply}")
         t.same(unconfirmed(), None, "unconfirmed after the reply")
+
+
+@test(seconds=4)
+def a_schedule_that_waits_for_a_follower(t):
+    """Positions don't tell the schedule: a follower has it if its request gives the steps of the response. A request without them counts for rows."""
+    t.register(lines=LINES)
+    t.clock(CLOCK)
+    leader = t.open("ca.db", "--confirm-by", "1")
+    unconfirmed = lambda: json.loads(parted(leader.ask("GET", "/health"))[2])["unconfirmed"]
+    positions = Tables(taken(t, t.control())).positions()
+    old, more = "1970-01-01T00:00:00Z=398", "1970-01-01T00:00:00Z=398 2026-06-01T00:00:00Z=200"
+    asks = lambda steps: leader.ask("GET", f"/changes?after={positions}&follower=7&wait=1", headers=[f"desk-schedule: {steps}"])
+    sender = Sender(t, f"schedule {more}")
+    until(unconfirmed, "the schedule")
+    for steps in (old, more[:-1], more + " ", more + " 2026-07-01T00:00:00Z=100", more[:-2] + "1", "", " "):
+        t.same(page_of(t, parted(asks(steps))[2])[1:4], ([], {}, True), "a page after all rows")
+        sender.join(0.1)
+        t.same((sender.reply, unconfirmed()), (None, CLOCK), f"the reply after a request with the steps {steps!r}")
+    asks(more)
+    sender.join(60 * program.PATIENCE)
+    t.same((sender.reply, unconfirmed()), ("schedule set", None), "the reply after a request with all steps")
+    # The last command counts, also for rows: here the first follower has them with the schedule, the second without a word of it.
+    for line, headers in (("subscriber third", [f"desk-schedule: {more}"]), ("subscriber fourth", [])):
+        sender = Sender(t, line)
+        until(unconfirmed, line)
+        for steps in (old, None):
+            positions = Tables(taken(t, t.control(), f"{line[11:]}-{steps and 1}.db")).positions()
+            given = [f"desk-schedule: {steps}"] if steps else headers
+            leader.ask("GET", f"/changes?after={positions}&follower=7", headers=given)
+            sender.join(0.1 if steps else 60 * program.PATIENCE)
+            t.same(sender.reply and sender.reply.split()[0], None if steps else "subscriber", f"the reply to {line} after {given}")
+
+
+def relayed(port, head):
+    """The status and the body of the answer of the desk at a port to this request."""
+    with socket.create_connection(("127.0.0.1", port)) as stream:
+        stream.sendall(head.encode("latin-1"))
+        status, _, body = parted(read_all(stream))
+    return status, body
+
+
+@test(seconds=5)
+def a_schedule_is_at_the_follower_once_its_reply_came(t):
+    """While the page with the schedule is on its way to the follower, the reply waits."""
+    t.register(lines=LINES)
+    t.clock(CLOCK)
+    leader = t.open("ca.db", "--confirm-by", "1")
+    held, passes, steps = threading.Event(), threading.Event(), "1970-01-01T00:00:00Z=398 2026-06-01T00:00:00Z=200"
+
+    def answer(target):
+        status, body = relayed(leader.port, server.requests[-1])
+        if steps.encode() in body:
+            held.set()
+            passes.wait(60 * program.PATIENCE)
+        return status, body
+
+    server = t.enter_context(Server(answer))
+    copy = Copy(t, address(server.port))
+    copy.is_like(t.control())
+    schedule = lambda: next(line for line in copy.copied().head.decode().splitlines() if line.startswith("schedule"))
+    until(lambda: schedule_given(server.requests[-1]), "a request that gives the schedule of the copy")
+    sender = Sender(t, f"schedule {steps}")
+    until(held.is_set, "the page with the schedule")
+    sender.join(0.5)
+    t.same((sender.reply, schedule()), (None, "schedule 1970-01-01T00:00:00Z=398"), "the reply before the page is there, and the copy's schedule")
+    passes.set()
+    sender.join(60 * program.PATIENCE)
+    t.same((sender.reply, schedule()), ("schedule set", f"schedule {steps}"), "the reply, and the schedule of the copy")
 
 
 @test(seconds=4)

@@ -289,7 +289,7 @@ impl Fetcher {
             return Ok(Err(FeedFailure::Unreachable));
         }
         // Nothing is stored yet, so the request has no follower's number.
-        let Ok(request) = changes_request(alloc, after, None, false) else {
+        let Ok(request) = changes_request(alloc, after, None, &[], false) else {
             return Err(Failure::Fault(Fault::Memory));
         };
         let mut exchange: FeedExchange<LeaderStream> = FeedExchange::new(

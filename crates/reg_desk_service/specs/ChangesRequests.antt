@@ -1,5 +1,5 @@
 -- The request by which a follower asks its leader for changes.
-use Rattle.std.specs.Prelude.{ℕ, Bool, cond, List, [], ◌++◌, codes, decimal, Option, Some, None}
+use Rattle.std.specs.Prelude.{ℕ, ◌==◌, Bool, cond, if◌then◌else◌, length, List, [], ◌++◌, codes, decimal, Option, Some, None}
 use Rattle.reg_core_lists.specs.Positions.{positions_text}
 use Rattle.reg_core_lists.specs.declared.positions.Positions.{Positions}
 
@@ -17,8 +17,15 @@ number_part (Some number) = codes "&follower=" ++ decimal number
 abbrev pub wait_part : Bool → List ℕ
 wait_part waits = cond waits (codes "&wait=1") []
 
+-- the header with the steps of the schedule that the follower's file has, if it is known to have one
+abbrev pub header_with : List ℕ → List ℕ
+header_with steps = codes "desk-schedule: " ++ steps ++ codes "\r\n"
+
+abbrev pub schedule_header : List ℕ → List ℕ
+schedule_header steps = if length steps == 0 then [] else header_with steps
+
 -- the request (RFC 9112 3)
-abbrev pub changes_text : Option Positions → Option ℕ → Bool → List ℕ
-changes_text after stored_by waits =
+abbrev pub changes_text : Option Positions → Option ℕ → List ℕ → Bool → List ℕ
+changes_text after stored_by schedule waits =
     codes "GET /changes" ++ after_part after ++ number_part stored_by ++ wait_part waits
-    ++ codes " HTTP/1.1\r\nHost: 127.0.0.1\r\nConnection: close\r\n\r\n"
+    ++ codes " HTTP/1.1\r\nHost: 127.0.0.1\r\nConnection: close\r\n" ++ schedule_header schedule ++ codes "\r\n"

@@ -1,5 +1,5 @@
 -- When the replies to commands wait for followers, and which requests confirm that a follower has all commands.
-use Rattle.std.specs.Prelude.{◌≡◌, ◌⊎◌, ◌==◌, ◌&&◌, ◌||◌, ◌-◌, ◌+◌, ℕ, nat_le, nat_lt, not, Bool, true, false, cond, List, [], ◌++◌, length, take, drop, is_none, codes, if◌then◌else◌, Option, Some, None, IsFalse, slice_set}
+use Rattle.std.specs.Prelude.{◌≡◌, ◌⊎◌, ◌==◌, ◌&&◌, ◌||◌, ◌-◌, ◌+◌, ℕ, nat_le, nat_lt, not, Bool, true, false, cond, List, [], ◌∷◌, ◌++◌, length, take, drop, is_none, codes, if◌then◌else◌, Option, Some, None, IsFalse, slice_set}
 use Rattle.std.specs.List.{ends_with, list_any, position, starts_with}
 use Rattle.std.specs.Option.{option_or}
 use Rattle.reg_core.specs.Number.{number_of}
@@ -17,6 +17,36 @@ ends_feed response positions =
     && (ends_with (λ a b. a == b) (take (length response - 1) response) positions
     && ends_with (λ a b. a == b) (take (length response - 1 - length positions) (take (length response - 1) response))
     (codes "\nend ")))
+
+-- what follows the first place at which a text has this part
+abbrev pub after_part : List ℕ → List ℕ → Option (List ℕ)
+after_part part [] = None
+after_part part (first ∷ rest) =
+    if starts_with (λ a b. a == b) (first ∷ rest) part then Some (drop (length part) (first ∷ rest))
+    else after_part part rest
+
+-- the page in a response has these steps in its line `schedule`
+abbrev pub begins_line : List ℕ → Option (List ℕ) → Bool
+begins_line steps None = false
+begins_line steps (Some line) =
+    starts_with (λ a b. a == b) line steps
+    && starts_with (λ a b. a == b) (drop (length steps) line) (codes "\n")
+
+abbrev pub has_schedule_steps : List ℕ → List ℕ → Bool
+has_schedule_steps steps response = begins_line steps (after_part (codes "\nschedule ") response)
+
+-- a request gives the schedule of the response in its header `desk-schedule`, by the index of the CR (13) that ends it; or it has no such header
+abbrev pub has_schedule_before : List ℕ → List ℕ → Option ℕ → Bool
+has_schedule_before rest response None = false
+has_schedule_before rest response (Some end) = has_schedule_steps (take end rest) response
+
+abbrev pub has_given_schedule : Option (List ℕ) → List ℕ → Bool
+has_given_schedule None response = true
+has_given_schedule (Some rest) response = has_schedule_before rest response (position (λ b. b == 13) rest)
+
+abbrev pub has_schedule : List ℕ → List ℕ → Bool
+has_schedule request response =
+    has_given_schedule (after_part (codes "\r\ndesk-schedule: ") request) response
 
 -- the number in the parameter `&follower=NUMBER`
 abbrev pub follower_in : List ℕ → Option ℕ
@@ -47,6 +77,11 @@ abbrev pub confirming_number : List ℕ → List ℕ → Option ℕ
 confirming_number request response =
     if starts_with (λ a b. a == b) request (codes "GET /changes?after=")
     then confirming_before (drop 19 request) response (position (λ b. b == 32) (drop 19 request)) else None
+
+-- the follower whose request, with this response, confirms that it has all rows and the schedule
+abbrev pub confirming_follower : List ℕ → List ℕ → Option ℕ
+confirming_follower request response =
+    if has_schedule request response then confirming_number request response else None
 
 -- the follower in a query `POSITIONS` or `POSITIONS&follower=NUMBER`, by the index of the first `&`
 abbrev pub follower_at : List ℕ → Option ℕ → Option ℕ
@@ -122,7 +157,7 @@ with_confirming (Some follower) it = with_follower follower it
 -- after an HTTP request and its response
 abbrev pub after_request : List ℕ → List ℕ → Confirmation → Confirmation
 after_request request response it =
-    if is_confirmed it then it else with_confirming (confirming_number request response) it
+    if is_confirmed it then it else with_confirming (confirming_follower request response) it
 
 -- after an HTTP request and its outcome; a response to be signed confirms nothing
 abbrev pub after_outcome : {T : Type 0} → List ℕ → Outcome T → Confirmation → Confirmation

@@ -1,5 +1,5 @@
 -- What a follower does that another desk does not: the work by which it follows its leader, and the lines that it refuses.
-use Rattle.std.specs.Prelude.{◌≡◌, ◌⊎◌, ◌==◌, ◌+◌, ◌-◌, ◌/◌, ◌<◌, ◌≤◌, ℕ, min, nat_le, Bool, true, false, List, [], length, codes, if◌then◌else◌, unwrap_or, Option, Some, None, Ok, IfSome, IsFalse, IsTrue}
+use Rattle.std.specs.Prelude.{◌≡◌, ◌⊎◌, ◌==◌, ◌&&◌, not, ◌+◌, ◌-◌, ◌/◌, ◌<◌, ◌≤◌, ℕ, min, nat_le, Bool, true, false, List, [], length, codes, if◌then◌else◌, unwrap_or, Option, Some, None, Ok, IfSome, IsFalse, IsTrue}
 use Rattle.reg_core.specs.declared.refusal.Fault.TheVariants as fault
 use Rattle.reg_core_lists.specs.declared.feed_reader.ReceivedPage.{ReceivedPage}
 use Rattle.reg_desk_cli.specs.declared.failure.Failure.{Failure}
@@ -64,12 +64,12 @@ progress_at follower now = record {
 abbrev pub may_wait : Follower → Bool
 may_wait follower = nat_le 5000 follower.lag
 
--- Its next request. It gives its number only with the positions of its records, which its file has: pages that are kept may be lost.
+-- Its next request. It gives its number only with the positions and the schedule of its records, which its file has: pages that are kept may be lost.
 abbrev pub next_request : Follower → List ℕ
 next_request follower =
-    if length follower.pages.items == 0
-    then changes_text (Some follower.own) (Some follower.number) (may_wait follower)
-    else changes_text (Some follower.after) None false
+    if length follower.pages.items == 0 && not (length follower.schedule.items == 0)
+    then changes_text (Some follower.own) (Some follower.number) follower.schedule.items (may_wait follower)
+    else changes_text (Some follower.after) None [] false
 
 -- ---- its work
 

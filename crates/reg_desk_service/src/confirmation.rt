@@ -1,10 +1,10 @@
 //! Whether followers have the commands that a desk accepted: with `desk open --confirm-by N`, the reply to a command is sent only after that.
 
-ghost use Rattle.std.specs.Prelude.{◌≡◌, ◌==◌, ◌<◌, length, IsTrue, IfSome};
+ghost use Rattle.std.specs.Prelude.{◌≡◌, ◌==◌, ◌<◌, length, option_map, IsTrue, IfSome};
 ghost use Rattle.std.specs.List.{position};
 ghost use Rattle.reg_desk_server.specs.LineEnds.{IsWholeLines};
 ghost use Rattle.reg_desk_server.specs.Outcomes.{outcome_of};
-ghost use Rattle.reg_desk_service.specs.Confirmations.{AfterFirstLine, after_lines, after_outcome, after_request, follower_in_query, follower_number, confirming_in, confirming_number, ends_feed, follower_in, has_follower, holds_reply, is_confirmed, is_done_with, is_wanted, unwaiting, with_follower};
+ghost use Rattle.reg_desk_service.specs.Confirmations.{AfterFirstLine, after_lines, after_outcome, after_part, after_request, follower_in_query, follower_number, confirming_follower, confirming_in, confirming_number, ends_feed, follower_in, has_follower, has_schedule, has_schedule_steps, holds_reply, is_confirmed, is_done_with, is_wanted, unwaiting, with_follower};
 
 use crate::line_kinds::{first_line, may_be_command};
 use crate::unsigned_responses::Unsigned;
@@ -23,6 +23,11 @@ const NAMED: &[u8] = b"&follower=";
 
 /// The last parameter of a request that waits while there is no news.
 const WAIT: &[u8] = b"&wait=1";
+
+/// The beginning of the header by which a follower says which schedule its copy has, and of the line of a page with the schedule of the register.
+const GIVEN_SCHEDULE: &[u8] = b"\r\ndesk-schedule: ";
+
+const SCHEDULE: &[u8] = b"\nschedule ";
 
 /// The followers that have all records since the last command at the control socket.
 #[derive(Clone, Copy)]
@@ -123,14 +128,14 @@ impl Confirmation {
         }
     }
 
-    /// An HTTP request was answered. A follower whose positions are those of all records has all commands.
+    /// An HTTP request was answered. A follower has all commands if its positions are those of all records, and its schedule is that of the register.
     pub fn request_answered(&mut self, request: &[u8], response: &[u8])
         ensures { self.new ≡ after_request request.now response.now self.old }
     {
         if self.is_confirmed() {
             return;
         }
-        if let Some(follower) = confirming(request, response) {
+        if let Some(follower) = confirming_follower(request, response) {
             self.add(follower);
         }
     }
@@ -188,6 +193,65 @@ fn follower_in_query(query: &[u8]) -> Option<u64>
     }
 }
 
+/// The number of the follower that sent a request, if its copy has all rows and the schedule of the response.
+fn confirming_follower(request: &[u8], response: &[u8]) -> Option<u64>
+    ensures { result ≡ confirming_follower request.now response.now }
+{
+    if has_schedule(request, response) {
+        confirming(request, response)
+    } else {
+        None
+    }
+}
+
+/// Whether a request gives the schedule of the response; or gives none, as an older follower's.
+fn has_schedule(request: &[u8], response: &[u8]) -> bool
+    ensures { result ≡ has_schedule request.now response.now }
+{
+    match after_part(GIVEN_SCHEDULE, request) {
+        Some(rest) => match first_return(rest) {
+            Some(end) => has_schedule_steps(&rest[..end], response),
+            None => false,
+        },
+        None => true,
+    }
+}
+
+fn has_schedule_steps(steps: &[u8], response: &[u8]) -> bool
+    ensures { result ≡ has_schedule_steps steps.now response.now }
+{
+    match after_part(SCHEDULE, response) {
+        Some(line) => line.starts_with(steps) && line[steps.len()..].starts_with(b"\n"),
+        None => false,
+    }
+}
+
+/// The steps of the schedule in a page, as text; empty if it has none, or out of memory.
+pub(crate) fn schedule_in(alloc: Global, page: &[u8]) -> Vec<u8> {
+    let mut steps = Vec::new(alloc);
+    if let Some(line) = after_part(SCHEDULE, page) {
+        if let Some(end) = first_line_end(line) {
+            // Out of memory: it stays empty.
+            let _ = steps.extend_from_slice(&line[..end]);
+        }
+    }
+    steps
+}
+
+/// What follows the first place at which a text has this part; `None` if it has none.
+fn after_part<'t>(part: &[u8], text: &'t [u8]) -> Option<&'t [u8]>
+    ensures { option_map (λ rest. rest.now) result ≡ after_part part.now text.now }
+{
+    let mut rest = text;
+    while !rest.is_empty() {
+        if rest.starts_with(part) {
+            return Some(&rest[part.len()..]);
+        }
+        rest = &rest[1..];
+    }
+    None
+}
+
 /// The number of the follower that sent a request, if it asked with the positions after which the response, the last page, has nothing. A request
 /// without a number, as while pages are kept in memory only, confirms nothing.
 fn confirming(request: &[u8], response: &[u8]) -> Option<u64>
@@ -233,6 +297,19 @@ pub(crate) fn first_space(text: &[u8]) -> Option<usize>
     ensures within { IfSome result (λ at. at < length text.now) }
 {
     text.iter().position(|byte| *byte == b' ')
+}
+
+fn first_return(text: &[u8]) -> Option<usize>
+    ensures place { result ≡ position (λ b. b == 13) text.now }
+    ensures within { IfSome result (λ at. at < length text.now) }
+{
+    text.iter().position(|byte| *byte == b'\r')
+}
+
+fn first_line_end(text: &[u8]) -> Option<usize>
+    ensures within { IfSome result (λ at. at < length text.now) }
+{
+    text.iter().position(|byte| *byte == b'\n')
 }
 
 fn first_ampersand(text: &[u8]) -> Option<usize>

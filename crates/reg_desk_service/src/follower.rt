@@ -7,6 +7,7 @@ ghost use Rattle.reg_office_api.specs.Follows.{FollowStep, FormsSign};
 ghost use Rattle.reg_desk_service.specs.ExpectedCrls.{ExpectsCrls, LeadsWithCrls};
 ghost use Rattle.reg_desk_service.specs.Following.{NotesFailure, IsTooFarBehind, SendsRequest, FollowsAt, KeepsProgress, KeepsRecords, LastEnds, Reaches, TakesResponse, has_diverged, is_current_at, may_wait, next_request, reached_within, progress_at};
 
+use crate::confirmation::schedule_in;
 use crate::feed_request::changes_request;
 use crate::machine::Machine;
 use mio::Registry;
@@ -47,6 +48,8 @@ pub struct Follower<'a, 'w> {
     lag: u64,
     /// The positions of the records.
     own: Positions,
+    /// The steps of the schedule of the records, as text; empty until pages were entered.
+    schedule: Vec<u8>,
     /// The positions after the pages that are kept.
     after: Positions,
     pages: Vec<ReceivedPage>,
@@ -89,6 +92,7 @@ impl<'a, 'w> Follower<'a, 'w> {
             number,
             lag: lag.saturating_mul(1_000),
             own,
+            schedule: Vec::new(alloc),
             after: own,
             pages: Vec::new(alloc),
             bytes: 0,
@@ -202,19 +206,21 @@ impl<'a, 'w> Follower<'a, 'w> {
         Some(FeedExchange::new(self.alloc, stream, request, now))
     }
 
-    /// Asks for the changes after the pages that are kept. If there are none, its file has all rows up to there, which its number tells the leader.
+    /// Asks for the changes after the pages that are kept. If there are none, and its file is known to have all rows up to there and this schedule,
+    /// then its number tells the leader.
     fn next_request(&self) -> Result<Vec<u8>, AllocError>
         ensures { IfOk result (λ request. request.items ≡ next_request self.now) }
     {
-        if self.pages.is_empty() {
+        if self.pages.is_empty() && !self.schedule.is_empty() {
             changes_request(
                 self.alloc,
                 &Some(self.own),
                 Some(self.number),
+                &self.schedule,
                 self.may_wait(),
             )
         } else {
-            changes_request(self.alloc, &Some(self.after), None, false)
+            changes_request(self.alloc, &Some(self.after), None, &[], false)
         }
     }
 
@@ -327,7 +333,7 @@ impl<'a, 'w> Follower<'a, 'w> {
         let ends = page.ends;
         self.keep_page(page, body.len(), now)?;
         if ends {
-            self.enter::<M>(office, machine)
+            self.enter::<M>(office, machine, schedule_in(self.alloc, body))
         } else {
             self.check_room()
         }
@@ -369,8 +375,13 @@ impl<'a, 'w> Follower<'a, 'w> {
         Ok(())
     }
 
-    /// Enters the pages that are kept.
-    fn enter<M: Machine>(&mut self, office: &mut M::Office, machine: &M) -> Result<(), FeedFailure>
+    /// Enters the pages that are kept. `schedule`: the steps of the last one's schedule.
+    fn enter<M: Machine>(
+        &mut self,
+        office: &mut M::Office,
+        machine: &M,
+        schedule: Vec<u8>,
+    ) -> Result<(), FeedFailure>
         requires { LastEnds self.old.pages.items }
         ensures ok { OnOk result (Reaches M.Office.Office self.old self.new office.old office.new) }
         ensures err { OnErr result (self.new ≡ self.old) }
@@ -378,7 +389,7 @@ impl<'a, 'w> Follower<'a, 'w> {
     {
         match self.enter_pages::<M>(office, machine) {
             Ok(positions) => {
-                self.keep_reached(positions);
+                self.keep_reached(positions, schedule);
                 Ok(())
             }
             Err(fault) => Err(FeedFailure::from(fault)),
@@ -398,19 +409,28 @@ impl<'a, 'w> Follower<'a, 'w> {
         office.follow(self.alloc, &self.own, &self.pages)
     }
 
+    /// Whether its records have these positions, and this schedule.
+    fn is_at(&self, positions: &Positions, schedule: &[u8]) -> bool
+        ensures { IsTrue result → (positions.now ≡ self.now.own) × (schedule.now ≡ self.now.schedule.items) }
+    {
+        *positions == self.own && schedule == self.schedule.as_slice()
+    }
+
     /// The pages that are kept were entered.
-    fn keep_reached(&mut self, positions: Positions)
+    fn keep_reached(&mut self, positions: Positions, schedule: Vec<u8>)
         ensures own { self.new.own ≡ positions }
+        ensures schedule { self.new.schedule ≡ schedule }
         ensures lag { self.new.lag ≡ self.old.lag }
         ensures asked_at { self.new.asked_at ≡ self.old.asked_at }
         ensures reached_at { self.new.reached_at ≡ Some self.old.asked_at }
         ensures works { (self.new.failure ≡ None) × (self.new.stop ≡ None) }
         ensures none { (self.new.pages.items ≡ []) × (self.new.bytes ≡ 0) × (self.new.after ≡ positions) }
-        ensures soon { ¬ (positions ≡ self.old.own) → self.new.next_at ≡ self.old.asked_at }
+        ensures soon { ¬ ((positions ≡ self.old.own) × (schedule.items ≡ self.old.schedule.items))
+            → self.new.next_at ≡ self.old.asked_at }
     {
         // After news, the follower asks again at once: by that the leader knows that they are on the follower's disk. The leader answers that at once,
         // so the follower asks at once again: this request can wait there for the next command.
-        let has_news = positions != self.own;
+        let has_news = !self.is_at(&positions, &schedule);
         let pause = if has_news || self.had_news {
             0
         } else {
@@ -418,6 +438,7 @@ impl<'a, 'w> Follower<'a, 'w> {
         };
         self.had_news = has_news;
         self.own = positions;
+        self.schedule = schedule;
         self.after = positions;
         self.reached_at = Some(self.asked_at);
         self.entered = self.entered.saturating_add(self.pages.len() as u64);
