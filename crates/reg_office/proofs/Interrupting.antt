@@ -8,12 +8,14 @@ use Rattle.sqlite_trees.specs.declared.store.Store.{Ghosts}
 use Rattle.reg_core.specs.Records.{Records}
 use Rattle.reg_core.specs.declared.refusal.Fault.{Fault}
 use Rattle.reg_core.specs.declared.refusal.Fault.TheVariants.{Refused, Memory, Store, Signer, Read, Write}
+use Rattle.reg_core_lists.specs.declared.positions.Positions.{Positions}
 use Rattle.reg_office_api.specs.CallSteps.{Signs}
 use Rattle.reg_office_api.specs.Signers.{OfficeSigners}
+use Rattle.reg_office_api.specs.declared.follow.FollowFault.{FollowFault}
 use Rattle.reg_store_tables.proofs.PublicLaws.{was_clean}
-use Rattle.reg_office.specs.AfterStoppedCommand.{ChangingCall, command_call, identifier_call, schedule_call, batch_call}
-use Rattle.reg_office.specs.Calls.{MayInterrupt, StandsWith}
-use Rattle.reg_office.specs.InterruptedCalls.{AreCalls, AreCallSteps, CallStep, FailsFrom, HasNotChanged, InterruptsOneOfThem, InterruptsOnlyItself, IsCall, OfficeCall, changing, command_ran, identifier_set, looked_up, schedule_set, batch_ran}
+use Rattle.reg_office.specs.AfterStoppedCommand.{ChangingCall, command_call, follow_call, identifier_call, schedule_call, batch_call}
+use Rattle.reg_office.specs.Calls.{MayInterrupt, StandsWith, store_result}
+use Rattle.reg_office.specs.InterruptedCalls.{AreCalls, AreCallSteps, CallStep, FailsFrom, HasNotChanged, InterruptsOneOfThem, InterruptsOnlyItself, IsCall, OfficeCall, changing, command_ran, follow_ran, identifier_set, looked_up, schedule_set, batch_ran}
 use Rattle.reg_office.proofs.Leading.{looked_stands}
 use Rattle.reg_office.proofs.Leaving.{not_closed}
 
@@ -21,15 +23,22 @@ use Rattle.reg_office.proofs.Leaving.{not_closed}
 abbrev Moves : Option ChangingCall → OfficeCall → Option ChangingCall → Type 0
 Moves first (command_ran now command outcome) last = MayInterrupt first (command_call now command) outcome last
 Moves first (batch_ran commands result) last = MayInterrupt first (batch_call commands) result last
+Moves first (follow_ran own pages result) last = MayInterrupt first (follow_call pages) (store_result result) last
 Moves first (schedule_set steps result) last = MayInterrupt first (schedule_call steps) result last
 Moves first (identifier_set octets result) last = MayInterrupt first (identifier_call octets) result last
 Moves first looked_up last = last ≡ first
+
+-- pages were not entered
+not_entered : (result : Result Positions FollowFault) → IsErr (store_result result) → IsErr result
+not_entered (Ok reached) error = error
+not_entered (Err fault) error = refl
 
 -- if one was interrupted, the call changes nothing, and the first stays
 moves_on : (first : ChangingCall) (call : OfficeCall) (last : Option ChangingCall) → Moves (Some first) call last
     → HasNotChanged call × (last ≡ Some first)
 moves_on first (command_ran now command outcome) last moves = moves
 moves_on first (batch_ran commands result) last moves = moves
+moves_on first (follow_ran own pages result) last moves = (not_entered result moves.0, moves.1)
 moves_on first (schedule_set steps result) last moves = moves
 moves_on first (identifier_set octets result) last moves = moves
 moves_on first looked_up last moves = (tt, moves)
@@ -50,6 +59,12 @@ by_result {T = T} it (Err Signer) last moves = fails T it Signer last moves
 by_result {T = T} it (Err Read) last moves = fails T it Read last moves
 by_result {T = T} it (Err Write) last moves = fails T it Write last moves
 
+pages_result : (it : ChangingCall) (result : Result Positions FollowFault) (last : Option ChangingCall) → MayInterrupt None it (store_result result) last
+    → (last ≡ None) ⊎ ((last ≡ Some it) × IsErr result)
+pages_result it (Ok reached) last moves = inl moves
+pages_result it (Err fault) last (inl nothing) = inl nothing
+pages_result it (Err fault) last (inr itself) = inr (itself, refl)
+
 -- the call is the interrupted one
 abbrev Interrupted : OfficeCall → Option ChangingCall → Type 0
 Interrupted call last = (it : ChangingCall) × (last ≡ Some it) × (changing call ≡ Some it) × HasNotChanged call
@@ -66,6 +81,9 @@ moves_first (command_ran now command outcome) last moves =
 moves_first (batch_ran commands result) last moves =
     let it = batch_call commands in
     interrupts it (batch_ran commands result) last refl (by_result it result last moves)
+moves_first (follow_ran own pages result) last moves =
+    let it = follow_call pages in
+    interrupts it (follow_ran own pages result) last refl (pages_result it result last moves)
 moves_first (schedule_set steps result) last moves =
     let it = schedule_call steps in
     interrupts it (schedule_set steps result) last refl (by_result it result last moves)
@@ -91,6 +109,7 @@ module _ {C : Type 0} (g : Ghosts C) (signs : Signs) where
       → HasCleanDisk (state g t.0) → HasCleanDisk (state g s.0)
   call_clean s (command_ran now command outcome) t called = called.0
   call_clean s (batch_ran commands result) t called = called.0
+  call_clean s (follow_ran own pages result) t called = called.0
   call_clean s (schedule_set steps result) t called = called.0
   call_clean s (identifier_set octets result) t called = called.0
   call_clean s looked_up t called = was_clean (state g s.0) (state g t.0) called.0.survives.clean
@@ -107,6 +126,7 @@ module _ {C : Type 0} (g : Ghosts C) (signs : Signs) where
       × StandsWith g signs t signers after last × Moves first call last
   one_call s (command_ran now command outcome) t signers before first stands called clean = called.1 signers before first stands clean
   one_call s (batch_ran commands result) t signers before first stands called clean = called.1 signers before first stands clean
+  one_call s (follow_ran own pages result) t signers before first stands called clean = called.1 signers before first stands clean
   one_call s (schedule_set steps result) t signers before first stands called clean = called.1 signers before first stands clean
   one_call s (identifier_set octets result) t signers before first stands called clean = called.1 signers before first stands clean
   one_call s looked_up t signers before first stands (looked, same) clean =

@@ -6,11 +6,13 @@ use Rattle.sqlite_trees.specs.declared.store.Store.{Ghosts}
 use Rattle.reg_office_api.specs.Leads.{Leads}
 use Rattle.reg_office_api.specs.Signers.{OfficeSigners}
 use Rattle.reg_office_api.specs.CallSteps.{Signs}
+use Rattle.reg_office_api.specs.declared.follow.FollowFault.{FollowFault}
 use Rattle.reg_core.specs.Records.{Records}
 use Rattle.reg_core.specs.declared.command.Command.{Command}
 use Rattle.reg_core.specs.declared.command.Reply.{Reply}
 use Rattle.reg_core.specs.declared.refusal.Fault.{Fault}
-use Rattle.reg_core.specs.declared.refusal.Fault.TheVariants.{Refused}
+use Rattle.reg_core.specs.declared.refusal.Fault.TheVariants.{Refused, Store}
+use Rattle.reg_core_lists.specs.declared.positions.Positions.{Positions}
 use Rattle.reg_crl.specs.declared.signer.Signer.{Ghosts as Signer}
 use Rattle.reg_store_tables.specs.Stays.{Looked}
 use Rattle.reg_office.specs.AfterStoppedCommand.{ChangingCall, LeavesReported}
@@ -63,6 +65,11 @@ MayInterrupt (Some first) it result last = IsErr result × (last ≡ Some first)
 MayInterrupt None it (Ok done) last = last ≡ None
 MayInterrupt None it (Err (Refused why)) last = last ≡ None
 MayInterrupt None it (Err fault) last = (last ≡ None) ⊎ (last ≡ Some it)
+
+-- whether pages were entered, as the result of another call: any fault counts as a failure of the store
+abbrev pub store_result : Result Positions FollowFault → Result Positions Fault
+store_result (Ok reached) = Ok reached
+store_result (Err fault) = Err Store
 
 -- A call `it` as a step of the records, as in `Leads`, with the interrupted call before and after it. By `StandsWith`, a stop in the call leaves the
 -- records after it, or those after the interrupted call.

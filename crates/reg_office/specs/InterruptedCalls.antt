@@ -9,17 +9,23 @@ use Rattle.reg_core.specs.Records.{Records}
 use Rattle.reg_core.specs.declared.command.Command.{Command}
 use Rattle.reg_core.specs.declared.command.Reply.{Reply}
 use Rattle.reg_core.specs.declared.refusal.Fault.{Fault}
+use Rattle.reg_core_lists.specs.declared.feed_reader.ReceivedPage.{ReceivedPage}
+use Rattle.reg_core_lists.specs.declared.positions.Positions.{Positions}
 use Rattle.reg_office_api.specs.CallSteps.{BatchStep, CommandStep, Signs}
+use Rattle.reg_office_api.specs.Follows.{FollowStep}
 use Rattle.reg_office_api.specs.Settings.{ReplacesSchedule, SetsKeyIdentifier}
 use Rattle.reg_office_api.specs.Signers.{OfficeSigners}
+use Rattle.reg_office_api.specs.declared.follow.FollowFault.{FollowFault}
 use Rattle.reg_store_tables.specs.Stays.{Looked}
-use Rattle.reg_office.specs.AfterStoppedCommand.{ChangingCall, batch_call, command_call, identifier_call, schedule_call}
-use Rattle.reg_office.specs.Calls.{StandsWith, StopsOver}
+use Rattle.reg_office.specs.AfterStoppedCommand.{ChangingCall, batch_call, command_call, follow_call, identifier_call, schedule_call}
+use Rattle.reg_office.specs.Calls.{StandsWith, StopsOver, store_result}
 
--- a call of an office and its result: a command, commands in one transaction, a schedule or a key identifier that is set, or a look-up
+-- a call of an office and its result: a command, commands in one transaction, pages of another register's feed that are entered from these positions
+-- on, a schedule or a key identifier that is set, or a look-up
 pub data OfficeCall : Type 0 where
   command_ran : ℕ → Command → Result Reply Fault → OfficeCall
   batch_ran : List (ℕ × Command) → Result (Vec (Result Reply Fault) Global) Fault → OfficeCall
+  follow_ran : Positions → List ReceivedPage → Result Positions FollowFault → OfficeCall
   schedule_set : List (ℕ × ℕ) → Result (Unit {0}) Fault → OfficeCall
   identifier_set : List ℕ → Result (Unit {0}) Fault → OfficeCall
   looked_up : OfficeCall
@@ -28,6 +34,7 @@ pub data OfficeCall : Type 0 where
 abbrev pub CallStep : Signs → OfficeCall → OfficeSigners → Records → Records → Type 0
 CallStep signs (command_ran now command outcome) = CommandStep signs now command outcome
 CallStep signs (batch_ran commands result) = BatchStep signs commands result
+CallStep signs (follow_ran own pages result) = λ signers. FollowStep own pages result
 CallStep signs (schedule_set steps result) = λ signers. ReplacesSchedule steps result
 CallStep signs (identifier_set octets result) = λ signers. SetsKeyIdentifier octets result
 CallStep signs looked_up = λ signers before after. after ≡ before
@@ -38,6 +45,9 @@ IsCall g signs old (command_ran now command outcome) new =
     StopsOver g signs (command_call now command) outcome (CommandStep signs now command outcome) old new
 IsCall g signs old (batch_ran commands result) new =
     StopsOver g signs (batch_call commands) result (BatchStep signs commands result) old new
+IsCall g signs old (follow_ran own pages result) new =
+    StopsOver g signs (follow_call pages) (store_result result) (λ signers. FollowStep own pages result)
+    old new
 IsCall g signs old (schedule_set steps result) new =
     StopsOver g signs (schedule_call steps) result (λ signers. ReplacesSchedule steps result) old new
 IsCall g signs old (identifier_set octets result) new =
@@ -61,6 +71,7 @@ AreCallSteps signs signers before (call ∷ calls) after =
 abbrev pub changing : OfficeCall → Option ChangingCall
 changing (command_ran now command outcome) = Some (command_call now command)
 changing (batch_ran commands result) = Some (batch_call commands)
+changing (follow_ran own pages result) = Some (follow_call pages)
 changing (schedule_set steps result) = Some (schedule_call steps)
 changing (identifier_set octets result) = Some (identifier_call octets)
 changing looked_up = None
@@ -69,6 +80,7 @@ changing looked_up = None
 abbrev pub HasNotChanged : OfficeCall → Type 0
 HasNotChanged (command_ran now command outcome) = IsErr outcome
 HasNotChanged (batch_ran commands result) = IsErr result
+HasNotChanged (follow_ran own pages result) = IsErr result
 HasNotChanged (schedule_set steps result) = IsErr result
 HasNotChanged (identifier_set octets result) = IsErr result
 HasNotChanged looked_up = Unit {0}

@@ -7,7 +7,8 @@ ghost use Rattle.reg_core.specs.Calendar.{clock_end};
 ghost use Rattle.reg_core.specs.Schedule.{one_step};
 ghost use Rattle.reg_core_lists.specs.Feed.{IsInHistory, declines_after, feed_rows_of, window_text};
 ghost use Rattle.reg_der.specs.Authority.{key_identifier_at, name_of};
-ghost use Rattle.reg_office.specs.Calls.{OfficeLeads, OfficeLooks, SignsNothing};
+ghost use Rattle.reg_office.specs.AfterStoppedCommand.{follow_call};
+ghost use Rattle.reg_office.specs.Calls.{OfficeLooks, OfficeStops, SignsNothing, store_result};
 ghost use Rattle.reg_office.specs.Replays.{IsPageWithout, LeadsWithin, MayReplace, MayTakeHead, TakesIssuer, TakesMoment, joined_rows, none_replayed, rows_and};
 ghost use Rattle.reg_office_api.specs.Follows.{ArePositionsOf, EntersPages, FollowsPages, FormsSign, IsLastOf, IsWithoutNews, counts_of_records, declines_of_records, no_feed_rows};
 ghost use Rattle.reg_office_api.specs.LookUps.{IsOfStore};
@@ -61,8 +62,9 @@ impl<C: Alter, S: Signer> Office<C, S> {
         pages: &[ReceivedPage],
         page: &ReceivedPage,
     ) -> Result<Positions, FollowFault>
-        ensures enters { FormsSign S.signs S.forms → IsLastOf pages.now page.now → OfficeLeads C.Store S.Signer
-            (λ signers. EntersPages pages.now result) self.old self.new }
+        ensures stops { FormsSign S.signs S.forms → IsLastOf pages.now page.now → OfficeStops C.Store S.Signer
+            (follow_call pages.now) (store_result result) (λ signers. EntersPages pages.now result)
+            self.old self.new }
         ensures idle { StaysIdle C.Store self.old.store self.new.store }
     {
         match self.store.begin() {

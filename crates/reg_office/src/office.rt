@@ -91,10 +91,10 @@ impl<C: Alter, S: Signer> reg_office_api::Office for Office<C, S> {
     ghost use Rattle.reg_store_changes.specs.WithinTransactions.{StaysIdle};
     ghost use Rattle.reg_der.specs.Issuers.{with_key_identifier};
     ghost use Rattle.reg_store_tables.specs.Stays.{Changed, Stays};
-    ghost use Rattle.reg_office.specs.AfterStoppedCommand.{IsIdentified, batch_call, command_call, identifier_call, schedule_call};
+    ghost use Rattle.reg_office.specs.AfterStoppedCommand.{IsIdentified, batch_call, command_call, follow_call, identifier_call, schedule_call};
     ghost use Rattle.reg_office_reads.specs.Answering.{SignerHasFailed};
     ghost use Rattle.reg_office_reads.specs.Beginning.{IsBegun, RefusesRequest};
-    ghost use Rattle.reg_office.specs.Calls.{OfficeLeads, OfficeLooks, OfficeStops, OfficeReports, RanIn, SignsNothing, StandsFor, StandsIn, answer_failures_in, seen};
+    ghost use Rattle.reg_office.specs.Calls.{OfficeLeads, OfficeLooks, OfficeStops, OfficeReports, RanIn, SignsNothing, StandsFor, StandsIn, answer_failures_in, seen, store_result};
     ghost use Rattle.reg_office_reads.specs.Faults.{IsTableFault};
 
     ghost is_clean = { λ office. HasCleanDisk (state C.Store office.store) };
@@ -292,7 +292,7 @@ impl<C: Alter, S: Signer> reg_office_api::Office for Office<C, S> {
     }
 
     /// If a disk failure during the commit closes the connection, the register has all of the pages or none of them when it is opened again. Until
-    /// then no later call changes the records.
+    /// then no later call changes the records (`stops`).
     fn follow(
         &mut self,
         alloc: Global,
@@ -301,6 +301,8 @@ impl<C: Alter, S: Signer> reg_office_api::Office for Office<C, S> {
     ) -> Result<Positions, FollowFault>
         ensures follows { FormsSign S.signs S.forms → OfficeLeads C.Store S.Signer
             (λ signers. FollowStep from.now pages.now result) self.old self.new }
+        ensures stops { FormsSign S.signs S.forms → OfficeStops C.Store S.Signer (follow_call pages.now)
+            (store_result result) (λ signers. FollowStep from.now pages.now result) self.old self.new }
         ensures idle { StaysIdle C.Store self.old.store self.new.store }
     {
         let Some((page, earlier)) = pages.split_last() else {
