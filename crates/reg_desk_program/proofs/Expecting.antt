@@ -15,7 +15,7 @@ use Rattle.reg_crl_signer.specs.KeyOrDigestSignatures.{digest}
 use Rattle.reg_crl_signer.specs.declared.algorithm.Algorithm.{Algorithm}
 use Rattle.reg_desk_service.specs.Signers.{unreachable_signer}
 use Rattle.reg_office.specs.AfterStoppedCommand.{ChangingCall, LeavesReported}
-use Rattle.reg_office.specs.Calls.{StandsFor}
+use Rattle.reg_office.specs.Calls.{StandsWith}
 use Rattle.reg_office.specs.Following.{FollowsDigest, IsDigestSigner}
 use Rattle.reg_office_api.specs.CallSteps.{Signs}
 use Rattle.reg_office_api.specs.Signers.{OfficeSigners, Responder}
@@ -40,9 +40,16 @@ key_of_keyed key = refl
 one_key : (it : Identity) → ((key : List ℕ) → it.public_key ≡ key) → ⊥
 one_key it is = let bad : ◌≡◌ {A = List ℕ} [] (0 ∷ []) = sym (is []) ∙ is (0 ∷ []) in cc
 
+-- what stands for some signers stands for them with the office's signer of CRLs
+with_crls : {C : Type 0} (g : Ghosts C) (signs : Signs) (office : Held C × OfficeSigners) (signers : OfficeSigners) (records : Records) (interrupted : Option ChangingCall)
+    → StandsWith g signs office signers records interrupted → StandsWith g signs office (record { crls = office.1.crls; answers = signers.answers }) records interrupted
+with_crls g signs office signers records interrupted stands =
+    subst (λ (v : OfficeSigners). StandsWith g signs office v records interrupted)
+    (λ i. record { crls = sym (ap (λ (it : OfficeSigners). it.crls) stands.0) i; answers = signers.answers }) stands
+
 -- nothing is looked up, and the signers stay
 pub expects_still : {C : Type 0} (g : Ghosts C) (signs : Signs) (store : Held C) (signers : OfficeSigners) → MayExpectCrls g signs store store signers signers
-expects_still g signs store signers = ((λ clean. clean), (λ those before stood clean. (those.crls, before, refl, stood)))
+expects_still g signs store signers = ((λ clean. clean), (λ those before interrupted stands clean. with_crls g signs (store, signers) those before interrupted stands))
 
 -- A store before look-ups and after them.
 module _ {C : Type 0} (g : Ghosts C) (signs : Signs) (old new : Held C) (looked : Looked g old new) where
@@ -80,19 +87,12 @@ module _ {C : Type 0} (g : Ghosts C) (signs : Signs) (old new : Held C) (looked 
   pub expects_none : (was becomes : OfficeSigners) → becomes ≡ was → MayExpectCrls g signs old new was becomes
   expects_none was becomes same = (
     clean_before,
-    (λ signers before (interrupted, (is, stands, left)) clean. (
-      signers.crls,
-      before,
-      refl,
-      (
-        interrupted,
-        (
+    (λ signers before interrupted (is, stands, left) clean.
+        with_crls g signs (new, becomes) signers before interrupted (
           same ∙ is,
           record { shown = after_look g old new before looked.survives.clean looked.same stands.shown; sound = stands.sound },
           still_reported signers.crls before interrupted left,
-        ),
-      ),
-    )),
+        )),
   )
 
   -- a signer was found for the issuer's key, so the connection is open
@@ -117,22 +117,16 @@ module _ {C : Type 0} (g : Ghosts C) (signs : Signs) (old new : Held C) (looked 
         → becomes.answers ≡ was.answers → MayExpectCrls g signs old new was becomes
     expects_key follows is_digest was becomes by_digest same_answers = (
       clean_before,
-      (λ signers before (interrupted, (is, stands, left)) clean.
+      (λ signers before interrupted (is, stands, left) clean.
           let none = none_interrupted before signers.crls interrupted left clean in
           let left_none = subst (λ (it : Option ChangingCall). LeavesReported g signs old signers.crls before it) none left in
           let by : signers.crls ≡ digest = sym (ap (λ (it : OfficeSigners). it.crls) is) ∙ by_digest in
-          let answers_same : becomes.answers ≡ signers.answers = same_answers ∙ ap (λ (it : OfficeSigners). it.answers) is in (
-            becomes.crls,
-            before,
-            refl,
-            (
-              None,
-              (
-                (λ i. record { crls = becomes.crls; answers = answers_same i }),
-                follows new signers.crls becomes.crls before (subst (λ (it : Identity). IsDigestSigner signs it) (sym by) is_digest)
-                    (record { shown = after_look g old new before looked.survives.clean looked.same stands.shown; sound = stands.sound }),
-                none_reported signers.crls becomes.crls before left_none,
-              ),
-            ),
+          let answers_same : becomes.answers ≡ signers.answers = same_answers ∙ ap (λ (it : OfficeSigners). it.answers) is in
+          let those : OfficeSigners = record { crls = becomes.crls; answers = signers.answers } in
+          subst (λ (it : Option ChangingCall). StandsWith g signs (new, becomes) those before it) (sym none) (
+            (λ i. record { crls = becomes.crls; answers = answers_same i }),
+            follows new signers.crls becomes.crls before (subst (λ (it : Identity). IsDigestSigner signs it) (sym by) is_digest)
+                (record { shown = after_look g old new before looked.survives.clean looked.same stands.shown; sound = stands.sound }),
+            none_reported signers.crls becomes.crls before left_none,
           )),
     )

@@ -9,3 +9,4 @@ pub mod OpeningFaults
 pub mod PresetSignatures
 pub mod Signers
 pub mod Expecting
+pub mod FollowedFiles

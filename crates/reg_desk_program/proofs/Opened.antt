@@ -1,12 +1,15 @@
 -- Registers in files, as they were opened.
-use Rattle.std.proofs.Common.{◌≡◌, List, ℕ, sym, subst}
-use Rattle.sqlite.specs.Held.{Held}
+use Rattle.std.proofs.Common.{◌≡◌, List, ℕ, refl, sym, subst}
+use Rattle.sqlite.specs.Held.{Held, state}
+use Rattle.sqlite.specs.State.{HasCleanDisk}
 use Rattle.sqlite_trees.specs.declared.store.Store.{Ghosts}
 use Rattle.reg_office_api.specs.CallSteps.{Signs}
 use Rattle.reg_office_api.specs.Signers.{OfficeSigners, Responder}
+use Rattle.reg_core.specs.Records.{Records}
 use Rattle.reg_crl.specs.Signing.{Identity}
 use Rattle.reg_desk_service.specs.Signers.{EmbeddedKeyFits}
 use Rattle.reg_desk_service.specs.declared.crl_signer.CrlSignerChoice.{CrlSignerChoice}
+use Rattle.reg_office.specs.Calls.{StandsFor}
 use Rattle.reg_office_reads.specs.Answering.{answers_by}
 use Rattle.reg_office_reads.specs.declared.responder.Responder.{Responder as Held_by}
 use Rattle.reg_desk_program.specs.StoreSigners.{FitsRegister, MayExpectCrls}
@@ -28,5 +31,11 @@ module _ {C : Type 0} {g : Ghosts C} {store tables new : Held C} (same : tables 
       → FitsRegister g tables new answers identity crls → FitsRegister g store new answers identity crls
   lent_signs {answers} {identity} {crls} signs = subst (λ those. FitsRegister g those new answers identity crls) same signs
 
-  pub lent_expects : (signs : Signs) (was becomes : OfficeSigners) → MayExpectCrls g signs tables new was becomes → MayExpectCrls g signs store new was becomes
-  lent_expects signs was becomes expects = subst (λ (those : Held C). MayExpectCrls g signs those new was becomes) same expects
+  -- the same, whichever call was interrupted
+  pub lent_expects : (signs : Signs) (was becomes : OfficeSigners) → MayExpectCrls g signs tables new was becomes
+      → (HasCleanDisk (state g new) → HasCleanDisk (state g store))
+      × ((signers : OfficeSigners) (before : Records) → StandsFor g signs (store, was) signers before → HasCleanDisk (state g new)
+      → (crls : Identity) × (after : Records) × (after ≡ before) × StandsFor g signs (new, becomes) (record { crls = crls; answers = signers.answers }) after)
+  lent_expects signs was becomes expects =
+      let looks = subst (λ (those : Held C). MayExpectCrls g signs those new was becomes) same expects in
+      (looks.0, (λ signers before (interrupted, stands) clean. (becomes.crls, before, refl, (interrupted, looks.1 signers before interrupted stands clean))))

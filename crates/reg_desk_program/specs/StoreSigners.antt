@@ -3,7 +3,7 @@ use Rattle.std.specs.Prelude.{◌≡◌, ℕ, List, Option, Some, None}
 use Rattle.sqlite.specs.Held.{Held, state}
 use Rattle.sqlite.specs.State.{HasCleanDisk}
 use Rattle.sqlite_trees.specs.declared.store.Store.{Ghosts}
-use Rattle.reg_office.specs.Calls.{StandsFor}
+use Rattle.reg_office.specs.StoppedFollowers.{LooksWithCrls}
 use Rattle.reg_office_api.specs.CallSteps.{Signs}
 use Rattle.reg_office_api.specs.Signers.{OfficeSigners, Responder}
 use Rattle.reg_core.specs.Records.{Records}
@@ -44,12 +44,6 @@ module _ {C : Type 0} (g : Ghosts C) (old new : Held C) (answers : Identity → 
     pub embeds : (records : Records) → Shows g old records → HasCleanDisk (state g new)
         → (crls : Identity) → EmbeddedKeyFits records.issuer.key (answers crls)
 
--- Look-ups over an office's store, given before and after them, and so its signers: the records stay, and the signer of CRLs may be another one, for
--- which they are sound.
+-- `LooksWithCrls`, over an office's store before and after look-ups, with its signers
 abbrev pub MayExpectCrls : {C : Type 0} → Ghosts C → Signs → Held C → Held C → OfficeSigners → OfficeSigners → Type 0
-MayExpectCrls g signs old new was becomes =
-    (HasCleanDisk (state g new) → HasCleanDisk (state g old))
-    × ((signers : OfficeSigners) (before : Records) → StandsFor g signs (old, was) signers before
-    → HasCleanDisk (state g new)
-    → (crls : Identity) × (after : Records) × (after ≡ before)
-    × StandsFor g signs (new, becomes) (record { crls = crls; answers = signers.answers }) after)
+MayExpectCrls g signs old new was becomes = LooksWithCrls g signs (old, was) (new, becomes)

@@ -2,6 +2,7 @@
 
 ghost use Rattle.reg_office.specs.Following.{IsDigestSigner};
 ghost use Rattle.reg_desk_program.specs.Audited.{FoundSound, StandsOnceAudited};
+ghost use Rattle.reg_desk_program.specs.FollowedFiles.{RunsKeepFollowing};
 ghost use Rattle.reg_desk_program.specs.Stops.{LeavesWhatWasReported};
 ghost use Rattle.reg_crl_signer.specs.KeyOrDigestSignatures.{SignsByKeyOrDigest, digest};
 
@@ -34,9 +35,20 @@ pub fn without_a_key_only_digests_are_made<D: Device>()
 /// register that is opened again from what the disk kept has the records from before the interrupted call, or those after it (`leaves`). The
 /// interrupted call is the last one (`call`), or an earlier one in which a failure of the disk closed the connection, so that no later call changed
 /// the records (`calls`). No reply accepted the commands of that call, so no accepted command is lost. Of the commands without an accepting reply, at
-/// most those of that call (such as a batch) were carried out. If a job closes the files without an error at its end, a register that is opened from
-/// them has the records from before the closing, even if the machine stops then (`closes`). This holds if the connection obeys its schema: `IsLive`,
-/// the clause `live` of `Connection::schema`.
+/// most those of that call (such as a batch) were carried out. The pages that a follower enters together are one call, too. If a job closes the files
+/// without an error at its end, a register that is opened from them has the records from before the closing, even if the machine stops then
+/// (`closes`). This holds if the connection obeys its schema: `IsLive`, the clause `live` of `Connection::schema`.
 pub fn a_stop_leaves_what_was_reported<D: Disk, S: Signer>()
     ensures { LeavesWhatWasReported D.Disk S.signs }
 {}
+
+/// After any runs of a follower over its file, each of which ends or is stopped at any moment, the file has records that the leader had, in no
+/// earlier state from run to run. A run finds in the file what the one before left: this is proved, and no premise. The law assumes that each run
+/// opens what the disk kept, for a signer of CRLs for which the records are sound, and that its pages are of the leader's feed. Between the calls of
+/// a run the signer of CRLs may become another one.
+pub fn followers_go_on<D: Disk, S: Signer>()
+    ensures { RunsKeepFollowing D.Disk S.signs }
+{
+    a_stop_leaves_what_was_reported::<D, S>();
+    reg_office_api::laws::followers();
+}

@@ -21,6 +21,7 @@ pub mod ReplayedRows
 pub mod Replaying
 pub mod Setting
 pub mod RegisterSummary
+pub mod StoppedFollowers
 pub mod StoreFaults
 pub mod Stopping
 pub mod ShowingNothingElse

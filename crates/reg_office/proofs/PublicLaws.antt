@@ -5,3 +5,4 @@ pub use Rattle.reg_office.proofs.Issuing.{latest_in}
 pub use Rattle.reg_office.proofs.Interrupting.{one_of_them, only_itself}
 pub use Rattle.reg_office.proofs.Leaving.{leaves_made, leaves_opened}
 pub use Rattle.reg_office.proofs.OpenedAgain.{opens_again}
+pub use Rattle.reg_office.proofs.StoppedFollowers.{stops_keep_following}

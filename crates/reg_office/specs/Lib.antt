@@ -10,3 +10,4 @@ pub mod OpenedAgain
 pub mod Replays
 pub mod Shown
 pub mod Stands
+pub mod StoppedFollowers

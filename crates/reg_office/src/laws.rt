@@ -6,6 +6,7 @@ ghost use Rattle.reg_core_laws.specs.History.{HistoryIsKept};
 ghost use Rattle.reg_office.specs.Agreement.{OcspAgrees};
 ghost use Rattle.reg_office.specs.Following.{FollowsDigest, RunsSince, SignedOrDigest, Signed};
 ghost use Rattle.reg_office.specs.OpenedAgain.{OpensAfterAPrefix, OpensBeforeOrAfter};
+ghost use Rattle.reg_office.specs.StoppedFollowers.{StopsKeepFollowing};
 ghost use Rattle.reg_office_reads.specs.Decisions.{SubscribersAreSteps, OrdersAreSteps, RegistrationsAreSteps, RequestsAreSteps, DeclinesAreSteps, RevocationsAreSteps, CrlsAreSteps};
 ghost use Rattle.reg_office.specs.Shown.{SoundRun, AcceptedRevocation, IsShownEverywhere, WasRevoked, IsNowhereShown};
 
@@ -80,3 +81,11 @@ pub fn a_register_opened_after_a_stop_stands_before_or_after<C: Alter, S: Signer
 pub fn a_register_opened_after_a_stop_stands_after_a_prefix<C: Alter, S: Signer>()
     ensures { OpensAfterAPrefix C.Store S.signs }
 {}
+
+/// If a follower's machine stops at any moment, the register that is opened again has records that its leader had, in no earlier state than the
+/// follower had before. From these on the law holds again: so over any runs of the follower and any stops between them.
+pub fn a_follower_goes_on_after_a_stop<C: Alter, S: Signer>()
+    ensures { StopsKeepFollowing C.Store S.signs }
+{
+    reg_office_api::laws::followers();
+}
