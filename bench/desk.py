@@ -6,6 +6,7 @@ It prints tables like those of docs/PERFORMANCE.md.
 Usage: bench/desk.py [NUMBER OF CERTIFICATES ..]     (if left out: 1000 10000 100000; DESK names another program)
        bench/desk.py --crl [NUMBER OF ENTRIES ..]    only CRLs, of registers whose certificates are all revoked
        bench/desk.py --lists [NUMBER OF CERTIFICATES ..]    lists: of a closed register, and the pages of an open one
+       bench/desk.py --overdue [NUMBER OF CERTIFICATES ..]    `overdue`, and an open desk's `/metrics`: a quarter as many requests, a fifth open
 The files are in the folder that DESK_BENCH_FOLDER names, or in the system's temporary folder; /dev/shm keeps them in memory.
 """
 import json
@@ -97,15 +98,16 @@ def copied(path, folder):
 
 
 class Script:
-    """`desk script` over a register's file. The register is open once this exists."""
+    """`desk script` over a register's file, at one moment. The register is open once this exists."""
 
-    def __init__(self, path):
+    def __init__(self, path, moment=DAY):
+        self.moment = moment
         self.process = subprocess.Popen([DESK, "script", path], stdin=subprocess.PIPE, stdout=subprocess.PIPE)
         self.ask(["counts"])
 
     def ask(self, lines):
         """The seconds until all of these lines are answered."""
-        text = "".join(f"{DAY} {it}\n" for it in lines).encode()
+        text = "".join(f"{self.moment} {it}\n" for it in lines).encode()
         feeder = threading.Thread(target=self.feed, args=(text,))
         began = time.perf_counter()
         feeder.start()
@@ -221,6 +223,46 @@ def lists(sizes):
             os.remove(path)
 
 
+def overdue(sizes):
+    """Prints the time of the first `overdue` of a desk, which reads all requests, of later ones, also after two revocations each, and of `/metrics`."""
+    print("| Certificates | Requests | Open | First `overdue`, ms | Later, ms | After two revocations, ms | First `/metrics`, ms | Later, ms |")
+    print("|---|---|---|---|---|---|---|---|")
+    # The registers begin yesterday, because `/metrics` counts what has expired since the last command.
+    registers.START = (int(time.time()) // registers.DAY - 1) * registers.DAY
+    with tempfile.TemporaryDirectory(prefix="desk-bench-", dir=os.environ.get("DESK_BENCH_FOLDER")) as folder:
+        for size in sizes:
+            path, records = f"{folder}/{size}.db", registers.Records(size, crls=1)
+            decided = len(records.requests)
+            gone = {row[0] for row in records.revocations}
+            good = [cert[0] for cert in records.certs if cert[0] not in gone and cert[3] > records.last + registers.DAY][: size // 20]
+            records.requests += [(decided + it, serial, 6, records.last, 0) for it, serial in enumerate(good, 1)]
+            registers.make(path, records, 3)
+            with Script(path, time.strftime("%Y-%m-%dT%H:%M:%SZ", time.gmtime(records.last + 1))) as desk:
+                first, later, after = desk.ask(["overdue"]), desk.ask(["overdue"] * 20) / 20, []
+                for it in range(ROUNDS):
+                    desk.ask([f"revoke {decided + 2 * it + 1}", f"revoke {decided + 2 * it + 2}"])
+                    after.append(desk.ask(["overdue"]))
+            found = [first, later, statistics.median(after), *metrics(path, folder)]
+            print(f"| {size:,} | {len(records.requests):,} | {len(good):,} | " + " | ".join(f"{it * 1e3:,.2f}" for it in found) + " |", flush=True)
+            os.remove(path)
+
+
+def metrics(path, folder):
+    """The seconds of the first `/metrics` of an open desk, and the median of the next ones."""
+    with socket.create_server(("127.0.0.1", 0)) as free:
+        port = free.getsockname()[1]
+    with subprocess.Popen([DESK, "open", path, "--port", str(port), "--control", f"{folder}/control", "--unsigned"], stdout=subprocess.PIPE) as desk:
+        desk.stdout.readline()
+        took = []
+        for _ in range(21):
+            began = time.perf_counter()
+            with urllib.request.urlopen(f"http://127.0.0.1:{port}/metrics") as answer:
+                answer.read()
+            took.append(time.perf_counter() - began)
+        desk.send_signal(signal.SIGTERM)
+    return took[0], statistics.median(took[1:])
+
+
 def main():
     words = sys.argv[1:]
     sizes = [int(it) for it in words if not it.startswith("--")] or [1_000, 10_000, 100_000]
@@ -229,6 +271,9 @@ def main():
         return
     if "--lists" in words:
         lists(sizes)
+        return
+    if "--overdue" in words:
+        overdue(sizes)
         return
     found, peaks = {}, []
     with tempfile.TemporaryDirectory(prefix="desk-bench-", dir=os.environ.get("DESK_BENCH_FOLDER")) as folder:
