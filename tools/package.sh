@@ -74,7 +74,7 @@ rm -r "$manual"
 documents=usr/share/doc/durshavon
 # The pages, at the paths by which they link to each other.
 for name in README.md CHANGELOG.md SECURITY.md docs/*.md docs/*.png docs/*.svg crates/reg_core/README.md crates/reg_core_lists/README.md \
-    crates/reg_store/README.md signer/README.md; do
+    crates/reg_ocsp/README.md crates/reg_store/README.md signer/README.md; do
     put 0644 "$name" "$documents/$name"
 done
 put 0644 packaging/README.Debian "$documents/README.Debian"

@@ -84,7 +84,7 @@ def built(t):
         (folder / it).symlink_to(TOP / it)
     (folder / "crates").mkdir()
     # tools/version.sh reads the version in the first, and pages lead to the others.
-    for it in ("reg_desk_cli", "reg_core", "reg_core_lists", "reg_store"):
+    for it in ("reg_desk_cli", "reg_core", "reg_core_lists", "reg_ocsp", "reg_store"):
         (folder / "crates" / it).symlink_to(TOP / "crates" / it)
     # git does not follow a link to .gitignore.
     (folder / ".gitignore").write_bytes((TOP / ".gitignore").read_bytes())
