@@ -58,11 +58,18 @@ def a_new_copy_that_has_no_memory_says_so(t):
     whole, count = faults.run(t, words)
     t.same((whole.status, whole.err_lines[-1]), (1, "broken-feed"), "its end without a fault")
     last = count["alloc"]
-    ends = set()
+    ends, left = set(), set()
     for at in range(last, max(last - 1_200, 1), -80):
         ran, count = faults.run(t, words, fail=f"alloc:{at}+")
         ends.add((ran.status, ran.err_lines[-1] if ran.err_lines else ""))
+        left |= {it.name for it in t.room.glob("copy.db*")}
     t.true(ends <= {(1, "F1 memory"), (1, "broken-feed")} and (1, "F1 memory") in ends, f"status and last line: {ends}")
+    t.true(left <= {"copy.db.fill-wal"}, f"files that are left: {left}")
+    # A stop may leave two more. The next `desk follow` removes them.
+    for it in (".fill", ".fill-wal", ".part"):
+        (t.room / f"copy.db{it}").write_bytes(b"left")
+    Copy(t, address(leader.port)).is_like(t.control())
+    t.same(sorted(it.name for it in t.room.glob("copy.db*")), ["copy.db", "copy.db-wal"], "files of the copy")
 
 
 @test(seconds=3)
