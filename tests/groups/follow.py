@@ -375,7 +375,7 @@ def a_leader_that_is_replaced(t):
 
 
 class Leader:
-    """A leader whose answers to GET /changes the test sets: a status and a body, or bytes as they are; or a function that gives these, by the request."""
+    """A leader whose answers to GET /changes the test sets: a status and a body, bytes as they are, or a function of the request that gives these."""
 
     def __init__(self, port, answer):
         self.answer, self.asked, self.requests = answer, 0, []
