@@ -764,14 +764,14 @@ NEAR_COPY = """server {{
 """
 
 
-def nginx(t, name, site):
-    """Starts nginx with a site, until the test ends."""
+def nginx(t, name, site, before=()):
+    """Starts nginx with a site, until the test ends. `before` are the words of a program that starts it."""
     folder = t.room / name
     folder.mkdir()
     (folder / "desk.conf").write_text(site)
     user = "user root;\n" if os.getuid() == 0 else ""
     (folder / "nginx.conf").write_text(AROUND.format(user=user, folder=folder))
-    words = ["nginx", "-c", str(folder / "nginx.conf"), "-e", str(folder / "error.log"), "-g", "daemon off;"]
+    words = [*before, "nginx", "-c", str(folder / "nginx.conf"), "-e", str(folder / "error.log"), "-g", "daemon off;"]
     t.note(" ".join(words))
     process = subprocess.Popen(words, cwd=folder, stdin=subprocess.DEVNULL)
     t.callback(end, process)

@@ -133,9 +133,9 @@ def free_port():
 
 
 class Opened:
-    """`desk open` or `desk serve`, started and listening until the `with` block ends."""
+    """`desk open` or `desk serve`, started and listening until the `with` block ends. `before` are the words of a program that starts it."""
 
-    def __init__(self, words, cwd=None, **how):
+    def __init__(self, words, cwd=None, before=(), **how):
         self.cwd, self.words = cwd, [str(it) for it in words]
         if "--port" in self.words:
             self.port = int(self.words[self.words.index("--port") + 1])
@@ -144,7 +144,7 @@ class Opened:
             self.words += ["--port", str(self.port)]
         self.stderr = open(os.path.join(cwd or ".", f"stderr-{self.port}"), "w+b")
         self.process = subprocess.Popen(
-            [program(), *self.words], cwd=cwd, stdin=subprocess.DEVNULL, stdout=subprocess.PIPE, stderr=self.stderr, env=environment(**how)
+            [*before, program(), *self.words], cwd=cwd, stdin=subprocess.DEVNULL, stdout=subprocess.PIPE, stderr=self.stderr, env=environment(**how)
         )
         # Its first line says that it listens. It is empty if the program ends before.
         self.first = self.process.stdout.readline()

@@ -16,7 +16,7 @@ PACKAGES = {
     "debootstrap": "debootstrap", "dpkg-deb": "dpkg", "systemd-nspawn": "systemd-container", "sqlite3": "sqlite3",
     "systemd-analyze": "systemd", "java": "default-jre-headless", "javac": "default-jdk-headless", "ocsptool": "gnutls-bin", "certtool": "gnutls-bin", "certutil": "libnss3-tools", "vfychain": "libnss3-tools", "go": "golang-go",
     "mkfs.btrfs": "btrfs-progs", "setpriv": "util-linux", "taskset": "util-linux", "softhsm2-util": "softhsm2", "pkcs11-tool": "opensc", "prometheus": "prometheus", "promtool": "prometheus",
-    "ip": "iproute2", "tc": "iproute2", "nft": "nftables", "ssh": "openssh-client", "sshd": "openssh-server", "jq": "jq", "logrotate": "logrotate", "clang": "clang", "valgrind": "valgrind", "make": "make", "readelf": "binutils",
+    "ip": "iproute2", "tc": "iproute2", "keepalived": "keepalived", "nft": "nftables", "ssh": "openssh-client", "sshd": "openssh-server", "jq": "jq", "logrotate": "logrotate", "clang": "clang", "valgrind": "valgrind", "make": "make", "readelf": "binutils",
 }
 
 
