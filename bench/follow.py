@@ -5,7 +5,8 @@ has a command; how long a new follower takes, from nothing and from a copy; and 
 
 Usage: bench/follow.py [--seconds N] [--only commands,lag,new,ocsp] [NUMBER OF CERTIFICATES]
        (5 seconds a row, 100000 certificates; DESK names another program than the built one)
-The files are in the folder that DESK_BENCH_FOLDER names, or in the system's temporary folder.
+The files are in the folder that DESK_BENCH_FOLDER names, or in the system's temporary folder. DESK_BENCH_REGISTER names a file that `made` of this
+program made before for so many certificates.
 """
 import argparse
 import contextlib
@@ -163,8 +164,11 @@ def lag(folder, seconds):
 
 
 def made(folder, count):
-    path, records = f"{folder}/ca.db", registers.Records(count, crls=20)
-    registers.make(path, records, 3)
+    path = f"{folder}/ca.db"
+    if "DESK_BENCH_REGISTER" in os.environ:
+        shutil.copyfile(os.environ["DESK_BENCH_REGISTER"], path)
+    else:
+        registers.make(path, registers.Records(count, crls=20), 3)
     return path
 
 
