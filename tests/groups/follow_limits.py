@@ -4,8 +4,9 @@ import time
 
 from groups.changes import LINES, Tables, asked, taken
 from groups.follow import CLOCK, LATER, OPEN, Copy, Forward, address, faked, led, paged, timed
-from groups.follow_steps import fills, page_for, waits
+from groups.follow_steps import fills, now_text, page_for, sets_out, waits
 from groups.limits import full_queue
+from groups.signers import LONGEST_RSA_KEY
 from lib import faults, program
 from lib.authority import until
 from lib.passing import Passing
@@ -34,6 +35,81 @@ def a_new_copy_of_more_than_512_pages(t):
     leader = t.open()
     copy = Copy(t, address(leader.port))
     copy.is_like(t.control())
+
+
+@test(seconds=8)
+def a_copy_with_twenty_thousand_declined_requests(t):
+    """A follower begins with the positions of its own register, which count them."""
+    t.register(lines=LINES)
+    more = "WITH RECURSIVE row (at) AS (SELECT 5 UNION ALL SELECT at + 1 FROM row WHERE at < ?)"
+    t.sql("ca.db", f"{more} INSERT INTO request SELECT at, serial, ground, received, 1 FROM row, (SELECT * FROM request WHERE id = 4)", 20_000)
+    t.done("copy", "ca.db", "copy.db")
+    t.clock(CLOCK)
+    leader = t.open()
+    Copy(t, address(leader.port)).is_like(t.control())
+
+
+@test(seconds=12)
+def a_long_crl_with_a_digest_before_the_first_signature(t):
+    """The register got a signer after a CRL with 1,500 entries. A new copy takes that CRL with its placeholder digest, and the later ones."""
+    ca, words = sets_out(t, True)
+    count = 1_500
+    begin, end, later = now_text(-3_600), now_text(80 * 86_400), now_text(-1_800)
+    lines = [f"{begin} subscriber acme", *[f"{begin} order 1 90"] * count]
+    for id in range(1, count + 1):
+        serial = f"4{id:039x}"
+        lines += [f"{begin} {it}" for it in (f"register {id} {serial} {begin} {end}", f"request {serial} superseded", f"revoke {id}")]
+    t.done("script", "ca.db", given="".join(f"{it}\n" for it in (*lines, f"{later} crl")))
+    leader = t.open("ca.db", *ca.signing())
+    control = t.control()
+    t.same(control.ask("crl"), f"crl 2 entries {count}")
+    copy = Copy(t, address(leader.port), signing=words)
+    copy.is_like(control)
+    t.true(len(copy.copied().crls[1]) > 65_536, "the CRL with a digest is short")
+
+
+@test(seconds=3)
+def a_crl_that_the_longest_key_signed(t):
+    """Its signature has 2,037 octets."""
+    t.register(key=LONGEST_RSA_KEY)
+    t.signer("ca.sign", lambda message, call: b"\7" * 2_037)
+    t.clock(CLOCK)
+    signing = ("--signer", "ca.sign", "--algorithm", "rsa-sha256")
+    leader, control = t.open("ca.db", *signing), t.control()
+    t.same(control.ask("crl"), "crl 1 entries 0")
+    Copy(t, address(leader.port), signing=signing).is_like(control)
+
+
+STEPS = ["1970-01-01T00:00:00Z=398", *[f"20{year}-01-01T00:00:00Z={398 - year}" for year in range(26, 41)]]
+
+
+@test(seconds=3)
+def a_follower_of_a_schedule_of_sixteen_steps_confirms(t):
+    """The header of its requests has all of them."""
+    t.register(lines=LINES)
+    t.done("schedule", "ca.db", *STEPS)
+    t.clock(CLOCK)
+    leader, control = t.open("ca.db", "--confirm-by", "1"), t.control()
+    copy = Copy(t, address(leader.port))
+    copy.is_like(control)
+    lines = t.enter_context(program.Control(t.room / "control", timeout=20))
+    t.same(lines.ask("subscriber third"), "subscriber 3", "the reply to a command")
+
+
+@test(seconds=4)
+def a_request_without_news_writes_to_no_file(t):
+    """A follower asks five times a second. The register has a schedule of several steps, and an issuer with another key identifier."""
+    t.register(lines=LINES)
+    t.done("schedule", "ca.db", *STEPS[:2])
+    t.done("key-id", "ca.db", "0102")
+    t.clock(CLOCK)
+    leader = t.open()
+    copy = Copy(t, address(leader.port), "--lag", "4", faults=faults.environment(count=t.room / "count", only="file"))
+    copy.is_like(t.control())
+    wrote = lambda: [faults.counted(t.room / "count")[it] for it in ("write", "sync")]
+    before, pages = wrote(), copy.leader["pages"]
+    until(lambda: copy.leader["pages"] >= pages + 5, "five more pages")
+    t.same(wrote(), before, "writes and syncs")
 
 
 @test(seconds=3)

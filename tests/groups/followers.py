@@ -109,6 +109,25 @@ def clients_that_leave_before_their_replies(t):
 
 
 @test(seconds=2)
+def a_client_that_leaves_takes_no_reply_of_others(t):
+    """Three clients' replies wait. The first one leaves, and then the follower has all commands."""
+    t.register(lines=LINES)
+    t.clock(CLOCK)
+    leader, other = t.open("ca.db", "--confirm-by", "1"), t.control()
+    clients = [program.Control(t.room / "control", timeout=20) for _ in range(3)]
+    for at, lines in enumerate(clients):
+        lines.stream.sendall(f"subscriber s{at}\n".encode())
+        until(lambda: f"s{at}" in [row.split()[-1] for _, row in asked(t, leader)[1]], "the row")
+    open_ones = lambda: metrics(t, leader)['desk_connections{at="counter"}']
+    t.same(open_ones(), 4, "open control connections")
+    with clients[0]:
+        pass
+    until(lambda: open_ones() == 3, "the end of one connection")
+    confirm(t, leader, other, 7)
+    t.same([lines.file.readline().strip() for lines in clients[1:]], [b"subscriber 4", b"subscriber 5"], "the replies")
+
+
+@test(seconds=2)
 def a_client_that_sends_no_more_gets_its_reply(t):
     """It has shut down its sending side while its reply waits."""
     t.register(lines=LINES)

@@ -378,6 +378,20 @@ def of_two_logs(t):
     t.same(told[:-1], [], "standard error")
 
 
+@test
+def of_two_equal_requests(t):
+    """Two requests of one second are for one certificate and on one ground. The register has both; the log declines the first, and revokes by the other."""
+    begun(t)
+    both = logged(("request 06 asked", "request 2 due D", f"2 {S6} asked"), ("request 06 asked", "request 3 due D", f"3 {S6} asked"))
+    decided = logged(("decline 2", "declined", f"2 {S6}"), (f"revoke 3 {S6}", "revoked", f"3 {S6}"))
+    for log, wanted in ((both, ["request 6 asked"] * 2), (both + decided, ["decline 2", "revoke 3"])):
+        (t.room / "ca.log").write_text(log)
+        script, told = again(t, "--log", "ca.log")
+        t.same((script, told[:-1]), ([f"{NEXT} {it}" for it in wanted], []), "the script, and standard error")
+        replies = t.done("script", "ca.db", "--strict", given="".join(f"{it}\n" for it in script))
+        t.same([it for it in replies.splitlines() if it[:1] in "EF"], [], "refusals")
+
+
 LATER = "2026-01-05T00:00:00Z"
 GROUNDS = ("asked", "unauthorized", "key-compromise", "control-lost", "affiliation", "superseded", "cessation", "misuse", "name-not-permitted", "nonconforming", "inaccurate")
 # The ground in the script of a revocation of which only the reason is known.

@@ -114,6 +114,8 @@ def a_refusal_says_what_is_wrong(t, words, what):
     t.has(refused(t, *words), what)
 
 
+# The moments that a list takes.
+LISTING = {it: f"{it}=2026-01-01T00:00:00Z" for it in ("--before", "--now", "--from", "--to")}
 # Options with a malformed value, or one out of range: the words before the option, the option, the value, and a part of the message.
 VALUES = [
     *[(("init", "none.db", *ISSUER), "--days", it, NUMBER) for it in ("x", "1.5", "", "0000000000000000398")],
@@ -130,6 +132,7 @@ VALUES = [
     *[(("import", "none.db"), "--now", it, MOMENT) for it in ("yesterday", "2026-01-01", "2026-02-29T00:00:00Z", "")],
     *[(("list", "none.db", "crls"), "--now", it, MOMENT) for it in ("today", "2026-01-01T00:00:00", "")],
     *[(("list", "none.db", "ending"), "--before", it, MOMENT) for it in ("2026-02-30T00:00:00Z", "0", "")],
+    *[(("list", "none.db", "ending", *[LISTING[right] for right in LISTING if right != it]), it, "tomorrow", MOMENT) for it in LISTING],
     *[(("crl", "none.db"), "--number", it, NUMBER) for it in ("", "x", "latest", "0000000000000000001")],
 ]
 
