@@ -19,9 +19,9 @@ use Rattle.reg_store_tables.specs.DerivedRows as column
 use Rattle.reg_store_tables.specs.DerivedRows.{DerivedRows}
 use Rattle.reg_store_tables.specs.Kept.{Kept, listed_of}
 use Rattle.reg_store_tables.proofs.PublicLaws.{mapped}
-use Rattle.reg_audit_rows.proofs.PublicLaws.{keys_made}
-use Rattle.reg_audit_rows.specs.DerivedAsRead.{listed_in}
-use Rattle.reg_audit_rows.specs.declared.derived_rows.Listed.{Listed}
+use Rattle.reg_audit.proofs.Following.{keys_made}
+use Rattle.reg_audit.specs.DerivedAsRead.{listed_in}
+use Rattle.reg_audit.specs.declared.derived_rows.Listed.{Listed}
 use Rattle.reg_audit.proofs.Signed.{numbers_differ}
 use Rattle.reg_audit.specs.Faults.{EndsAtBrokenRow, BreaksRule, IsDisproved}
 use Rattle.reg_audit.specs.Stored.{CanList, IsSomeCrl, IsStored}

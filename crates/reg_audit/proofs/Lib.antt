@@ -16,3 +16,9 @@ pub mod Completed
 pub mod Ordered
 pub mod AuditResultLemmas
 pub mod Ends
+pub mod Contents
+pub mod Fits
+pub mod Following
+pub mod Results
+pub mod RowPrefixes
+pub mod Sorted

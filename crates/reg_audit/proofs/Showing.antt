@@ -26,8 +26,8 @@ use Rattle.reg_store_tables.specs.Schema.{register_schema}
 use Rattle.reg_store_tables.specs.Shows.{HaveSerials}
 use Rattle.reg_store_tables.specs.ReadStatements.{command_of, shown_subscriber, shown_order, shown_certificate, shown_request, shown_revocation, shown_crl}
 use Rattle.reg_store_tables.proofs.PublicLaws.{selects, as_command, no_limit, keyed_given, all_of, all_kept, with_rowids, behind, rowids_are, rowids_numbered, ascending_key, ascends, sorted_same, numbered_rises}
-use Rattle.reg_audit_rows.specs.DerivedAsRead.{letter_in, standing_in, listed_in}
-use Rattle.reg_audit_rows.proofs.PublicLaws.{letter_out, standing_out, listed_out}
+use Rattle.reg_audit.specs.DerivedAsRead.{letter_in, standing_in, listed_in}
+use Rattle.reg_audit.proofs.Following.{letter_out, standing_out, listed_out}
 use Rattle.reg_audit.specs.ReadQueries.{IsReadOf}
 use Rattle.reg_store_tables.specs.ShownRows.{shown_counts}
 use Rattle.reg_audit.specs.ShownRows.{shown_office, shown_standing, shown_listed}

@@ -11,9 +11,9 @@ use Rattle.reg_core.specs.Sound.{NumberedFrom, KeysDiffer, CrlsSigned}
 use Rattle.reg_core_laws.proofs.PublicLaws.{all_push, all_weaker, numbered_above, each_found}
 use Rattle.reg_store_tables.specs.DerivedRows.{DerivedRows}
 use Rattle.reg_store_tables.specs.Kept.{Kept, listed_of}
-use Rattle.reg_audit_rows.specs.DerivedAsRead.{listed_in}
-use Rattle.reg_audit_rows.specs.Crls.{MatchRecords}
-use Rattle.reg_audit_rows.specs.declared.derived_rows.Listed.{Listed}
+use Rattle.reg_audit.specs.DerivedAsRead.{listed_in}
+use Rattle.reg_audit.specs.Crls.{MatchRecords}
+use Rattle.reg_audit.specs.declared.derived_rows.Listed.{Listed}
 use Rattle.reg_audit.specs.Faults.{EndsAtBrokenRow, BreaksRule}
 use Rattle.reg_audit.specs.declared.fault.AuditFault.{AuditFault}
 use Rattle.reg_audit.specs.declared.fault.AuditFault.TheVariants.{Memory, Store, Broken}

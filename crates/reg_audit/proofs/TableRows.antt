@@ -25,9 +25,9 @@ use Rattle.reg_store_tables.specs.ReadStatements.{command_of, shown_subscriber, 
 use Rattle.reg_store_tables.specs.Rows.{number, stored_subscriber, stored_order, stored_certificate, stored_request, stored_revocation, stored_crl}
 use Rattle.reg_store_tables.specs.Schema.{register_schema, key_column, required, subscriber, orders, cert, request, revocation, crl, standing}
 use Rattle.reg_store_tables.proofs.PublicLaws.{selects, as_command, no_limit}
-use Rattle.reg_audit_rows.specs.DerivedAsRead.{standing_in, listed_in}
-use Rattle.reg_audit_rows.specs.declared.derived_rows.Standing.{Standing}
-use Rattle.reg_audit_rows.specs.declared.derived_rows.Listed.{Listed}
+use Rattle.reg_audit.specs.DerivedAsRead.{standing_in, listed_in}
+use Rattle.reg_audit.specs.declared.derived_rows.Standing.{Standing}
+use Rattle.reg_audit.specs.declared.derived_rows.Listed.{Listed}
 use Rattle.reg_audit.specs.Cells.{CountedFrom, IsOfSomeRecord}
 use Rattle.reg_audit.specs.Complete.{AreTables, SubscribersAgree, OrdersAgree, CertificatesAgree, RequestsAgree, RevocationsAgree, CrlsAgree, LettersAgree, ListingsAgree}
 use Rattle.reg_audit.specs.ReadQueries.{IsReadFrom}

@@ -3,8 +3,8 @@ use Rattle.std.specs.Prelude.{◌≢◌, Result, IfErr}
 use Rattle.reg_core.specs.Records.{Records}
 use Rattle.reg_core.specs.Reached.{Reached, ReachedRows}
 use Rattle.reg_core.specs.declared.broken_row.BrokenRow.{BrokenRow as Row}
-use Rattle.reg_audit_rows.specs.declared.fault.CheckFault.{CheckFault}
-use Rattle.reg_audit_rows.specs.declared.fault.CheckFault.TheVariants as found
+use Rattle.reg_audit.specs.declared.check_fault.CheckFault.{CheckFault}
+use Rattle.reg_audit.specs.declared.check_fault.CheckFault.TheVariants as found
 use Rattle.reg_core.specs.declared.broken_row.Defect.TheVariants.{OtherBytes}
 use Rattle.reg_store_tables.specs.DerivedRows.{DerivedRows}
 use Rattle.reg_store_tables.specs.Kept.{Kept}

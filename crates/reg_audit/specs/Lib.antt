@@ -10,3 +10,7 @@ pub mod Numbers
 pub mod AuditResults
 pub mod Presumed
 pub mod Judged
+pub mod CheckFaults
+pub mod Crls
+pub mod DerivedAsRead
+pub mod Read

@@ -4,9 +4,9 @@ use Rattle.sqlite_value.specs.declared.value.Value.TheVariants.{Text}
 use Rattle.sqlite_value.specs.Order.{Row}
 use Rattle.reg_store_tables.specs.DerivedRows.{letter_text, number_or_null}
 use Rattle.reg_store_tables.specs.Rows.{number, serial_value}
-use Rattle.reg_audit_rows.specs.DerivedAsRead.{letter_in}
-use Rattle.reg_audit_rows.specs.declared.derived_rows.Standing.{Standing}
-use Rattle.reg_audit_rows.specs.declared.derived_rows.Listed.{Listed}
+use Rattle.reg_audit.specs.DerivedAsRead.{letter_in}
+use Rattle.reg_audit.specs.declared.derived_rows.Standing.{Standing}
+use Rattle.reg_audit.specs.declared.derived_rows.Listed.{Listed}
 use Rattle.reg_audit.specs.declared.typed.OfficeRow.{OfficeRow}
 
 abbrev pub shown_office : OfficeRow → Row

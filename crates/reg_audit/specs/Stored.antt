@@ -11,8 +11,8 @@ use Rattle.reg_core.specs.declared.rows.CrlRow.{CrlRow}
 use Rattle.reg_crl.specs.Signing.{IsAlgorithm}
 use Rattle.reg_der.specs.ValueReading.{Parts, value_at}
 use Rattle.reg_store_tables.specs.Shows.{Shows}
-use Rattle.reg_audit_rows.specs.Crls.{IsCrlOf, MatchRecords}
-use Rattle.reg_audit_rows.specs.declared.derived_rows.Listed.{Listed}
+use Rattle.reg_audit.specs.Crls.{IsCrlOf, MatchRecords}
+use Rattle.reg_audit.specs.declared.derived_rows.Listed.{Listed}
 
 -- the bytes, at most 2^28, are this CRL (RFC 5280 5.1), with some AlgorithmIdentifier and any signature of at most 65,536 bytes
 pub record IsSomeCrl (crl : CertList) (bytes : List ℕ) : Type 0 where

@@ -1,6 +1,6 @@
 ghost use Rattle.std.specs.Prelude.{◌≡◌, ◌⊎◌};
 
-use reg_audit_rows::CheckFault;
+use crate::check_fault::CheckFault;
 use reg_core::{BrokenRow, Defect, RegisterTable};
 use reg_store_tables::DatabaseFault;
 use std::alloc::AllocFailed;

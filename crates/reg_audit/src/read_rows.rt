@@ -10,13 +10,15 @@ ghost use Rattle.reg_audit.specs.Faults.{NoBrokenRowIf};
 ghost use Rattle.reg_audit.specs.ReadableValues.{HasValues};
 ghost use Rattle.reg_audit.specs.ShownTables.{OnAllRead};
 
+use crate::derived_rows::StoredDerivedRows;
 use crate::fault::AuditFault;
+use crate::rows::Rows;
 use crate::sql::AuditQuery;
 use crate::tables::{
     certificates, counts, crls, letters, listings, office, orders, requests, revocations,
     subscribers,
 };
-use reg_audit_rows::{Rows, StoredDerivedRows, check};
+use crate::whole_check::check;
 use reg_core::Audited;
 use sqlite::Row;
 use std::alloc::Global;

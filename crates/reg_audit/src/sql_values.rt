@@ -2,9 +2,9 @@ ghost use Rattle.std.specs.Prelude.{◌≡◌, Some, IfSome};
 ghost use Rattle.sqlite_value.specs.declared.value.Value.TheVariants.{Text};
 ghost use Rattle.sqlite_value.specs.Order.{column};
 ghost use Rattle.reg_store_tables.specs.DerivedRows.{letter_text};
-ghost use Rattle.reg_audit_rows.specs.DerivedAsRead.{letter_in};
+ghost use Rattle.reg_audit.specs.DerivedAsRead.{letter_in};
 
-use reg_audit_rows::Letter;
+use crate::derived_rows::Letter;
 use sqlite::Row;
 use sqlite::types::ValueRef;
 

@@ -2,13 +2,13 @@
 
 ghost use Rattle.std.specs.Prelude.{◌≡◌, map, IfOk};
 ghost use Rattle.reg_core.specs.Crls.{row_of};
-ghost use Rattle.reg_audit_rows.specs.DerivedAsRead.{standing_in, listed_in};
+ghost use Rattle.reg_audit.specs.DerivedAsRead.{standing_in, listed_in};
 ghost use Rattle.reg_audit.specs.declared.sql.AuditQuery.TheVariants.{Office as OfOffice, Subscribers, Orders, Certificates, Requests, Revocations, Crls, Standings, Counts as OfCounts, Listings};
 ghost use Rattle.reg_audit.specs.ShownTables.{OnRead, AreReadIfReadable};
 
+use crate::derived_rows::{Listed, Standing};
 use crate::fault::AuditFault;
 use crate::typed::{ListedRows, OfficeRow, StandingRows, only, typed};
-use reg_audit_rows::{Listed, Standing};
 use reg_core::{
     CertRow, Counts, CrlRow, OrderRow, RegisterTable, RequestRow, RevocationRow, SubscriberRow,
 };

@@ -6,9 +6,9 @@ ghost use Rattle.std.specs.Prelude.{◌≡◌, [], ◌∷◌, List, map, IfOk};
 ghost use Rattle.std.specs.List.{AllByRecursion};
 ghost use Rattle.reg_audit.specs.Faults.{NoBrokenRow};
 
+use crate::derived_rows::{Listed, Standing};
 use crate::fault::{AuditFault, broken_at};
 use crate::sql_values::letter_at;
-use reg_audit_rows::{Listed, Standing};
 use reg_core::{Defect, Moment, RegisterTable};
 use reg_store_tables::RowFault;
 use reg_store_tables::rows::{RowKind, rows_in};

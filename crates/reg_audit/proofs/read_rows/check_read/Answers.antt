@@ -6,8 +6,8 @@ use Rattle.reg_core.specs.Reached.{ReachedRows}
 use Rattle.reg_core_laws.proofs.PublicLaws.{reached_sound}
 use Rattle.reg_store_tables.specs.DerivedRows.{DerivedRows}
 use Rattle.reg_store_tables.specs.Kept.{Kept}
-use Rattle.reg_audit_rows.specs.Faults as found
-use Rattle.reg_audit_rows.specs.DerivedAsRead.{standing_in, listed_in}
+use Rattle.reg_audit.specs.CheckFaults as found
+use Rattle.reg_audit.specs.DerivedAsRead.{standing_in, listed_in}
 use Rattle.reg_audit.specs.ReadQueries.{whole}
 use Rattle.reg_audit.specs.ReadableValues.{AreReadable, HasValues}
 use Rattle.reg_audit.specs.declared.sql.AuditQuery.TheVariants.{Office}

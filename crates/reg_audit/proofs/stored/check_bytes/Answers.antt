@@ -1,7 +1,7 @@
 use Rattle.std.proofs.Common.{List, ℕ, sym, subst}
 use Rattle.reg_core.specs.Crls.{cert_list}
-use Rattle.reg_audit_rows.specs.Crls.{IsCrlOf}
-use Rattle.reg_audit_rows.specs.Faults.{IsBroken}
+use Rattle.reg_audit.specs.Crls.{IsCrlOf}
+use Rattle.reg_audit.specs.CheckFaults.{IsBroken}
 use Rattle.reg_audit.proofs.stored.check_bytes.Goals as goal
 
 pub returns-in-None-clause-others : goal.returns-in-None-clause-others

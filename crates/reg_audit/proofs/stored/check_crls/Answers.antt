@@ -5,12 +5,12 @@ use Rattle.sqlite.specs.State.{HasCleanDisk}
 use Rattle.reg_core.specs.Calendar.{clock_end}
 use Rattle.reg_core.specs.declared.rows.CrlRow.{CrlRow}
 use Rattle.reg_store_tables.proofs.PublicLaws.{both_shows, looked_shows, looked_then}
-use Rattle.reg_audit_rows.specs.DerivedAsRead.{listed_in}
+use Rattle.reg_audit.specs.DerivedAsRead.{listed_in}
 use Rattle.reg_audit.specs.ReadQueries.{whole}
 use Rattle.reg_audit.specs.Faults.{EndsAtBrokenRow, BreaksRule}
 use Rattle.reg_audit.specs.Stored.{IsStored}
 use Rattle.reg_audit.specs.declared.sql.AuditQuery.TheVariants.{Office}
-use Rattle.reg_audit_rows.proofs.PublicLaws.{on_ok, if_err}
+use Rattle.reg_audit.proofs.Results.{on_ok, if_err}
 use Rattle.reg_audit.proofs.Denying.{all_stored, can_list, updates_before}
 use Rattle.reg_audit.proofs.Having.{each_has}
 use Rattle.reg_audit.proofs.Signed.{all_signed, lists_are, row_is_broken}

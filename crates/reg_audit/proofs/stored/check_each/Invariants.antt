@@ -5,7 +5,7 @@ use Rattle.sqlite.specs.State.{HasCleanDisk}
 use Rattle.reg_core.specs.Records.{Records}
 use Rattle.reg_store_tables.specs.Shows.{Shows}
 use Rattle.reg_store_tables.specs.Stays.{Looked}
-use Rattle.reg_audit_rows.specs.Crls.{MatchRecords}
+use Rattle.reg_audit.specs.Crls.{MatchRecords}
 use Rattle.reg_audit.specs.Stored.{IsStored}
 use Rattle.reg_audit.proofs.stored.check_each.Given as goal
 

@@ -2,9 +2,9 @@ use Rattle.std.proofs.Common.{map, refl, ap, ◌∙◌}
 use Rattle.reg_core.specs.Calendar.{IsMoment}
 use Rattle.reg_store_tables.proofs.PublicLaws.{ok_then}
 use Rattle.reg_store_tables.specs.DerivedRows as column
-use Rattle.reg_audit_rows.specs.DerivedAsRead.{standing_in}
-use Rattle.reg_audit_rows.specs.declared.derived_rows.Standing.{Standing}
-use Rattle.reg_audit_rows.proofs.PublicLaws.{standing_out}
+use Rattle.reg_audit.specs.DerivedAsRead.{standing_in}
+use Rattle.reg_audit.specs.declared.derived_rows.Standing.{Standing}
+use Rattle.reg_audit.proofs.Following.{standing_out}
 use Rattle.reg_core_laws.proofs.PublicLaws.{all_map}
 use Rattle.reg_audit.proofs.Showing.{letters_back, letters_are, serials_out}
 use Rattle.reg_audit.proofs.tables.letters.Goals as goal

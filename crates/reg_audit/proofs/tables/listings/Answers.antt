@@ -2,9 +2,9 @@ use Rattle.std.proofs.Common.{map, refl, ap, ◌∙◌}
 use Rattle.reg_core.specs.Calendar.{IsMoment}
 use Rattle.reg_store_tables.proofs.PublicLaws.{ok_then}
 use Rattle.reg_store_tables.specs.DerivedRows as column
-use Rattle.reg_audit_rows.specs.DerivedAsRead.{listed_in}
-use Rattle.reg_audit_rows.specs.declared.derived_rows.Listed.{Listed}
-use Rattle.reg_audit_rows.proofs.PublicLaws.{listed_out}
+use Rattle.reg_audit.specs.DerivedAsRead.{listed_in}
+use Rattle.reg_audit.specs.declared.derived_rows.Listed.{Listed}
+use Rattle.reg_audit.proofs.Following.{listed_out}
 use Rattle.reg_audit.specs.ReadableValues.{AreMomentAndReason}
 use Rattle.reg_core_laws.proofs.PublicLaws.{all_map}
 use Rattle.reg_audit.proofs.Showing.{listings_back, listed_are, serials_out}

@@ -1,4 +1,0 @@
-pub mod Faults
-pub mod Read
-pub mod DerivedAsRead
-pub mod Crls
