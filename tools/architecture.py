@@ -15,7 +15,6 @@ TOP = Path(__file__).resolve().parent.parent
 PICTURE = "docs/architecture.svg"
 ROWS = (("The program",), ("Jobs",), ("Front ends",), ("The office", "An audit"), ("CRLs, OCSP, signers", "The store"), ("Bytes", "The model"))
 LEVELS = {"CRLs, OCSP, signers": 2, "The store": 3, "The model": 2}  # lines of boxes in a layer, if not one
-COLUMNS = {"The office": 3}  # the width of a layer, if it is not that of its longest line
 # For each pair of arrows the row above it, its x, on which side its text is, what flows down, and what flows up.
 FLOWS = (
     (2, 470, "right", "commands, queries, OCSP requests", "replies, CRLs, OCSP answers"),
@@ -105,7 +104,7 @@ class Drawing:
         self.bands = {}
         y = MARGIN
         for number, titles in enumerate(ROWS):
-            wide = [COLUMNS.get(it, max(map(len, self.lines[it]))) for it in titles]
+            wide = [max(map(len, self.lines[it])) for it in titles]
             height = TITLE + (max(len(self.lines[it]) for it in titles) - 1) * STEP + BOX_HEIGHT + PAD
             x, spare = LEFT, RIGHT - LEFT - (144 if titles == ROWS[-1] else 0) - 10 * (len(titles) - 1)
             for title, part in zip(titles, wide, strict=True):

@@ -1,4 +1,5 @@
 pub mod Audits
+pub mod Cached
 pub mod Clean
 pub mod Holding
 pub mod AlgorithmMismatches

@@ -5,8 +5,8 @@ use reg_core_lists::{Cursor, Page, Positions, ReceivedPage};
 use reg_crl_signer::{BackoffDevice, RegisterSigner, SocketDevice, UnixConnection};
 use reg_io::ReadyOrUnsigned;
 use reg_ocsp::Draft;
-use reg_office::Office;
 use reg_office_api::{Changes, FollowFault, OcspResponse, RegisterSummary, RequestLoad};
+use reg_office_cache::CachingOffice;
 use sqlite::{FileFrom, FileStore};
 use sqlite_disk::Unknown;
 use std::alloc::Global;
@@ -18,9 +18,9 @@ pub type FileDevice = BackoffDevice<SocketDevice<UnixConnection>, HostRuntime>;
 pub type FileSigner = RegisterSigner<FileDevice>;
 
 /// An office over a [`FileConnection`](crate::FileConnection). Contracts suppose nothing of the bytes of its file (`Unknown`).
-pub(crate) type OfficeInFile = Office<FileStore<FileFrom<Unknown>>, FileSigner>;
+pub(crate) type OfficeInFile = CachingOffice<FileStore<FileFrom<Unknown>>, FileSigner>;
 
-/// The office of a register in a file. Each method, which the trait describes, calls that of [`reg_office::Office`] with its name. The prover can
+/// The office of a register in a file. Each method, which the trait describes, calls that of [`CachingOffice`] with its name. The prover can
 /// compare this type by its name, but not `OfficeInFile`, whose type arguments take more steps than it allows.
 #[derive(Drop)]
 pub struct FileOffice {

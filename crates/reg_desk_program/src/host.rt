@@ -32,6 +32,7 @@ use reg_desk_service::{
 };
 use reg_io::write_whole;
 use reg_office::Responder;
+use reg_office_cache::CachingOffice;
 use sqlite_disk::{Disk, Unknown};
 use std::alloc::Global;
 use std::cell::Cell;
@@ -152,9 +153,9 @@ impl<'a> Machine for SystemHost<'a> {
         → IsAnswering responder (signers_of ⟦<FileSigner as Signer>⟧.identity crls loaded) };
 
     ghost opened = { λ database crls responder office.
-        OpensFor ⟦<FileSigner as Signer>⟧ database crls responder office.office };
+        OpensFor ⟦<FileSigner as Signer>⟧ database crls responder office.office.office };
 
-    ghost made = { λ database office. IsMadeFrom database office.office.store };
+    ghost made = { λ database office. IsMadeFrom database office.office.office.store };
 
     ghost closed = { λ host path office after. Unspecified path };
 
@@ -256,7 +257,9 @@ impl<'a> Machine for SystemHost<'a> {
         responder: Responder<FileSigner>,
     ) -> Result<FileOffice, Failure> {
         match open_over(self, database, crls, responder) {
-            Ok(office) => Ok(FileOffice { office }),
+            Ok(office) => Ok(FileOffice {
+                office: CachingOffice::new(self.rt.alloc(), office),
+            }),
             Err((why, connection)) => {
                 close(connection);
                 Err(why)
@@ -273,7 +276,9 @@ impl<'a> Machine for SystemHost<'a> {
         // The job `init`, which creates the register, issues no CRL, so it needs no key.
         let signer: FileSigner = RegisterSigner::Digest(DigestSeal);
         match create_over(database, issuer, policy, signer) {
-            Ok(office) => Ok(FileOffice { office }),
+            Ok(office) => Ok(FileOffice {
+                office: CachingOffice::new(self.rt.alloc(), office),
+            }),
             Err((why, connection)) => {
                 close(connection);
                 Err(why)
@@ -282,7 +287,7 @@ impl<'a> Machine for SystemHost<'a> {
     }
 
     fn close(&mut self, path: &str, office: FileOffice) {
-        close(connection_of(office.office));
+        close(connection_of(office.office.office));
     }
 
     fn read(&self, path: &str) -> Result<SourceFiles<ReadFile>, Failure> {
@@ -438,8 +443,8 @@ impl<'a> Machine for SystemHost<'a> {
         ensures { KeepsIn ⟦<FileOffice as reg_office_api::Office>⟧ office.old office.new }
     {
         preset_next(
-            &mut office.office.signer,
-            &mut office.office.responder,
+            &mut office.office.office.signer,
+            &mut office.office.office.responder,
             kind,
             preset_signature,
         );
@@ -448,9 +453,9 @@ impl<'a> Machine for SystemHost<'a> {
     fn expect_crls(&self, office: &mut FileOffice, algorithm: Algorithm) {
         expect_algorithm(
             self,
-            &mut office.office.store,
-            &mut office.office.signer,
-            &office.office.responder,
+            &mut office.office.office.store,
+            &mut office.office.office.signer,
+            &office.office.office.responder,
             algorithm,
         );
     }

@@ -1,6 +1,10 @@
-use Rattle.std.proofs.Common.{refl}
-use Rattle.reg_desk_program.proofs.PresetSignatures.{same_stands}
+use Rattle.std.proofs.Common.{◌∙◌, refl}
 use Rattle.reg_desk_program.proofs.host.SystemHostMachine.set_preset.Goals as goal
 
 pub returns : goal.returns
-returns c = same_stands _ _ _ _ _ _ refl c.preset_next.ensures
+returns c = (
+  (λ clean. clean),
+  (λ those before stood clean.
+      let ((interrupted, (is, stands, left)), are) = stood in
+      (before, refl, ((interrupted, (c.preset_next.ensures ∙ is, stands, left)), are))),
+)

@@ -1,0 +1,3 @@
+pub mod UndecidedRows
+pub mod KeptRows
+pub mod CachedCalls

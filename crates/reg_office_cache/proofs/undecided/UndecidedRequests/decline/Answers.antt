@@ -1,0 +1,6 @@
+use Rattle.std.proofs.Common.{◌==◌, not, rules}
+use Rattle.std.proofs.lemmas.Fn.{filter_same}
+use Rattle.reg_office_cache.proofs.undecided.UndecidedRequests.decline.Goals as goal
+
+pub returns-clause-rows : goal.returns-clause-rows
+returns-clause-rows c = filter_same _ (λ row. not (row.request.id == c.args.id)) _ (λ row kept f called. search rules) _ _ c.retain.ensures.filtered

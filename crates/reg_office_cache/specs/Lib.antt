@@ -1,0 +1,3 @@
+pub mod Caching
+pub mod Declining
+pub mod Undecided
