@@ -1,9 +1,11 @@
 """`overdue` and the requests of /metrics, of a desk that caches the undecided requests between two queries: the model finds them among all requests."""
 
+import os
+from pathlib import Path
 from random import Random
 
 from groups.batches import send_together
-from groups.changes import Tables, taken
+from groups.changes import LINES, Tables, taken
 from groups.follow import Copy, address
 from groups.monitoring import metrics, of
 from lib.trial import test
@@ -77,3 +79,30 @@ def overdue_requests_are_those_of_all_requests(t):
     for days in (1, 5, 30, 60):
         asked.says("more days", days * DAY)
     t.same(asked.model.counts(asked.now).split()[-1] != "0", True, "whether certificates ended")
+
+
+def seconds_of(desk):
+    """The processor time of a desk so far."""
+    user, system = Path(f"/proc/{desk.process.pid}/stat").read_text().rsplit(") ", 1)[1].split()[11:13]
+    return (int(user) + int(system)) / os.sysconf("SC_CLK_TCK")
+
+
+@test(seconds=8)
+def only_the_first_query_reads_all_requests(t):
+    """A register has 60,000 open requests. After the first query, each scrape of /metrics and each `overdue` reads only those that came since, also
+    after lines that came together."""
+    t.register(lines=LINES)
+    more = "WITH RECURSIVE row (at) AS (SELECT 5 UNION ALL SELECT at + 1 FROM row WHERE at < ?)"
+    t.sql("ca.db", f"{more} INSERT INTO request SELECT at, serial, ground, received, 0 FROM row, (SELECT * FROM request WHERE id = 4)", 60_000)
+    moment = read(b"2026-01-03T00:00:00Z")
+    t.clock(moment)
+    desk, lines = t.open(), t.control()
+    took, begun = [], seconds_of(desk)
+    for at in range(12):
+        t.clock(moment + 60 * at)
+        t.same(of(metrics(t, desk), "desk_requests_")["open"], 59_997, "open requests")
+        t.same(lines.ask("overdue"), "overdue 0", "overdue")
+        took, begun = [*took, seconds_of(desk) - begun], seconds_of(desk)
+        replies = send_together(desk, lines, [f"subscriber s{at}", f"order 1 {at + 1}", f"subscriber t{at}"])
+        t.same([it.split()[0] for it in replies], ["subscriber", "order", "subscriber"], "replies")
+    t.true(sum(took[1:]) < 2 * took[0] + 0.2, f"seconds of the processor: {took}")
