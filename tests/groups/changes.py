@@ -82,6 +82,16 @@ class Tables:
         return rows + [("revocation", line) for _, line in revoked]
 
 
+def pages_of(rows):
+    """The rows on their pages: each has 1,000 rows, or fewer up to the next CRL or the end of the feed."""
+    pages = [[]]
+    for row in rows:
+        if len(pages[-1]) == MOST_ROWS or pages[-1] and pages[-1][-1][0] == "crl":
+            pages.append([])
+        pages[-1].append(row)
+    return pages if len(pages[-1]) < MOST_ROWS and (not rows or rows[-1][0] != "crl") else [*pages, []]
+
+
 def page_of(t, body):
     """The parts of a page: its head, its rows as pairs of a kind and a line, the octets of its CRLs, whether it ends the feed, and positions."""
     head = b"".join(body.splitlines(keepends=True)[:5])
@@ -133,7 +143,10 @@ class Copy:
         for kind, line in rows:
             self.enter(kind, line)
         self.crls.update(crls)
-        self.t.true(len(rows) <= MOST_ROWS and not (crls and (ends or len(rows) > 1)), f"a page has {len(rows)} rows and {len(crls)} CRLs")
+        kinds = [kind for kind, _ in rows]
+        others = len(kinds) - kinds.count("crl")
+        is_right = "crl" not in kinds or others < MOST_ROWS and not ends and kinds.index("crl") == others == len(kinds) - 1
+        self.t.true(others <= MOST_ROWS and is_right, f"a page of {others} rows and {len(kinds) - others} CRLs, at last {kinds[-1:]}; end: {ends}")
         return rows, ends
 
     def enter(self, kind, line):
@@ -252,14 +265,17 @@ def pages_have_all_rows_in_their_order(t):
 
 @test
 def the_page_in_the_documentation(t):
-    """docs/RULES.md has the first page of the register of examples/first-day.txt."""
+    """docs/RULES.md has the first page of the register of examples/first-day.txt, with `..` for the octets of its CRL."""
     _, text = (program.TOP / "docs/RULES.md").read_text().split("$ curl -s http://127.0.0.1:8080/changes\n", 1)
     block, _ = text.split("\n\n", 1)
     t.register()
     t.done("script", "ca.db", given=(program.TOP / "examples/first-day.txt").read_text())
     t.clock("2026-01-03T00:00:00Z")
     _, _, page = parted(t.open().ask("GET", "/changes"))
-    t.same(page.decode().splitlines(), [line.removeprefix("    ") for line in block.splitlines()], "the first page")
+    ((_, octets),) = page_of(t, page)[2].items()
+    t.same(page.count(octets), 1, "the octets of the CRL on the page")
+    told = page.replace(octets, b"..").decode().splitlines()
+    t.same(told, [line.removeprefix("    ") for line in block.splitlines()], "the first page")
 
 
 @test
@@ -374,8 +390,8 @@ def more_declines_than_fit_on_a_page(t):
 
 
 @test(seconds=4)
-def a_crl_travels_alone(t):
-    """Each CRL has a page of its own, which says `more`; the revocations that it lists are on the pages before."""
+def a_page_ends_with_its_crl(t):
+    """Each page has one CRL behind its rows, and says `more`; the revocations that the CRL lists come before it."""
     t.register(lines=LINES)
     # The latest one is a CRL: the desk reads its algorithm.
     ((real,),) = t.sql("ca.db", "SELECT der FROM crl WHERE number = 3")
@@ -391,8 +407,45 @@ def a_crl_travels_alone(t):
         found.append({kind for kind, _ in rows} & {"revocation", "crl"})
         if ends:
             break
-    t.same(found, [{"revocation"}, {"crl"}, {"revocation"}, *[{"crl"}] * 8, set()], "revocations and CRLs of each page")
+    t.same(found, [{"revocation", "crl"}] * 2 + [{"crl"}] * 7 + [set()], "revocations and CRLs of each page")
     copy.is_like(taken(t, control))
+
+
+@test
+def rows_before_each_page_hold_up_no_crl(t):
+    """A command comes before each request: yet each page has the next CRL and the revocations before it, until there is none."""
+    desk, control = opened(t)
+    copy, found = Copy(t, desk), []
+    for number in range(3, 7):
+        t.same(control.ask(f"subscriber s{number}"), f"subscriber {number}")
+        rows, ends = copy.get()
+        kinds = [kind for kind, _ in rows]
+        found.append((kinds.count("subscriber"), kinds.count("revocation"), kinds.count("crl"), ends))
+    wanted = [(3, 1, 1, False), (1, 1, 1, False), (1, 0, 1, False), (1, 0, 0, True)]
+    t.same(found, wanted, "subscribers, revocations and CRLs of each page, and its end")
+    copy.is_like(taken(t, control))
+
+
+@test(seconds=6)
+def a_full_page_has_no_crl(t):
+    """A CRL comes behind up to 999 rows, whatever rows these are. Behind 1,000 it comes on the next page, as does a revocation that it lists."""
+    more = 1_001
+    lines = [f"{DAY} subscriber s{at}" for at in range(more)] + [f"{DAY} order 1 398" for _ in range(more)]
+    lines += [f"{DAY} register {at} {at:04x} {DAY} 2026-12-31T00:00:00Z" for at in range(1, more + 1)]
+    lines += [f"{DAY} request {at:04x} asked" for at in range(1, more + 1)] + [f"{DAY} revoke {at}" for at in range(1, more + 1)]
+    lines += [f"{DAY} crl"] * 2
+    desk, control = opened(t, "".join(f"{it}\n" for it in lines))
+    tables = Tables(taken(t, control))
+    whole = tables.counts()
+    for kind in COUNTED[:-1]:
+        for left in (998, 999, 1_000, 1_001):
+            counts = {**whole, kind: more - left, "crl": 0}
+            wanted, after, ends, got = pages_of(tables.feed(counts, [])), tables.positions(counts, []), False, []
+            while not ends:
+                _, rows, _, ends, after = asked(t, desk, after)
+                got.append(rows)
+            t.same([len(it) for it in got], [len(it) for it in wanted], f"rows of each page, behind all but {left} of the kind {kind}")
+            t.true(got == wanted, f"other rows behind all but {left} of the kind {kind}")
 
 
 GOOD = "2.5.4.4.2.3.1.2." + "0" * 64

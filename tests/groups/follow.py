@@ -527,6 +527,9 @@ def a_page_of_megabytes(t):
 def pages_that_are_none(t):
     copy, tables, octets, leader = faked(t)
     page = paged(tables, ["subscriber 3 x"])
+    crl = f"crl 4 {LATER} {len(octets)}"
+    rows = lambda count: [f"subscriber {number} s{number}" for number in range(3, 3 + count)]
+    behind = lambda count, more="": paged(tables, [*rows(count), crl], octets=octets + f"\n{more}".encode())
     cases = {
         "another version": (page.replace(b"changes 1\n", b"changes 2\n"), "page of another version"),
         "random bytes": (bytes(range(256)) * 20, "malformed page"),
@@ -535,6 +538,10 @@ def pages_that_are_none(t):
         "a page without its LF": (page[:-1], "malformed page"),
         "a page and more": (page + b"\n", "malformed page"),
         "tables in another order": (paged(tables, ["order 6 1 1", "subscriber 3 x"]), "malformed page"),
+        "a CRL behind 1,000 rows": (behind(1_000), "malformed page"),
+        "a CRL behind 999 rows, which the positions do not count": (behind(999), "broken page: positions other-positions"),
+        "a row behind a CRL": (behind(0, "subscriber 3 x\n"), "malformed page"),
+        "a second CRL": (behind(1, f"{crl}\n{'x' * len(octets)}\n"), "malformed page"),
         "another issuer": (page.replace(b"issuer 300d310b", b"issuer 300d310c"), "broken page: head other-issuer"),
         "another key": (page.replace(b" 616263\n", b" 616264\n"), "broken page: head other-issuer"),
         "another cap": (page.replace(b" 1000000\n", b" 999999\n"), "broken page: head other-policy"),

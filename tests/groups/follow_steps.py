@@ -9,6 +9,7 @@ import socket
 import subprocess
 import threading
 import time
+from random import Random
 
 from groups.changes import KINDS, LINES, Tables, asked, page_of, taken
 from groups.follow import CLOCK, LATER, OCSP, Copy, Leader, Sender, Waiting, address, led, paged, refuses
@@ -307,6 +308,41 @@ def a_new_copy_of_a_leader_that_fails(t):
     copy.is_like(t.control())
 
 
+def some_line(random):
+    """A command with small numbers, which the register may refuse."""
+    number = random.randrange(1, 40)
+    return random.choice((
+        f"subscriber s{random.randrange(10**6)}", f"order 2 {number}", f"register {number} {number:02x} {CLOCK} 2026-01-09T00:00:00Z",
+        f"request {number:02x} {random.choice(('asked', 'misuse'))}", f"decline {number}", f"revoke {number}", "crl",
+    ))  # fmt: skip
+
+
+@test(seconds=8)
+def commands_of_all_kinds_before_each_page(t):
+    """The leader runs commands before each page that it gives, first to a new copy, then to one that follows. The copy takes all of their rows."""
+    t.register(lines=LINES)
+    t.clock(CLOCK)
+    leader, control, random, entered = t.open(), t.control(), Random(58), []
+    lines = [some_line(random) for _ in range(1_000)]
+
+    def answer(target):
+        t.clock(program.seconds_of(CLOCK) + 1_000 - len(lines) // 4)
+        for _ in range(min(random.randrange(1, 8), len(lines))):
+            line = lines.pop()
+            if control.ask(line)[:1] not in "EF":
+                entered.append(line.split()[0])
+        return parted(leader.ask("GET", target))[::2]
+
+    server = t.enter_context(Server(answer))
+    copy = Copy(t, address(server.port))
+    until(lambda: not lines, "all commands")
+    copy.is_like(t.control())
+    copy.is_sound()
+    t.same(copy.refused, 0, "refused pages")
+    kinds = {kind: entered.count(kind) for kind in ("subscriber", "order", "register", "request", "decline", "revoke", "crl")}
+    t.true(min(kinds.values()) >= 10, f"how many commands the leader accepted: {kinds}")
+
+
 @each({
     "another version": (b"changes 1\n", b"changes 2\n", "page of another version"),
     "a row that can't be read": (b"subscriber 2 ", b"subscriber two ", "malformed page"),
@@ -441,10 +477,11 @@ def requests_that_wait_are_answered_once_there_is_news(t):
     control = t.control()
     for line in ("subscriber acme", "order 1 90", f"register 1 05 {now_text(-60)} {now_text(86_400)}", "crl"):
         t.true(control.ask(line)[:1] not in "EF", line)
-    middle = asked(t, it.desk, asked(t, it.desk)[4])
-    t.same(([kind for kind, _ in middle[1]], middle[3]), (["crl"], False), "the second page, which is not the last")
+    first = asked(t, it.desk)
+    kinds = [kind for kind, _ in first[1]]
+    t.same((kinds, first[3]), (["subscriber", "order", "certificate", "crl"], False), "the first page, which is not the last")
     client = t.enter_context(it.desk.connect(timeout=10))
-    client.sendall(waiting_for(middle[4]))
+    client.sendall(waiting_for(first[4]))
     t.same(page_for(t, client), ([], {}, True), "the page after it")
     body = '{"ground":"asked","serial":"05"}'
     adds = {

@@ -224,6 +224,37 @@ def it_asks_again_by_itself(t):
     t.true(time.monotonic() - began > 1, "three requests within a second")
 
 
+@test(seconds=14)
+def rows_and_crls_while_commands_come(t):
+    """A client sends commands without a pause, another one a `crl` each second: for ten seconds, the copy's lag stays under two seconds."""
+    leader, control, copy = led(t)
+    copy.is_like(control)
+    ends, sent = threading.Event(), []
+
+    def send():
+        with program.Control(t.room / "control") as lines:
+            while not ends.is_set():
+                sent.append(lines.ask(f"subscriber s{len(sent)}"))
+
+    sender = threading.Thread(target=send, daemon=True)
+    sender.start()
+    has = lambda: [int(it) for it in copy.leader["positions"].split(".")[:6]]
+    lags = []
+    for second in range(10):
+        began, before = time.monotonic(), len(sent)
+        t.same(control.ask("crl"), f"crl {second + 4} entries 2")
+        until(lambda: has()[0] >= before + 2 and has()[5] >= second + 4, "the rows and the CRL", seconds=2)
+        while time.monotonic() < began + 1:
+            lags.append(copy.leader["lag"])
+            time.sleep(0.05)
+    ends.set()
+    sender.join(10 * program.PATIENCE)
+    t.true(max(lags) < 2 * program.PATIENCE, f"the lag: {max(lags)} seconds")
+    t.true(len(sent) > 100 and all(it.startswith("subscriber ") for it in sent), f"{len(sent)} commands, the last with the reply {sent[-1:]}")
+    copy.is_like(control)
+    t.same(copy.leader["refused"], 0, "refused pages")
+
+
 @test(seconds=3)
 def a_signed_crl_behind_a_thousand_rows(t):
     """A new copy, which signs no CRL, takes the leader's algorithm from the first CRL, which isn't in the first page."""

@@ -11,7 +11,7 @@ import signal
 import socket
 from concurrent.futures import ThreadPoolExecutor
 
-from groups.changes import COUNTED, GROUNDS, Tables, asked
+from groups.changes import COUNTED, GROUNDS, Tables, asked, pages_of
 from groups.identifiers import name_of
 from groups.limits import asks, full_queue, have_passed
 from groups.lists import FIELDS
@@ -183,15 +183,14 @@ def a_register_of_twenty_thousand_certificates(t):
     with t.control() as control:
         its_lists(t, records, desk)
         its_numbers(t, records, desk, control)
-        before = counts_of(tables, revocation=0, crl=0)
-        wanted = [it for it in tables.feed(dict.fromkeys(COUNTED, 0), []) if it[0] not in ("revocation", "crl")]
-        rows, after = [], None
-        while len(rows) < len(wanted):
-            head, more, crls, ends, after = asked(t, desk, after)
-            t.same((head, len(more), crls, ends), (tables.head, min(1_000, len(wanted) - len(rows)), {}, False), f"the page behind {len(rows)} rows")
-            rows += more
-        t.true(rows == wanted, "the rows of the first pages are others than those of the tables")
-        t.same(after, tables.positions(before), "the positions after them")
+        before = counts_of(tables, revocation=0, crl=1)
+        pages, crls, after = pages_of(tables.feed(dict.fromkeys(COUNTED, 0), [])), {}, None
+        while not crls:
+            page = pages.pop(0)
+            head, rows, crls, ends, after = asked(t, desk, after)
+            t.same((head, len(rows), ends), (tables.head, len(page), False), f"the page from {page[0]} on")
+            t.true(rows == page, f"the page from {page[0]} on has other rows than the tables")
+        t.same((crls, after), ({1: tables.crls[1]}, tables.positions(before)), "the CRL behind them, and the positions after it")
         steps = " ".join(f"{moment_of(at * 400 * SECONDS)}={398 - at}" for at in range(16))
         t.same((control.ask(f"schedule {steps}"), control.ask("crl")), ("schedule set", "crl 1201 entries 12000"))
         t.true(parted(desk.ask("GET", "/crl"))[2] == placeholder_crl(1_201, records.NOW, entries), "GET /crl has other octets")

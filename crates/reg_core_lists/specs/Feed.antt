@@ -132,9 +132,9 @@ pub record ArePageRows (records : Records) (counts : RowCounts) (from : Declines
       - length rows.declined)
       (drop counts.revocations records.revocations))
 
--- the next CRL, if the page has no row: a page has either rows or one CRL
-abbrev pub crl_alone : RowLists → Option Crl → Option Crl
-crl_alone rows next = cond (room rows == 1000) next None
+-- The next CRL, if the page is not full. Then no revocation that this CRL can list is on a later page.
+abbrev pub crl_behind : RowLists → Option Crl → Option Crl
+crl_behind rows next = cond (nat_lt 0 (room rows)) next None
 
 abbrev pub crl_part : Option Crl → List ℕ
 crl_part None = []
@@ -166,7 +166,7 @@ declines_after declines ids = record {
 unfoldable pub last_line : Bool → Positions → List ℕ
 last_line ends positions = cond ends (codes "end ") (codes "more ") ++ positions_text positions ++ 10 ∷ []
 
--- the parts of a page after its head: its rows or its CRL, whether there is nothing after it, and the positions after it but for their digest
+-- the parts of a page after its head: its rows, perhaps a CRL, whether there is nothing after it, and the positions after it but for their digest
 pub record PageParts : Type 0 where
   pub rows : RowLists
   pub crl : Option Crl
@@ -183,13 +183,13 @@ page_parts_of page = record {
   declines = page.declines;
 }
 
--- the parts of the page with these rows or the next CRL, after counts and declines
+-- the parts of the page with these rows and perhaps the next CRL, after counts and declines
 abbrev pub page_parts : RowLists → Option Crl → RowCounts → Declines → PageParts
 page_parts rows next counts from = record {
   rows = rows;
-  crl = crl_alone rows next;
+  crl = crl_behind rows next;
   ends = is_none next && nat_lt 0 (room rows);
-  counts = counts_after counts rows (crl_count (crl_alone rows next));
+  counts = counts_after counts rows (crl_count (crl_behind rows next));
   declines = declines_after from rows.declined;
 }
 

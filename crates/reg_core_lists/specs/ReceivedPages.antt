@@ -12,7 +12,7 @@ use Rattle.reg_core.specs.declared.rows.OrderRow.{OrderRow}
 use Rattle.reg_core.specs.declared.rows.CertRow.{CertRow}
 use Rattle.reg_core.specs.declared.rows.RequestRow.{RequestRow}
 use Rattle.reg_core.specs.declared.rows.RevocationRow.{RevocationRow}
-use Rattle.reg_core_lists.specs.Feed.{PageParts, RowLists, crl_alone, feed_crl_of, feed_rows_of, page_parts_text}
+use Rattle.reg_core_lists.specs.Feed.{PageParts, RowLists, crl_behind, feed_crl_of, feed_rows_of, page_parts_text}
 use Rattle.reg_core_lists.specs.FeedLines.{page_head, step_text}
 use Rattle.reg_core_lists.specs.FeedReading.{HasNoneOf, HeadFields, ReadsItems, certificate_row_of, declined_id_of, order_row_of, request_row_of, revocation_row_of, row_read, subscriber_row_of}
 use Rattle.reg_core_lists.specs.declared.feed_fields.HeadFields.{HeadFields as DeclaredFields}
@@ -156,15 +156,15 @@ pub record IsReadablePositions (positions : Positions) : Type 0 where
 abbrev pub positions_of : Received → Positions
 positions_of page = record { counts = page.parts.counts; declines = page.parts.declines; digest = page.digest }
 
--- a page has either rows or a CRL
-abbrev pub IsAlone : PageParts → Type 0
-IsAlone parts = crl_alone parts.rows parts.crl ≡ parts.crl
+-- a full page has no CRL
+abbrev pub HasRoomForCrl : PageParts → Type 0
+HasRoomForCrl parts = crl_behind parts.rows parts.crl ≡ parts.crl
 
 pub record IsReadable (page : Received) : Type 0 where
   pub head : IsReadableHead page.head
   pub rows : IsReadableRows page.parts.rows
   pub crl : IsReadableCrlPart page.parts.crl
-  pub alone : IsAlone page.parts
+  pub room : HasRoomForCrl page.parts
   pub positions : IsReadablePositions (positions_of page)
 
 -- ---- what follows rows

@@ -118,7 +118,7 @@ fn later_in(rows: &[RevocationRow], crls: u64) -> Option<usize>
 #[derive(Drop)]
 pub struct FeedPage {
     rows: FeedRows,
-    /// A page with a CRL has no other row.
+    /// `None` if the page is full.
     crl: Option<FeedCrl>,
     /// Whether nothing comes after the page.
     ends: bool,
@@ -128,7 +128,8 @@ pub struct FeedPage {
 }
 
 impl FeedPage {
-    /// The page after the positions `counts` and `declines`: `rows`, or if there are none the next CRL, `next`. `None` if a number is above 2^64 - 1.
+    /// The page after the positions `counts` and `declines`: `rows`, and behind them the next CRL, `next`, unless the page is full. `None` if a number
+    /// is above 2^64 - 1.
     pub fn of(
         rows: FeedRows,
         next: Option<FeedCrl>,
@@ -139,9 +140,9 @@ impl FeedPage {
             page_parts_of page ≡ page_parts (feed_rows_of rows) (option_map feed_crl_of next) counts.now declines.now) }
     {
         let room = rows.room();
-        // A full page isn't the end. A page before the CRL `next` isn't either, nor is the page with that CRL: revocations may follow it.
+        // A full page isn't the end. Nor is one with the CRL `next`, or before it: revocations may follow that CRL.
         let ends = next.is_none() && room > 0;
-        let crl = if room == MOST_ROWS { next } else { None };
+        let crl = if room > 0 { next } else { None };
         let reached = rows.counts_after(counts, count_of(&crl))?;
         let declines = rows.declines_after(declines)?;
         Some(FeedPage {

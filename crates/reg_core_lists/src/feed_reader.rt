@@ -7,13 +7,13 @@ ghost use Rattle.hex.specs.Hex.{decode_of};
 ghost use Rattle.reg_core.specs.Policy.{IsPolicy, Terms};
 ghost use Rattle.reg_core.specs.Crls.{row_of};
 ghost use Rattle.reg_core.specs.Records.{Crl};
-ghost use Rattle.reg_core_lists.specs.Feed.{RowLists, crl_alone, crl_part, feed_crl_of, feed_rows_of, feed_rows_text, last_line, page_parts_text};
+ghost use Rattle.reg_core_lists.specs.Feed.{RowLists, crl_behind, crl_part, feed_crl_of, feed_rows_of, feed_rows_text, last_line, page_parts_text};
 ghost use Rattle.reg_core_lists.specs.FeedReading.{crl_line_read, is_other_version};
-ghost use Rattle.reg_core_lists.specs.ReceivedPages.{HasNoRow, HeadTerms, IfRead, IsAlone, IsReadable, IsReadableCrlPart, IsReadableHead, IsReadablePositions, IsReadableRows, MustRead, ReadsAs, ReadsRows, Received, fields_of_terms, head_fields_of, head_terms_of, head_terms_text, positions_of, received_of, received_text};
+ghost use Rattle.reg_core_lists.specs.ReceivedPages.{HasNoRow, HasRoomForCrl, HeadTerms, IfRead, IsReadable, IsReadableCrlPart, IsReadableHead, IsReadablePositions, IsReadableRows, MustRead, ReadsAs, ReadsRows, Received, fields_of_terms, head_fields_of, head_terms_of, head_terms_text, positions_of, received_of, received_text};
 ghost use Rattle.reg_core_lists.specs.declared.positions.Positions.{Positions};
 ghost use Rattle.reg_core_lists.specs.declared.feed_reader.PageFault.TheVariants.{Memory, Version};
 
-use crate::feed::{FeedCrl, FeedRows, MOST_ROWS, put_last_line};
+use crate::feed::{FeedCrl, FeedRows, put_last_line};
 use crate::feed_fields::{
     HeadFields, after_prefix, is_other_version, read_crl_line, read_head_fields, read_last_line,
 };
@@ -33,8 +33,8 @@ pub struct FeedHead {
     pub last: Moment,
 }
 
-/// A page of the changes feed, as it was received. A page with a CRL has no other row. `rows.declined` has the ids of declined requests: no request
-/// in `rows` is marked as declined. `ends`: this is the last page. `positions`: how far a copy has got with this page.
+/// A page of the changes feed, as it was received. A page with a CRL has fewer than `MOST_ROWS` other rows. `rows.declined` has the ids of declined
+/// requests: no request in `rows` is marked as declined. `ends`: this is the last page. `positions`: how far a copy has got with this page.
 #[derive(Drop)]
 pub struct ReceivedPage {
     pub head: FeedHead,
@@ -65,7 +65,7 @@ impl From<AllocError> for PageFault {
 /// Reads a page. Its numbers must be below 10^18, and a register must allow its policy and names. No two pages have the same text.
 pub fn read_feed_page(alloc: Global, page: &[u8]) -> Result<ReceivedPage, PageFault>
     ensures text { IfOk result (λ read. page.now ≡ received_text (received_of read)) }
-    ensures alone { IfOk result (λ read. IsAlone (received_of read).parts) }
+    ensures room { IfOk result (λ read. HasRoomForCrl (received_of read).parts) }
     ensures only { (it : Received) → IsReadable it → page.now ≡ received_text it → ReadsAs result it }
     ensures version { IfErr result (λ fault. fault ≢ Memory
         → (fault ≡ Version) ↔ IsTrue (is_other_version page.now)) }
@@ -81,7 +81,7 @@ pub fn read_feed_page(alloc: Global, page: &[u8]) -> Result<ReceivedPage, PageFa
 
 fn read_parts(alloc: Global, page: &[u8]) -> Result<Option<ReceivedPage>, AllocError>
     ensures text { IfRead result (λ read. page.now ≡ received_text (received_of read)) }
-    ensures alone { IfRead result (λ read. IsAlone (received_of read).parts) }
+    ensures room { IfRead result (λ read. HasRoomForCrl (received_of read).parts) }
     ensures only { (it : Received) → IsReadable it → page.now ≡ received_text it
         → MustRead result (λ read. received_of read ≡ it) }
 {
@@ -95,7 +95,7 @@ fn read_parts(alloc: Global, page: &[u8]) -> Result<Option<ReceivedPage>, AllocE
     }
 }
 
-/// The page with these parts; `None` if it has both a CRL and other rows. `room`, how many more rows a page may have, is `MOST_ROWS` without rows.
+/// The page with these parts; `None` if it has a CRL although it is full: it has at least `MOST_ROWS` other rows.
 fn page_with(
     head: FeedHead,
     rows: FeedRows,
@@ -103,12 +103,12 @@ fn page_with(
     ends: bool,
     positions: Positions,
 ) -> Option<ReceivedPage>
-    ensures { MatchOption result (crl_alone (feed_rows_of rows) (option_map feed_crl_of crl)
+    ensures { MatchOption result (crl_behind (feed_rows_of rows) (option_map feed_crl_of crl)
         ≢ option_map feed_crl_of crl)
         (λ page. (page ≡ record { head = head; rows = rows; crl = crl; ends = ends; positions = positions })
-        × IsAlone (received_of page).parts) }
+        × HasRoomForCrl (received_of page).parts) }
 {
-    if crl.is_some() && rows.room() != MOST_ROWS {
+    if crl.is_some() && rows.room() == 0 {
         return None;
     }
     Some(ReceivedPage {

@@ -1,5 +1,5 @@
 -- What a page of a leader has of each table.
-use Rattle.std.proofs.Common.{◌≡◌, ◌∙◌, ◌≤◌, ◌<◌, ◌+◌, ◌-◌, ℕ, zero, suc, Bool, true, false, ◌==◌, ◌&&◌, List, [], ◌∷◌, length, map, filter, take, drop, Option, Some, None, inl, inr, refl, sym, ap, subst, arith}
+use Rattle.std.proofs.Common.{◌≡◌, ◌∙◌, ◌≤◌, ◌<◌, ◌+◌, ◌-◌, ℕ, zero, suc, Bool, true, false, ◌&&◌, List, [], ◌∷◌, length, map, filter, take, drop, Option, Some, None, inl, inr, refl, sym, ap, subst, arith}
 use Rattle.std.specs.Prelude.{IsTrue, cond, is_none, nat_lt, not, option_map}
 use Rattle.std.specs.List.{AllByRecursion, before_first, position_or_len, slice_get}
 use Rattle.std.proofs.lemmas.Bool.{cases_Bool, false≢true}
@@ -15,7 +15,7 @@ use Rattle.reg_core.specs.declared.rows.RequestRow.{RequestRow}
 use Rattle.reg_core.specs.declared.rows.RevocationRow.{RevocationRow}
 use Rattle.reg_core_laws.specs.Extends.{OnlyAdded}
 use Rattle.reg_core_laws.proofs.PublicLaws.{all_weaker}
-use Rattle.reg_core_lists.specs.Feed.{ArePageRows, PageParts, RowLists, counts_after, crl_alone, crl_count, declines_after, declines_from, feed_crl_of, feed_rows_of, is_later, room}
+use Rattle.reg_core_lists.specs.Feed.{ArePageRows, PageParts, RowLists, counts_after, crl_behind, crl_count, declines_after, declines_from, feed_crl_of, feed_rows_of, is_later, room}
 use Rattle.reg_core_lists.specs.declared.feed.FeedCrl.{FeedCrl}
 use Rattle.reg_core_lists.specs.declared.feed_reader.ReceivedPage.{ReceivedPage}
 use Rattle.reg_core_lists.specs.declared.positions.Declines.{Declines}
@@ -93,14 +93,14 @@ counted_crl : (found : Option Crl) → crl_count found ≡ length (crl_list foun
 counted_crl None = refl
 counted_crl (Some crl) = refl
 
--- a page without rows has the next CRL
-crl_part_of : (rows : RowLists) (crls : List Crl) (n : ℕ) (next : Option Crl) → slice_get crls n ≡ next → OnlyAdded (crl_list (crl_alone rows next)) (drop n crls)
-crl_part_of rows crls n None is = by_test (room rows == 1000)
+-- a page that is not full has the next CRL
+crl_part_of : (rows : RowLists) (crls : List Crl) (n : ℕ) (next : Option Crl) → slice_get crls n ≡ next → OnlyAdded (crl_list (crl_behind rows next)) (drop n crls)
+crl_part_of rows crls n None is = by_test (nat_lt 0 (room rows))
   where
     by_test : (b : Bool) → OnlyAdded (crl_list (cond b None None)) (drop n crls)
     by_test true = (drop n crls, refl)
     by_test false = (drop n crls, refl)
-crl_part_of rows crls n (Some crl) is = by_test (room rows == 1000)
+crl_part_of rows crls n (Some crl) is = by_test (nat_lt 0 (room rows))
   where
     by_test : (b : Bool) → OnlyAdded (crl_list (cond b (Some crl) None)) (drop n crls)
     by_test true = got crls n crl is
@@ -110,9 +110,9 @@ none_next : (next : Option Crl) → is_none next ≡ true → next ≡ None
 none_next None is = refl
 none_next (Some crl) is = absurd (let bad : ⊥ = cc in bad)
 
-none_alone : (b : Bool) → crl_list (cond b None None) ≡ []
-none_alone true = refl
-none_alone false = refl
+no_crl_of : (b : Bool) → crl_list (cond b None None) ≡ []
+no_crl_of true = refl
+no_crl_of false = refl
 
 -- ---- tests
 
@@ -155,7 +155,7 @@ module _ (records : Records) (counts : RowCounts) (declines : Declines) (page : 
   are_rows : ArePageRows records counts from made_rows
   are_rows = is.has_parts.are_rows
 
-  counts_are : page.positions.counts ≡ counts_after counts made_rows (crl_count (crl_alone made_rows next_crl))
+  counts_are : page.positions.counts ≡ counts_after counts made_rows (crl_count (crl_behind made_rows next_crl))
   counts_are = ap (λ (parts : PageParts). parts.counts) is.parts ∙ ap (λ (parts : PageParts). parts.counts) is.has_parts.are_parts
 
   declined_are : (feed_rows_of page.rows).declined ≡ made_rows.declined
@@ -166,7 +166,7 @@ module _ (records : Records) (counts : RowCounts) (declines : Declines) (page : 
       ap (λ (parts : PageParts). parts.declines) is.parts ∙ ap (λ (parts : PageParts). parts.declines) is.has_parts.are_parts
       ∙ ap (declines_after from) (sym declined_are)
 
-  crl_is : listed_crl page.crl ≡ crl_list (crl_alone made_rows next_crl)
+  crl_is : listed_crl page.crl ≡ crl_list (crl_behind made_rows next_crl)
   crl_is =
       listed_is page.crl
       ∙ ap crl_list (ap (λ (parts : PageParts). parts.crl) is.parts ∙ ap (λ (parts : PageParts). parts.crl) is.has_parts.are_parts)
@@ -245,7 +245,7 @@ module _ (records : Records) (counts : RowCounts) (declines : Declines) (page : 
 
   pub crls_counted : page.positions.counts.crls ≡ counts.crls + length (listed_crl page.crl)
   crls_counted =
-      ap (λ (c : RowCounts). c.crls) counts_are ∙ ap (λ n. counts.crls + n) (counted_crl (crl_alone made_rows next_crl))
+      ap (λ (c : RowCounts). c.crls) counts_are ∙ ap (λ n. counts.crls + n) (counted_crl (crl_behind made_rows next_crl))
       ∙ ap (λ (l : List Crl). counts.crls + length l) (sym crl_is)
 
   -- ---- the last page
@@ -303,7 +303,7 @@ module _ (records : Records) (counts : RowCounts) (declines : Declines) (page : 
 
     pub crls_whole : listed_crl page.crl ≡ drop counts.crls records.crls
     crls_whole =
-        crl_is ∙ ap (λ next. crl_list (crl_alone made_rows next)) no_crl ∙ none_alone (room made_rows == 1000)
+        crl_is ∙ ap (λ next. crl_list (crl_behind made_rows next)) no_crl ∙ no_crl_of (nat_lt 0 (room made_rows))
         ∙ sym (none_got records.crls counts.crls no_crl)
 
     -- the first CRL of each revocation is there, or the next one

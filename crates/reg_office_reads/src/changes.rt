@@ -1,5 +1,5 @@
 //! Pages of the changes feed: the rows after positions (how far a client's copy has got), at most `MOST_ROWS` (1,000) in all. A table comes after
-//! those that it refers to, and has rows on a page only if all rows of the tables before it fit. If a page has no rows, it has the next CRL, if any.
+//! those that it refers to, and has rows on a page only if all rows of the tables before it fit. A page that is not full has the next CRL, if any.
 
 ghost use Rattle.std.specs.Prelude.{◌≡◌, ◌-◌, length, option_map, IfErr, Some};
 ghost use Rattle.std.specs.List.{slice_get};
@@ -114,7 +114,7 @@ fn head_in<C: Alter>(
     Ok(text)
 }
 
-/// The rows of the page, or the next CRL if there are none. `Store` if a count would be above 2^64 - 1, which no register reaches.
+/// The rows of the page, and the next CRL if it is not full. `Store` if a count would be above 2^64 - 1, which no register reaches.
 fn page_in<C: Alter>(
     tables: &mut Tables<C>,
     counts: &RowCounts,

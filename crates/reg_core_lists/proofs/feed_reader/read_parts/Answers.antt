@@ -1,7 +1,7 @@
 use Rattle.std.proofs.Common.{◌≡◌, ◌≢◌, ◌∙◌}
 use Rattle.std.specs.Prelude.{option_map}
-use Rattle.reg_core_lists.specs.Feed.{crl_alone, feed_crl_of, feed_rows_of}
-use Rattle.reg_core_lists.specs.ReceivedPages.{IsAlone, received_of, received_text}
+use Rattle.reg_core_lists.specs.Feed.{crl_behind, feed_crl_of, feed_rows_of}
+use Rattle.reg_core_lists.specs.ReceivedPages.{HasRoomForCrl, received_of, received_text}
 use Rattle.reg_core_lists.specs.declared.feed_reader.ReceivedPage.{ReceivedPage}
 use Rattle.reg_core_lists.proofs.PartsRead.{if_some, whole_parts}
 use Rattle.reg_core_lists.proofs.feed_reader.read_parts.Goals as goal
@@ -18,6 +18,6 @@ returns-in-Some-2-clause-text c =
       ends = c.in-Some-2.ends;
       positions = c.in-Some-2.positions;
     } in
-    if_some (crl_alone (feed_rows_of page.rows) (option_map feed_crl_of page.crl) ≢ option_map feed_crl_of page.crl)
-    (λ it. IsAlone (received_of it).parts) (λ it. c.args.page.now ≡ received_text (received_of it)) page c.page_with.result c.page_with.ensures
+    if_some (crl_behind (feed_rows_of page.rows) (option_map feed_crl_of page.crl) ≢ option_map feed_crl_of page.crl)
+    (λ it. HasRoomForCrl (received_of it).parts) (λ it. c.args.page.now ≡ received_text (received_of it)) page c.page_with.result c.page_with.ensures
     (head ∙ whole_parts (received_of page) c.in-Some.found.1.now parts)
