@@ -1,5 +1,5 @@
 -- A conversation at a control socket, one line after the other.
-use Rattle.std.proofs.Common.{◌≡◌, ◌↔◌, ◌⊎◌, ℕ, ◌+◌, Bool, true, List, [], ◌∷◌, ◌++◌, length, length-append, append-nil, append_assoc, IsTrue, IsFalse, Option, Some, None, Result, Ok, Err, MatchResult, ◌∙◌, refl, sym, ap, subst, inl, inr, arith}
+use Rattle.std.proofs.Common.{◌≡◌, ◌↔◌, ◌⊎◌, ◌<◌, ◌≤◌, ℕ, ◌+◌, Bool, true, List, [], ◌∷◌, ◌++◌, length, length-append, append-nil, append_assoc, IsTrue, IsFalse, Option, Some, None, Result, Ok, Err, MatchResult, ◌∙◌, refl, sym, ap, subst, inl, inr, arith}
 use Rattle.std.specs.Io.Buffered.{reader_buffer, reader_capacity, reader_inner, reader_remaining}
 use Rattle.std.specs.Io.KnownBytes.{Appends, Consumes, prepend_known}
 use Rattle.std.specs.List.{AllByRecursion, concat}
@@ -12,7 +12,7 @@ use Rattle.reg_desk_cli.specs.declared.failure.Failure.TheVariants as failure
 use Rattle.reg_lines.specs.Accepted.{IsAccepted}
 use Rattle.reg_lines.proofs.PublicLaws.{concat_push}
 use Rattle.reg_lines.specs.Script.{IsWholeLine}
-use Rattle.reg_desk_jobs.specs.Conversations.{AreWhole, GoesOn, IsInput, IsPiece, ExchangedLines, ExchangesLines, PassesReplies}
+use Rattle.reg_desk_jobs.specs.Conversations.{AreWhole, GoesOn, IsConversationFault, IsInput, IsPiece, ExchangedLines, ExchangesLines, ExchangesMost, PassesReplies}
 use Rattle.reg_desk_jobs.specs.declared.at_job.Piece.{Piece}
 use Rattle.reg_desk_jobs.specs.declared.at_job.PieceEnd.{PieceEnd}
 use Rattle.reg_desk_jobs.specs.declared.at_job.PieceEnd.TheVariants as piece_end
@@ -66,9 +66,24 @@ pub all_under : {T A : Type 0} (reader : BufReader T A) (inner : T) (remaining :
     → reader_buffer reader ≡ [] → reader_capacity reader ≡ 8192 → reader_remaining remaining reader ≡ remaining inner
 all_under reader inner remaining is empty room = rw (room, empty, is) (prepend_nil (remaining inner))
 
-pub exchanges_under : (sent sent' incoming incoming' out out' input under : Option (List ℕ)) (result : Result (Unit {0}) Failure) → input ≡ under
-    → ExchangesLines sent sent' incoming incoming' out out' input result → ExchangesLines sent sent' incoming incoming' out out' under result
-exchanges_under sent sent' incoming incoming' out out' input under result same exchanges = subst (λ i. ExchangesLines sent sent' incoming incoming' out out' i result) same exchanges
+-- what fails in a part of a conversation fails in all of it
+pub fails_in : (read write read' write' : Type 0) → (read → read') → (write → write') → (why : Failure) → IsConversationFault read write why
+    → IsConversationFault read' write' why
+fails_in read write read' write' reads writes why (inl (is, failed)) = inl (is, reads failed)
+fails_in read write read' write' reads writes why (inr (inl (is, failed))) = inr (inl (is, writes failed))
+fails_in read write read' write' reads writes why (inr (inr is)) = inr (inr is)
+
+-- over a connection of which no failure can be stated
+pub exchanges_under : (read write : Type 0) (sent sent' incoming incoming' out out' input under : Option (List ℕ)) (result : Result (Unit {0}) Failure)
+    → input ≡ under → ExchangesLines sent sent' incoming incoming' out out' read write input result
+    → ExchangesLines sent sent' incoming incoming' out out' (Unit {0}) (Unit {0}) under result
+exchanges_under read write sent sent' incoming incoming' out out' input under (Ok done) same exchanges =
+    subst (λ i. ExchangesLines sent sent' incoming incoming' out out' (Unit {0}) (Unit {0}) i (Ok done)) same exchanges
+exchanges_under read write sent sent' incoming incoming' out out' input under (Err why) same (inl fails) =
+    inl (fails_in (read ⊎ ExchangesMost sent sent' incoming incoming' out out') write (Unit {0} ⊎ ExchangesMost sent sent' incoming incoming' out out') (Unit {0})
+    (λ failed. inl tt) (λ failed. tt) why fails)
+exchanges_under read write sent sent' incoming incoming' out out' input under (Err why) same (inr ended) =
+    subst (λ i. ExchangesLines sent sent' incoming incoming' out out' (Unit {0}) (Unit {0}) i (Err why)) same (inr ended)
 
 -- ---- the next lines of an input
 
@@ -114,29 +129,30 @@ module _ (incoming out : Option (List ℕ)) where
 
 -- What was read, what went out, what came and what was written when a talk began.
 module _ (input sent incoming out : Option (List ℕ)) where
-  -- the talk so far, how the input goes on, and whether each reply was accepted
-  abbrev pub SoFar : PieceEnd → Option (List ℕ) → Option (List ℕ) → Option (List ℕ) → Option (List ℕ) → Bool → Type 0
-  SoFar it input' sent' incoming' out' accepted =
+  -- the talk so far, of at least `count` lines; how the input goes on; and whether each reply was accepted
+  abbrev pub SoFar : ℕ → PieceEnd → Option (List ℕ) → Option (List ℕ) → Option (List ℕ) → Option (List ℕ) → Bool → Type 0
+  SoFar count it input' sent' incoming' out' accepted =
       (lines : List (List ℕ)) × (replies : List (List ℕ)) × ExchangedLines sent sent' incoming incoming' out out' lines replies
-      × GoesOn input input' (concat lines) it × (IsTrue accepted ↔ AllByRecursion IsAccepted replies)
+      × GoesOn input input' (concat lines) it × (IsTrue accepted ↔ AllByRecursion IsAccepted replies) × (count ≤ length lines)
 
   -- nothing yet
-  pub begins : SoFar piece_end.Full input sent incoming out true
+  pub begins : SoFar 0 piece_end.Full input sent incoming out true
   begins = (
     [],
     [],
     record { whole = tt; lines_sent = Appends-nil sent; received = Consumes-nil incoming; said = Appends-nil out; each = refl },
     Consumes-nil input,
     ((λ holds. tt), (λ all. refl)),
+    omega arith,
   )
 
   -- a piece more
-  pub goes_on : (input' input'' sent' sent'' incoming' incoming'' out' out'' : Option (List ℕ)) (most : ℕ) (piece : Piece) (before accepted after : Bool)
-      → SoFar piece_end.Full input' sent' incoming' out' before → IsPiece most input' input'' piece → Appends sent' sent'' piece.text.items
+  pub goes_on : (count : ℕ) (input' input'' sent' sent'' incoming' incoming'' out' out'' : Option (List ℕ)) (most : ℕ) (piece : Piece) (before accepted after : Bool)
+      → SoFar count piece_end.Full input' sent' incoming' out' before → IsPiece most input' input'' piece → Appends sent' sent'' piece.text.items
       → PassesReplies incoming' incoming'' out' out'' piece.count accepted → IsTrue after ↔ (IsTrue before × IsTrue accepted)
-      → SoFar piece.end input'' sent'' incoming'' out'' after
-  goes_on input' input'' sent' sent'' incoming' incoming'' out' out'' most piece before accepted after so next appended passed both =
-      let (lines, replies, talked, read, all) = so in
+      → SoFar (count + piece.count) piece.end input'' sent'' incoming'' out'' after
+  goes_on count input' input'' sent' sent'' incoming' incoming'' out' out'' most piece before accepted after so next appended passed both =
+      let (lines, replies, talked, read, all, many) = so in
       let (more, counted, received, said, is) = passed in
       let joined = all_append IsAccepted replies more in (
         lines ++ next.lines,
@@ -155,16 +171,25 @@ module _ (input sent incoming out : Option (List ℕ)) where
           (λ holds. let parts = both.0 holds in joined.1 (all.0 parts.0, is.0 parts.1)),
           (λ each. let parts = joined.0 each in both.1 (all.1 parts.0, is.1 parts.1)),
         ),
+        omega (arith, many, next.count, length-append lines next.lines),
       )
 
+  -- a full piece has a line
+  pub one_more : (count most : ℕ) (input' input'' sent'' incoming'' out'' : Option (List ℕ)) (piece : Piece) (after : Bool) → 0 < most → IsPiece most input' input'' piece
+      → piece.end ≡ piece_end.Full → SoFar (count + piece.count) piece.end input'' sent'' incoming'' out'' after
+      → SoFar (count + 1) piece_end.Full input'' sent'' incoming'' out'' after
+  one_more count most input' input'' sent'' incoming'' out'' piece after some next full so =
+      let (lines, replies, talked, read, all, many) = so in
+      (lines, replies, talked, subst (GoesOn input input'' (concat lines)) full read, all, omega (arith, some, next.full full, many))
+
   -- What was so at the end.
-  module _ (input' sent' incoming' out' : Option (List ℕ)) (accepted : Bool) where
+  module _ (read_failed write_failed : Type 0) (count : ℕ) (input' sent' incoming' out' : Option (List ℕ)) (accepted : Bool) where
     -- no line is left
-    pub ends : (result : Result (Unit {0}) Failure) → SoFar piece_end.End input' sent' incoming' out' accepted
+    pub ends : (result : Result (Unit {0}) Failure) → SoFar count piece_end.End input' sent' incoming' out' accepted
         → MatchResult result (λ done. IsTrue accepted) (λ why. (why ≡ failure.Refused) × IsFalse accepted)
-        → ExchangesLines sent sent' incoming incoming' out out' input result
-    ends (Ok done) (lines, replies, talked, all, is) holds = (lines, replies, talked, all, is.0 holds)
-    ends (Err why) (lines, replies, talked, all, is) refused = inr (
+        → ExchangesLines sent sent' incoming incoming' out out' read_failed write_failed input result
+    ends (Ok done) (lines, replies, talked, all, is, many) holds = (lines, replies, talked, all, is.0 holds)
+    ends (Err why) (lines, replies, talked, all, is, many) refused = inr (
       lines,
       replies,
       [],
@@ -174,10 +199,10 @@ module _ (input sent incoming out : Option (List ℕ)) where
     )
 
     -- a last line without its end is left
-    pub cuts : (why : Failure) → SoFar piece_end.Cut input' sent' incoming' out' accepted
+    pub cuts : (why : Failure) → SoFar count piece_end.Cut input' sent' incoming' out' accepted
         → ((why ≡ failure.NoLineEnd) × IsTrue accepted) ⊎ ((why ≡ failure.RefusedNoLineEnd) × IsFalse accepted)
-        → ExchangesLines sent sent' incoming incoming' out out' input (Err why)
-    cuts why (lines, replies, talked, (left, cut, all), is) how = elim how [
+        → ExchangesLines sent sent' incoming incoming' out out' read_failed write_failed input (Err why)
+    cuts why (lines, replies, talked, (left, cut, all), is, many) how = elim how [
       | inl (named, holds) ↦ inr (lines, replies, left, talked, all, inr (inl (named, cut, is.0 holds)))
       | inr (named, refused) ↦ inr (lines, replies, left, talked, all, inr (inr (named, cut, (λ each. false≢true (sym refused ∙ is.1 each)))))
     ]

@@ -28,11 +28,15 @@ IsCutOff line = HasNoLf line × (0 < length line)
 abbrev pub IsInput : Option (List ℕ) → List ℕ → Type 0
 IsInput input bytes = IfSome input (λ all. all ≡ bytes)
 
--- the failures that end a conversation early: a read or a write failed, or out of memory
-abbrev pub IsConversationFault : Failure → Type 0
-IsConversationFault why =
-    (why ≡ failure.Fault fault.Read)
-    ⊎ ((why ≡ failure.Fault fault.Write) ⊎ (why ≡ failure.Fault fault.Memory))
+-- why a conversation ends early: a read failed, or the replies ended (`read_failed`); a write failed (`write_failed`); or out of memory
+abbrev pub IsConversationFault : Type 0 → Type 0 → Failure → Type 0
+IsConversationFault read_failed write_failed why =
+    ((why ≡ failure.Fault fault.Read) × read_failed)
+    ⊎ (((why ≡ failure.Fault fault.Write) × write_failed) ⊎ (why ≡ failure.Fault fault.Memory))
+
+-- as many lines were taken as a conversation has at most, 2^64 - 1
+abbrev pub AreMostLines : List (List ℕ) → Type 0
+AreMostLines lines = 18446744073709551615 ≤ length lines
 
 -- bytes that were read up to and including the first LF, or to the end of the input: a line, a last line without its line end, or nothing
 abbrev pub IsReadAs : List ℕ → NextLine → Type 0
@@ -93,24 +97,32 @@ module _ (sent sent' incoming incoming' out out' : Option (List ℕ)) where
   ExchangesLine line reply =
       Appends sent sent' line × Consumes incoming incoming' reply × Appends out out' reply
 
-  -- all lines of an input: each reply was accepted; or one was not, or a last line without its line end was not sent. If the conversation
-  -- ended early, nothing is stated about how far the job got
-  abbrev pub ExchangesLines : Option (List ℕ) → Result (Unit {0}) Failure → Type 0
-  ExchangesLines input (Ok done) =
+  -- the most lines of a conversation were exchanged
+  abbrev pub ExchangesMost : Type 0
+  ExchangesMost =
+      (lines replies : List (List ℕ)) × ExchangedLines sent sent' incoming incoming' out out' lines replies
+      × AreMostLines lines
+
+  -- All lines of an input: each reply was accepted; or one was not, or a last line without its line end was not sent. The conversation ends early
+  -- only if a read or a write failed, the replies ended, or out of memory, or after the most lines; then nothing else is stated.
+  abbrev pub ExchangesLines : Type 0 → Type 0 → Option (List ℕ) → Result (Unit {0}) Failure → Type 0
+  ExchangesLines read_failed write_failed input (Ok done) =
       (lines replies : List (List ℕ)) × ExchangedLines sent sent' incoming incoming' out out' lines replies
       × IsInput input (concat lines) × AllByRecursion IsAccepted replies
-  ExchangesLines input (Err why) = IsConversationFault why
+  ExchangesLines read_failed write_failed input (Err why) =
+      IsConversationFault (read_failed ⊎ ExchangesMost) write_failed why
       ⊎ ((lines replies : List (List ℕ)) × (left : List ℕ)
       × ExchangedLines sent sent' incoming incoming' out out' lines replies
       × IsInput input (concat lines ++ left) × IsFailureBy IsAccepted replies left why)
 
--- a conversation over a connection about which nothing else is known: it failed with nothing written, or as `ExchangesLines` states
+-- a conversation over a connection about which nothing else is known, not even whether it failed: out of memory with nothing written, or as
+-- `ExchangesLines` states
 abbrev pub ExchangesLinesOver
     : Option (List ℕ) → Option (List ℕ) → Option (List ℕ) → Result (Unit {0}) Failure → Type 0
 ExchangesLinesOver input out out' result =
-    ((why : Failure) × (result ≡ Err why) × IsConversationFault why × (out' ≡ out))
+    ((result ≡ Err (failure.Fault fault.Memory)) × (out' ≡ out))
     ⊎ ((sent sent' incoming incoming' : Option (List ℕ))
-    × ExchangesLines sent sent' incoming incoming' out out' input result)
+    × ExchangesLines sent sent' incoming incoming' out out' (Unit {0}) (Unit {0}) input result)
 
 -- lines at a control socket: the job failed with `Read` and nothing written; or the program connected (`met`), as `ExchangesLinesOver` states
 abbrev pub AtControlSocket

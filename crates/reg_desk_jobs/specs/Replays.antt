@@ -9,7 +9,7 @@ use Rattle.reg_core.specs.declared.refusal.Fault.TheVariants as fault
 use Rattle.reg_desk_cli.specs.declared.failure.Failure.{Failure}
 use Rattle.reg_desk_cli.specs.declared.failure.Failure.TheVariants as failure
 use Rattle.reg_lines.specs.Script.{IsWholeLine, line_of}
-use Rattle.reg_desk_jobs.specs.Conversations.{AreWhole, IsCutOff, IsInput, IsConversationFault, ExchangesLine}
+use Rattle.reg_desk_jobs.specs.Conversations.{AreMostLines, AreWhole, IsCutOff, IsInput, IsConversationFault, ExchangesLine}
 use Rattle.reg_desk_jobs.specs.LogEntries.{LoggedExchange, LogsEntry, LogsNothing, LogsPart, first_word, second_word}
 use Rattle.reg_desk_jobs.specs.declared.log_entries.LoggedCommand.{LoggedCommand}
 use Rattle.reg_desk_jobs.specs.declared.log_entries.LoggedCommand.TheVariants.{Line, Request, Decision}
@@ -53,11 +53,12 @@ renumbered (Decision id serial) reply = []
 
 -- ---- a replay
 
--- a replay stops: with `Refused` after this line of the log was written, or with a fault
-abbrev pub StopsWith : Option (List ℕ) → List ℕ → Option (List ℕ) → Result (Unit {0}) Failure → Type 0
-StopsWith out line out' (Ok done) = ⊥
-StopsWith out line out' (Err why) =
-    IsConversationFault why ⊎ ((why ≡ failure.Refused) × Appends out out' line)
+-- a replay stops: with `Refused` after this line of the log was written, or because the write failed
+abbrev pub StopsWith
+    : Type 0 → Option (List ℕ) → List ℕ → Option (List ℕ) → Result (Unit {0}) Failure → Type 0
+StopsWith write_failed out line out' (Ok done) = ⊥
+StopsWith write_failed out line out' (Err why) =
+    ((why ≡ failure.Fault fault.Write) × write_failed) ⊎ ((why ≡ failure.Refused) × Appends out out' line)
 
 -- the state of a replay: what was sent, the replies that are left, what was written, and the numbers that requests were given
 pub record ReplayState : Type 0 where
@@ -88,10 +89,13 @@ ReplyDiffers s logged_exchange logged_command line t = (reply : List ℕ) × (ou
 
 -- how the replay of an entry of the log ends
 abbrev pub EntryEnds
-    : ReplayState → LoggedExchange → LoggedCommand → List ℕ → ReplayState → Result (Unit {0}) Failure → Type 0
-EntryEnds s logged_exchange logged_command line t (Ok done) = ReplyAgrees s logged_exchange logged_command t
-EntryEnds s logged_exchange logged_command line t (Err why) =
-    IsConversationFault why ⊎ ((why ≡ failure.Refused) × ReplyDiffers s logged_exchange logged_command line t)
+    : Type 0 → Type 0 → ReplayState → LoggedExchange → LoggedCommand → List ℕ → ReplayState
+    → Result (Unit {0}) Failure → Type 0
+EntryEnds read_failed write_failed s logged_exchange logged_command line t (Ok done) =
+    ReplyAgrees s logged_exchange logged_command t
+EntryEnds read_failed write_failed s logged_exchange logged_command line t (Err why) =
+    IsConversationFault read_failed write_failed why
+    ⊎ ((why ≡ failure.Refused) × ReplyDiffers s logged_exchange logged_command line t)
 
 -- a line of the log is replayed: it has no accepted command, or one whose reply agrees
 abbrev pub LineReplayed : ReplayState → List ℕ → ReplayState → Type 0
@@ -108,9 +112,11 @@ LineStops s line t =
     × ReplyDiffers s logged_exchange logged_command line t)
 
 -- how the replay of a line of the log ends
-abbrev pub LineEnds : ReplayState → List ℕ → ReplayState → Result (Unit {0}) Failure → Type 0
-LineEnds s line t (Ok done) = LineReplayed s line t
-LineEnds s line t (Err why) = IsConversationFault why ⊎ ((why ≡ failure.Refused) × LineStops s line t)
+abbrev pub LineEnds
+    : Type 0 → Type 0 → ReplayState → List ℕ → ReplayState → Result (Unit {0}) Failure → Type 0
+LineEnds read_failed write_failed s line t (Ok done) = LineReplayed s line t
+LineEnds read_failed write_failed s line t (Err why) =
+    IsConversationFault read_failed write_failed why ⊎ ((why ≡ failure.Refused) × LineStops s line t)
 
 -- lines of a log are replayed, one after the other
 abbrev pub Replayed : ReplayState → List (List ℕ) → ReplayState → Type 0
@@ -124,28 +130,36 @@ Stops s left t why =
     × LineStops s line t)
     ⊎ ((why ≡ failure.NoLineEnd) × IsCutOff left × (t ≡ s))
 
--- a log is replayed: each of its lines; or those before the one at which it stops. After a fault, nothing is stated about how far the job got
-abbrev pub ReplaysLog : Option (List ℕ) → ReplayState → ReplayState → Result (Unit {0}) Failure → Type 0
-ReplaysLog input s t (Ok done) =
+-- the most lines of a conversation were taken from the log
+abbrev pub ReplaysMost : ReplayState → ReplayState → Type 0
+ReplaysMost s t = (log : List (List ℕ)) × Replayed s log t × AreMostLines log
+
+-- A log is replayed: each of its lines; or those before the one at which it stops. The job ends early only if a read or a write failed, the replies
+-- ended, or out of memory, or after the most lines; then nothing else is stated.
+abbrev pub ReplaysLog
+    : Type 0 → Type 0 → Option (List ℕ) → ReplayState → ReplayState → Result (Unit {0}) Failure → Type 0
+ReplaysLog read_failed write_failed input s t (Ok done) =
     (log : List (List ℕ)) × AreWhole log × IsInput input (concat log) × Replayed s log t
-ReplaysLog input s t (Err why) = IsConversationFault why
+ReplaysLog read_failed write_failed input s t (Err why) =
+    IsConversationFault (read_failed ⊎ ReplaysMost s t) write_failed why
     ⊎ ((log : List (List ℕ)) × (m : ReplayState) × (left : List ℕ) × AreWhole log × Replayed s log m
     × IsInput input (concat log ++ left) × Stops m left t why)
 
--- the same; at the start of a replay, no request has another number than in the log
+-- the same over a connection of which no failure can be stated; at the start of a replay, no request has another number than in the log
 abbrev pub Replays
     : Option (List ℕ) → Option (List ℕ) → Option (List ℕ) → Option (List ℕ) → Option (List ℕ)
     → Option (List ℕ) → Option (List ℕ)
     → Result (Unit {0}) Failure → Type 0
 Replays input sent sent' incoming incoming' out out' result =
     (numbers : List Renumbered)
-    × ReplaysLog input (state_of sent incoming out []) (state_of sent' incoming' out' numbers) result
+    × ReplaysLog (Unit {0}) (Unit {0}) input (state_of sent incoming out [])
+    (state_of sent' incoming' out' numbers) result
 
--- over a connection about which nothing else is known: the job failed with nothing written, or as `Replays` states
+-- over a connection about which nothing else is known: out of memory with nothing written, or as `Replays` states
 abbrev pub ReplaysOver
     : Option (List ℕ) → Option (List ℕ) → Option (List ℕ) → Result (Unit {0}) Failure → Type 0
 ReplaysOver input out out' result =
-    ((why : Failure) × (result ≡ Err why) × IsConversationFault why × (out' ≡ out))
+    ((result ≡ Err (failure.Fault fault.Memory)) × (out' ≡ out))
     ⊎ ((sent sent' incoming incoming' : Option (List ℕ))
     × Replays input sent sent' incoming incoming' out out' result)
 

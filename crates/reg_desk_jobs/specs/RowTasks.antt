@@ -14,7 +14,7 @@ use Rattle.reg_desk_cli.specs.declared.job.RowTask.{RowTask}
 use Rattle.reg_desk_cli.specs.declared.job.RowTask.TheVariants.{Register, Revoke}
 use Rattle.reg_lines.specs.Accepted.{IsAccepted}
 use Rattle.reg_lines.specs.Script.{line_of}
-use Rattle.reg_desk_jobs.specs.Conversations.{AreWhole, IsInput, IsConversationFault, IsFailureBy}
+use Rattle.reg_desk_jobs.specs.Conversations.{AreMostLines, AreWhole, IsInput, IsConversationFault, IsFailureBy}
 use Rattle.reg_desk_jobs.specs.LogEntries.{first_word, second_word}
 use Rattle.reg_desk_jobs.specs.declared.row_job.RegistrationInput.{RegistrationInput}
 use Rattle.reg_desk_jobs.specs.declared.row_job.RevocationInput.{RevocationInput}
@@ -160,23 +160,30 @@ module _ (task : RowTask) where
     pub answered : LinesAnswered s t lines replies
     pub wrote : Appends out out' (concat replies)
 
-  -- the rows of an input: each is done; or one is not, or a last line without its line end is left, for which nothing was sent. If the connection,
-  -- the input or the output failed, or out of memory, nothing is stated about how far the job got
+  -- the most lines of a conversation were taken from the file
+  abbrev pub SendsMostRows : Link → Link → Option (List ℕ) → Option (List ℕ) → Type 0
+  SendsMostRows s t out out' =
+      (lines replies : List (List ℕ)) × RepliesWritten s t out out' lines replies × AreMostLines lines
+
+  -- The rows of an input: each is done; or one is not, or a last line without its line end is left, for which nothing was sent. The job ends early
+  -- only if a read or a write failed, the replies ended, or out of memory, or after the most lines; then nothing else is stated.
   abbrev pub SendsRows
-      : Option (List ℕ) → Link → Link → Option (List ℕ) → Option (List ℕ) → Result (Unit {0}) Failure → Type 0
-  SendsRows input s t out out' (Ok done) =
+      : Type 0 → Type 0 → Option (List ℕ) → Link → Link → Option (List ℕ) → Option (List ℕ)
+      → Result (Unit {0}) Failure → Type 0
+  SendsRows read_failed write_failed input s t out out' (Ok done) =
       (lines replies : List (List ℕ)) × RepliesWritten s t out out' lines replies
       × IsInput input (concat lines) × AllByRecursion IsRowDone replies
-  SendsRows input s t out out' (Err why) = IsConversationFault why
+  SendsRows read_failed write_failed input s t out out' (Err why) =
+      IsConversationFault (read_failed ⊎ SendsMostRows s t out out') write_failed why
       ⊎ ((lines replies : List (List ℕ)) × (left : List ℕ) × RepliesWritten s t out out' lines replies
       × IsInput input (concat lines ++ left) × IsFailureBy IsRowDone replies left why)
 
-  -- over a connection about which nothing else is known: the job failed with nothing written, or as `SendsRows` states
+  -- over a connection about which nothing else is known: out of memory with nothing written, or as `SendsRows` states
   abbrev pub SendsRowsOver
       : Option (List ℕ) → Option (List ℕ) → Option (List ℕ) → Result (Unit {0}) Failure → Type 0
   SendsRowsOver input out out' result =
-      ((why : Failure) × (result ≡ Err why) × IsConversationFault why × (out' ≡ out))
-      ⊎ ((s t : Link) × SendsRows input s t out out' result)
+      ((result ≡ Err (failure.Fault fault.Memory)) × (out' ≡ out))
+      ⊎ ((s t : Link) × SendsRows (Unit {0}) (Unit {0}) input s t out out' result)
 
   -- at a control socket: the job failed with `Read` and nothing written; or the program connected (`met`), as `SendsRowsOver` states
   abbrev pub SendsRowsAt

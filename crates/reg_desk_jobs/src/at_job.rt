@@ -6,14 +6,15 @@ ghost use Rattle.std.specs.Io.BufRead.{ends_with_byte};
 ghost use Rattle.std.specs.Io.KnownBytes.{Appends, Consumes};
 ghost use Rattle.reg_desk_jobs.specs.Conversations.{AtControlSocket, IsConversationFault, IsPiece, IsReadAs, NextIs, PassesReplies, RowsAtControlSocket, ExchangesLines, ExchangesLine, ExchangesLinesOver};
 
+use crate::line_source::LineSource;
 use crate::output_lines::print_text;
 use reg_core::Fault;
 use reg_desk_cli::Failure;
 use reg_desk_service::Machine;
-use reg_io::Source;
+use reg_io::{Sink, Source};
 use reg_lines::{is_accepted, lines_of_rows};
 use std::alloc::Global;
-use std::io::{BufRead, BufReader, Read, Write};
+use std::io::{BufReader, Read, Write};
 use std::os::unix::net::UnixStream;
 
 /// The next line of an input, with its LF; `Cut`: a last line without LF, whose bytes are dropped; or `End`: no line is left.
@@ -135,7 +136,7 @@ fn exchange_lines_over<R: Read, W: Write>(
 /// writes each to `writer`, before it sends more. A last line without its LF is not sent. Errors once all lines are sent: `Refused` if a reply was a
 /// refusal or a fault; `NoLineEnd` if a last line has no LF; `RefusedNoLineEnd` for both. Earlier errors: `Read` if the input or connection fails, a
 /// reply is cut off, or memory runs out for a line or reply; `Memory` if it runs out for the lines of one write; `Write` if a write fails.
-pub fn exchange_lines<R: BufRead, W: Write, C: BufRead, S: Write>(
+pub fn exchange_lines<R: LineSource, W: Sink, C: LineSource, S: Sink>(
     alloc: Global,
     most_in_flight: usize,
     input: &mut R,
@@ -146,7 +147,9 @@ pub fn exchange_lines<R: BufRead, W: Write, C: BufRead, S: Write>(
     requires { 0 < most_in_flight }
     ensures { ExchangesLines (S.contents outgoing.old) (S.contents outgoing.new)
         (C.remaining incoming.old) (C.remaining incoming.new)
-        (W.contents writer.old) (W.contents writer.new) (R.remaining input.old) result }
+        (W.contents writer.old) (W.contents writer.new)
+        (R.failed ⊎ C.failed) (W.failed ⊎ S.failed)
+        (R.remaining input.old) result }
 {
     let mut is_accepted = true;
     for _ in 0..u64::MAX {
@@ -193,9 +196,9 @@ pub(crate) fn failure_at_cut(is_accepted: bool) -> Failure
     }
 }
 
-fn next_piece<R: BufRead>(alloc: Global, most: usize, input: &mut R) -> Result<Piece, Failure>
+fn next_piece<R: LineSource>(alloc: Global, most: usize, input: &mut R) -> Result<Piece, Failure>
     ensures ok { IfOk result (IsPiece most (R.remaining input.old) (R.remaining input.new)) }
-    ensures err { IfErr result IsConversationFault }
+    ensures err { IfErr result (IsConversationFault R.failed ⊥) }
 {
     let mut text = Vec::new(alloc);
     for count in 0..most {
@@ -224,7 +227,7 @@ fn next_piece<R: BufRead>(alloc: Global, most: usize, input: &mut R) -> Result<P
 }
 
 /// Reads `count` replies, and writes each once it has come. Returns whether none was a refusal or a fault.
-fn pass_replies<W: Write, C: BufRead>(
+fn pass_replies<W: Sink, C: LineSource>(
     alloc: Global,
     count: usize,
     writer: &mut W,
@@ -232,7 +235,7 @@ fn pass_replies<W: Write, C: BufRead>(
 ) -> Result<bool, Failure>
     ensures ok { IfOk result (PassesReplies (C.remaining incoming.old) (C.remaining incoming.new)
         (W.contents writer.old) (W.contents writer.new) count) }
-    ensures err { IfErr result IsConversationFault }
+    ensures err { IfErr result (IsConversationFault C.failed W.failed) }
 {
     let mut all_accepted = true;
     for _ in 0..count {
@@ -244,7 +247,7 @@ fn pass_replies<W: Write, C: BufRead>(
 }
 
 /// Sends a line to a control socket, writes its reply to `writer`, and returns it. [`request_reply`] only returns it.
-pub(crate) fn exchange<W: Write, C: BufRead, S: Write>(
+pub(crate) fn exchange<W: Sink, C: LineSource, S: Sink>(
     alloc: Global,
     line: &[u8],
     writer: &mut W,
@@ -255,14 +258,14 @@ pub(crate) fn exchange<W: Write, C: BufRead, S: Write>(
         ExchangesLine (S.contents outgoing.old) (S.contents outgoing.new)
         (C.remaining incoming.old) (C.remaining incoming.new)
         (W.contents writer.old) (W.contents writer.new) line.now reply.items) }
-    ensures err { IfErr result IsConversationFault }
+    ensures err { IfErr result (IsConversationFault C.failed (W.failed ⊎ S.failed)) }
 {
     let reply = request_reply(alloc, line, incoming, outgoing)?;
     print_text(writer, &reply)?;
     Ok(reply)
 }
 
-pub(crate) fn request_reply<C: BufRead, S: Write>(
+pub(crate) fn request_reply<C: LineSource, S: Sink>(
     alloc: Global,
     line: &[u8],
     incoming: &mut C,
@@ -272,19 +275,18 @@ pub(crate) fn request_reply<C: BufRead, S: Write>(
         Appends (S.contents outgoing.old) (S.contents outgoing.new) line.now) }
     ensures incoming { IfOk result (λ reply.
         Consumes (C.remaining incoming.old) (C.remaining incoming.new) reply.items) }
-    ensures err { IfErr result IsConversationFault }
+    ensures err { IfErr result (IsConversationFault C.failed S.failed) }
 {
     print_text(outgoing, line)?;
     next_reply(alloc, incoming)
 }
 
-pub(crate) fn next_line<R: BufRead>(alloc: Global, input: &mut R) -> Result<NextLine, Failure>
+pub(crate) fn next_line<R: LineSource>(alloc: Global, input: &mut R) -> Result<NextLine, Failure>
     ensures ok { IfOk result (NextIs (R.remaining input.old) (R.remaining input.new)) }
-    ensures err { IfErr result IsConversationFault }
+    ensures err { IfErr result (λ why. (why ≡ Failure.Fault Fault.Read) × R.failed) }
 {
-    let mut line = Vec::new(alloc);
-    match input.read_until(b'\n', &mut line) {
-        Ok(_) => Ok(next_of(line)),
+    match input.take_line(alloc) {
+        Ok(line) => Ok(next_of(line)),
         Err(_) => Err(Failure::Fault(Fault::Read)),
     }
 }
@@ -309,14 +311,13 @@ fn has_end(line: &[u8]) -> bool
     len > 0 && line[len - 1] == b'\n'
 }
 
-fn next_reply<C: BufRead>(alloc: Global, incoming: &mut C) -> Result<Vec<u8>, Failure>
+fn next_reply<C: LineSource>(alloc: Global, incoming: &mut C) -> Result<Vec<u8>, Failure>
     ensures ok { IfOk result (λ reply.
         Consumes (C.remaining incoming.old) (C.remaining incoming.new) reply.items) }
-    ensures err { IfErr result IsConversationFault }
+    ensures err { IfErr result (λ why. (why ≡ Failure.Fault Fault.Read) × C.failed) }
 {
-    let mut reply = Vec::new(alloc);
-    match incoming.read_until(b'\n', &mut reply) {
-        Ok(_) if reply.ends_with(b"\n") => Ok(reply),
-        _ => Err(Failure::Fault(Fault::Read)),
+    match incoming.take_whole_line(alloc) {
+        Ok(reply) => Ok(reply),
+        Err(_) => Err(Failure::Fault(Fault::Read)),
     }
 }

@@ -1,18 +1,19 @@
 //! Writes the output of a job to standard output, and why the job failed to standard error.
 
-ghost use Rattle.std.specs.Prelude.{◌≡◌, ◌∷◌, [], ℕ, List, IfOk};
+ghost use Rattle.std.specs.Prelude.{◌≡◌, ◌∷◌, [], ℕ, List, IfOk, OnErr};
 ghost use Rattle.reg_desk_jobs.specs.Ends.{PrintsText, PrintsLine};
 ghost use Rattle.reg_desk_service.specs.FailureReports.{Adds, Explains, IsReportedLine, IsWritten, ReportsExit, ReportsReason};
 
 use reg_core::Fault;
 use reg_desk_cli::{Failure, status_of};
 use reg_desk_service::{FailureCause, Reason, reason_line};
-use reg_io::write_whole;
+use reg_io::{Sink, write_whole};
 use std::alloc::{AllocError, Global};
 use std::io::Write;
 
-pub(crate) fn print_text<W: Write>(writer: &mut W, text: &[u8]) -> Result<(), Failure>
-    ensures { PrintsText text.now (W.contents writer.old) (W.contents writer.new) result }
+pub(crate) fn print_text<W: Sink>(writer: &mut W, text: &[u8]) -> Result<(), Failure>
+    ensures prints { PrintsText text.now (W.contents writer.old) (W.contents writer.new) result }
+    ensures fails { OnErr result W.failed }
 {
     match write_whole(writer, text) {
         Ok(()) => Ok(()),

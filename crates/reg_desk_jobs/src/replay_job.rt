@@ -1,10 +1,11 @@
 //! The job `replay`: sends the accepted commands of a log to the control socket of an open desk again.
 
-ghost use Rattle.std.specs.Prelude.{◌≡◌, ◌++◌, IfOk, OnOk};
+ghost use Rattle.std.specs.Prelude.{◌≡◌, ◌++◌, ◌⊎◌, IfOk, OnOk};
 ghost use Rattle.reg_desk_jobs.specs.LogEntries.{exchange_of};
 ghost use Rattle.reg_desk_jobs.specs.Replays.{EntryEnds, LineEnds, ReplaysAt, ReplaysLog, ReplaysOver, StopsWith, agrees, line_to_send, text_to_send, number_now, renumbered, state_of};
 
 use crate::at_job::{NextLine, exchange, next_line};
+use crate::line_source::LineSource;
 use crate::log_entries::{
     ExchangeText, LogMeaning, LoggedCommand, exchange_in, first_word, has_quote, log_meaning_of,
     second_word,
@@ -13,9 +14,10 @@ use crate::output_lines::print_text;
 use reg_core::{Fault, read_number};
 use reg_desk_cli::Failure;
 use reg_desk_service::{Machine, put_number, put_word};
+use reg_io::Sink;
 use reg_lines::without_end;
 use std::alloc::{AllocError, Global};
-use std::io::{BufRead, BufReader, Read, Write};
+use std::io::{BufReader, Read, Write};
 use std::os::unix::net::UnixStream;
 
 /// The number that a request for revocation has in the log, and the number that the open desk gave it in the replay.
@@ -74,7 +76,7 @@ fn replay_over<R: Read, W: Write>(
 }
 
 /// Replays the lines of `log`. `numbers` has the requests for revocation that were entered again so far.
-fn replay_log<R: BufRead, W: Write, C: BufRead, S: Write>(
+fn replay_log<R: LineSource, W: Sink, C: LineSource, S: Sink>(
     alloc: Global,
     log: &mut R,
     numbers: &mut Vec<Renumbered>,
@@ -82,7 +84,8 @@ fn replay_log<R: BufRead, W: Write, C: BufRead, S: Write>(
     incoming: &mut C,
     outgoing: &mut S,
 ) -> Result<(), Failure>
-    ensures { ReplaysLog (R.remaining log.old)
+    ensures { ReplaysLog (R.failed ⊎ C.failed) (W.failed ⊎ S.failed)
+        (R.remaining log.old)
         (state_of (S.contents outgoing.old) (C.remaining incoming.old) (W.contents writer.old)
         numbers.old.items)
         (state_of (S.contents outgoing.new) (C.remaining incoming.new) (W.contents writer.new)
@@ -105,7 +108,7 @@ fn replay_log<R: BufRead, W: Write, C: BufRead, S: Write>(
     Err(Failure::Fault(Fault::Read))
 }
 
-fn replay_line<W: Write, C: BufRead, S: Write>(
+fn replay_line<W: Sink, C: LineSource, S: Sink>(
     alloc: Global,
     line: &[u8],
     numbers: &mut Vec<Renumbered>,
@@ -113,7 +116,8 @@ fn replay_line<W: Write, C: BufRead, S: Write>(
     incoming: &mut C,
     outgoing: &mut S,
 ) -> Result<(), Failure>
-    ensures { LineEnds (state_of (S.contents outgoing.old) (C.remaining incoming.old) (W.contents writer.old)
+    ensures { LineEnds C.failed (W.failed ⊎ S.failed)
+        (state_of (S.contents outgoing.old) (C.remaining incoming.old) (W.contents writer.old)
         numbers.old.items) line.now
         (state_of (S.contents outgoing.new) (C.remaining incoming.new) (W.contents writer.new)
         numbers.new.items)
@@ -143,7 +147,7 @@ fn replay_line<W: Write, C: BufRead, S: Write>(
     }
 }
 
-fn replay_entry<W: Write, C: BufRead, S: Write>(
+fn replay_entry<W: Sink, C: LineSource, S: Sink>(
     alloc: Global,
     line: &[u8],
     logged_exchange: &ExchangeText<'_>,
@@ -153,7 +157,8 @@ fn replay_entry<W: Write, C: BufRead, S: Write>(
     incoming: &mut C,
     outgoing: &mut S,
 ) -> Result<(), Failure>
-    ensures { EntryEnds (state_of (S.contents outgoing.old) (C.remaining incoming.old) (W.contents writer.old)
+    ensures { EntryEnds C.failed (W.failed ⊎ S.failed)
+        (state_of (S.contents outgoing.old) (C.remaining incoming.old) (W.contents writer.old)
         numbers.old.items)
         (exchange_of logged_exchange.now) logged_command.now line.now
         (state_of (S.contents outgoing.new) (C.remaining incoming.new) (W.contents writer.new)
@@ -174,8 +179,8 @@ fn replay_entry<W: Write, C: BufRead, S: Write>(
     }
 }
 
-fn stop<W: Write>(writer: &mut W, line: &[u8]) -> Result<(), Failure>
-    ensures { StopsWith (W.contents writer.old) line.now (W.contents writer.new) result }
+fn stop<W: Sink>(writer: &mut W, line: &[u8]) -> Result<(), Failure>
+    ensures { StopsWith W.failed (W.contents writer.old) line.now (W.contents writer.new) result }
 {
     print_text(writer, line)?;
     Err(Failure::Refused)

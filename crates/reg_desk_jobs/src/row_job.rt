@@ -1,19 +1,21 @@
 //! The jobs that take the rows of a CSV file to an open desk: `at --import FILE --orders ..` registers each row's certificate under a new order, and
 //! `at --revoke FILE` requests its revocation and revokes it. `incoming` and `outgoing` are the two directions of the connection to the desk.
 
-ghost use Rattle.std.specs.Prelude.{◌≡◌, ◌<◌, ◌==◌, ◌↔◌, IfErr, IfOk, IfSome, IsTrue, length, option_map, position};
+ghost use Rattle.std.specs.Prelude.{◌≡◌, ◌<◌, ◌==◌, ◌↔◌, ◌⊎◌, IfErr, IfOk, IfSome, IsTrue, length, option_map, position};
 ghost use Rattle.reg_desk_jobs.specs.Conversations.{IsConversationFault};
 ghost use Rattle.reg_desk_jobs.specs.RowTasks.{AnswersRow, IsRowDone, LineReplied, OrdersRow, RegistersRow, RevokesRow, SendsRows, SendsRowsAt, SendsRowsOver, has_first_word, header_of, is_skipped, link_of, split_at_comma, registration_row_in, revocation_row_in, row_order, row_registration, row_request, row_revocation, row_status};
 
 use crate::at_job::{NextLine, both, failure_at_cut, next_line, request_reply, result_at_end};
+use crate::line_source::LineSource;
 use crate::log_entries::{first_word, second_word};
 use crate::output_lines::print_text;
 use reg_core::{Fault, Label, Moment, Serial};
 use reg_desk_cli::{Failure, OrderTerms, RowTask};
 use reg_desk_service::{Machine, put_number, put_word};
+use reg_io::Sink;
 use reg_lines::{is_accepted, without_end};
 use std::alloc::{AllocError, Global};
-use std::io::{BufRead, BufReader, Read, Write};
+use std::io::{BufReader, Read, Write};
 use std::os::unix::net::UnixStream;
 
 /// A row of a file of certificates to revoke: the serial number, and the ground (reason) as a word, such as `key-compromise`.
@@ -70,7 +72,7 @@ fn send_over<R: Read, W: Write>(
     }
 }
 
-fn send_each<R: BufRead, W: Write, C: BufRead, S: Write>(
+fn send_each<R: LineSource, W: Sink, C: LineSource, S: Sink>(
     alloc: Global,
     task: RowTask,
     rows: &mut R,
@@ -78,7 +80,8 @@ fn send_each<R: BufRead, W: Write, C: BufRead, S: Write>(
     incoming: &mut C,
     outgoing: &mut S,
 ) -> Result<(), Failure>
-    ensures { SendsRows task (R.remaining rows.old)
+    ensures { SendsRows task (R.failed ⊎ C.failed)
+        (W.failed ⊎ S.failed) (R.remaining rows.old)
         (link_of (S.contents outgoing.old) (C.remaining incoming.old))
         (link_of (S.contents outgoing.new) (C.remaining incoming.new))
         (W.contents writer.old) (W.contents writer.new) result }
@@ -101,7 +104,7 @@ fn send_each<R: BufRead, W: Write, C: BufRead, S: Write>(
 }
 
 /// Does the task with the certificate of a row, `line`, and writes the last reply. Returns [`is_done`] of this reply; `true` for a skipped line.
-fn send_line<W: Write, C: BufRead, S: Write>(
+fn send_line<W: Sink, C: LineSource, S: Sink>(
     alloc: Global,
     task: RowTask,
     line: &[u8],
@@ -112,7 +115,7 @@ fn send_line<W: Write, C: BufRead, S: Write>(
     ensures ok { IfOk result (LineReplied task (link_of (S.contents outgoing.old) (C.remaining incoming.old))
         (link_of (S.contents outgoing.new) (C.remaining incoming.new))
         (W.contents writer.old) (W.contents writer.new) line.now) }
-    ensures err { IfErr result IsConversationFault }
+    ensures err { IfErr result (IsConversationFault C.failed (W.failed ⊎ S.failed)) }
 {
     let text = without_end(line);
     if is_skipped(task, text) {
@@ -123,7 +126,7 @@ fn send_line<W: Write, C: BufRead, S: Write>(
     Ok(is_done(&reply))
 }
 
-fn answer_row<C: BufRead, S: Write>(
+fn answer_row<C: LineSource, S: Sink>(
     alloc: Global,
     task: RowTask,
     text: &[u8],
@@ -133,7 +136,7 @@ fn answer_row<C: BufRead, S: Write>(
     ensures ok { IfOk result (λ reply.
         AnswersRow task text.now (link_of (S.contents outgoing.old) (C.remaining incoming.old))
         (link_of (S.contents outgoing.new) (C.remaining incoming.new)) reply.items) }
-    ensures err { IfErr result IsConversationFault }
+    ensures err { IfErr result (IsConversationFault C.failed S.failed) }
 {
     match task {
         RowTask::Register(terms) => register_row(
@@ -149,7 +152,7 @@ fn answer_row<C: BufRead, S: Write>(
 
 /// Asks for the `status` of the serial number of `row` (`None`: the row can't be read). If the reply is `unknown`, no certificate has it: only then
 /// enters an order, and registers the certificate under it (`order_row`). So a row that is registered already adds no order. Returns the last reply.
-fn register_row<C: BufRead, S: Write>(
+fn register_row<C: LineSource, S: Sink>(
     alloc: Global,
     terms: OrderTerms,
     row: Option<RegistrationInput>,
@@ -159,7 +162,7 @@ fn register_row<C: BufRead, S: Write>(
     ensures ok { IfOk result (λ reply.
         RegistersRow terms row (link_of (S.contents outgoing.old) (C.remaining incoming.old))
         (link_of (S.contents outgoing.new) (C.remaining incoming.new)) reply.items) }
-    ensures err { IfErr result IsConversationFault }
+    ensures err { IfErr result (IsConversationFault C.failed S.failed) }
 {
     let Some(row) = row else {
         // The desk replies `E22 syntax` to this line, and so to a row that can't be read.
@@ -175,7 +178,7 @@ fn register_row<C: BufRead, S: Write>(
     order_row(alloc, terms, &row, incoming, outgoing)
 }
 
-fn order_row<C: BufRead, S: Write>(
+fn order_row<C: LineSource, S: Sink>(
     alloc: Global,
     terms: OrderTerms,
     row: &RegistrationInput,
@@ -185,7 +188,7 @@ fn order_row<C: BufRead, S: Write>(
     ensures ok { IfOk result (λ reply.
         OrdersRow terms row.now (link_of (S.contents outgoing.old) (C.remaining incoming.old))
         (link_of (S.contents outgoing.new) (C.remaining incoming.new)) reply.items) }
-    ensures err { IfErr result IsConversationFault }
+    ensures err { IfErr result (IsConversationFault C.failed S.failed) }
 {
     let Ok(order) = order_line(alloc, terms) else {
         return Err(Failure::Fault(Fault::Memory));
@@ -201,7 +204,7 @@ fn order_row<C: BufRead, S: Write>(
 }
 
 /// Requests the revocation of a row's certificate. If the reply (`entered`) is `request NUMBER ..`, revokes it. `row` and result: as `register_row`.
-fn revoke_row<C: BufRead, S: Write>(
+fn revoke_row<C: LineSource, S: Sink>(
     alloc: Global,
     row: Option<RevocationInput>,
     incoming: &mut C,
@@ -210,7 +213,7 @@ fn revoke_row<C: BufRead, S: Write>(
     ensures ok { IfOk result (λ reply.
         RevokesRow row (link_of (S.contents outgoing.old) (C.remaining incoming.old))
         (link_of (S.contents outgoing.new) (C.remaining incoming.new)) reply.items) }
-    ensures err { IfErr result IsConversationFault }
+    ensures err { IfErr result (IsConversationFault C.failed S.failed) }
 {
     let Some(row) = row else {
         return request_reply(alloc, b"request\n", incoming, outgoing);

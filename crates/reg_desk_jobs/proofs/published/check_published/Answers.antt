@@ -23,7 +23,7 @@ returns-in_err-print_text-clause-compares g c =
     compares g.O.Office.is_clean g.O.Office.stands (g.R.Read.remaining c.args.reader.now) _ _ c.in_ok-bytes.bytes.items (Ok lines)
     c.from_residual-in_err-print_text.result _ _ c.in_ok-bytes.ensures
     (reports_front (g.W.Write.contents c.args.writer.now) (g.W.Write.contents c.print_text.new.writer) lines _ c.from_residual-in_err-print_text.result some
-    c.from_residual-in_err-print_text.ensures.1 (rw c.deref-2.ensures.value at c.in_err-print_text.ensures))
+    c.from_residual-in_err-print_text.ensures.1 (rw c.deref-2.ensures.value at c.in_err-print_text.ensures.prints))
     (rw c.deref.ensures.value at c.in_ok-lines.ensures)
 
 pub returns-clause-compares : goal.returns-clause-compares
@@ -32,5 +32,5 @@ returns-clause-compares g c =
     let some : 1 ≤ length lines = let ne = eqb-false c.in_ok-lines.lines.len 0 (sym c.is_empty.ensures ∙ c.if-is_empty.false) in omega (arith, ne, c.in_ok-lines.lines.ok.0) in
     compares g.O.Office.is_clean g.O.Office.stands (g.R.Read.remaining c.args.reader.now) _ _ c.in_ok-bytes.bytes.items (Ok lines) (Err LacksPublished) _ _
     c.in_ok-bytes.ensures
-    (reports_all (g.W.Write.contents c.args.writer.now) (g.W.Write.contents c.print_text.new.writer) lines some (rw c.deref-2.ensures.value at c.in_ok-print_text.ensures))
+    (reports_all (g.W.Write.contents c.args.writer.now) (g.W.Write.contents c.print_text.new.writer) lines some (rw c.deref-2.ensures.value at c.in_ok-print_text.ensures.prints))
     (rw c.deref.ensures.value at c.in_ok-lines.ensures)

@@ -8,10 +8,10 @@ pub loop-preserved : goal.loop-preserved
 loop-preserved g c =
     let next = rw c.in-Line.is at c.in_ok-line.ensures.ok in
     let exchanged = rw c.deref.ensures.value at c.in-Ok.ensures.ok in
-    rows_go_on _ _ _ _ _ _ _ _ _ _ _ _ _ _ c.loop.invariant next.0 next.1 exchanged c.both-is_done.ensures
+    rows_go_on _ _ _ _ _ _ _ _ _ _ _ _ _ _ _ c.loop.invariant next.0 next.1 exchanged c.both-is_done.ensures
 
 pub returns-in-Cut : goal.returns-in-Cut
-returns-in-Cut g c = rows_cut _ _ _ _ _ _ _ _ c.loop.invariant _ (rw c.in-Cut.is at c.in_ok-line.ensures.ok) c.failure_at_cut.ensures
+returns-in-Cut g c = rows_cut _ _ _ _ _ _ _ _ _ _ _ c.loop.invariant _ (rw c.in-Cut.is at c.in_ok-line.ensures.ok) c.failure_at_cut.ensures
 
 pub returns-in-End : goal.returns-in-End
-returns-in-End g c = rows_end _ _ _ _ _ _ _ _ c.loop.invariant _ (rw c.in-End.is at c.in_ok-line.ensures.ok) c.result_at_end.ensures
+returns-in-End g c = rows_end _ _ _ _ _ _ _ _ _ _ _ c.loop.invariant _ (rw c.in-End.is at c.in_ok-line.ensures.ok) c.result_at_end.ensures
