@@ -14,7 +14,7 @@ use Rattle.reg_office_api.proofs.PublicLaws.{chains, follows, stays}
 use Rattle.reg_office_api.specs.Answered.{IsGiven}
 use Rattle.reg_office_api.specs.Leads.{Looks}
 use Rattle.reg_office_api.specs.LookUps.{IsOfStore}
-use Rattle.reg_desk_service.specs.HealthRoutes.{Has, HasDue, HasFound, IsReadAt, IsUnsigned}
+use Rattle.reg_desk_service.specs.HealthRoutes.{Has, HasDue, HasFound, HasRequests, IsReadAt, IsUnsigned}
 
 module _ {S I R : Type 0} (is_clean : S → Type 0) (stands : I → S → R → Type 0) where
   -- what is seen says something else
@@ -63,23 +63,37 @@ module _ {S I R : Type 0} (is_clean : S → Type 0) (stands : I → S → R → 
 -- a register tells nothing for what its counts, or the moment of its next CRL, came to; or what stands there was not had
 pub not_counts : (tally : Tally) (records : Records) (now : ℕ) (why : Fault) → Has AskCounts CountsAre records now (Err why) → HasFound tally records now (Err why)
 not_counts tally records now (fault.Refused refusal) refused = inl refused
-not_counts tally records now other had = tt
+not_counts tally records now fault.Memory had = tt
+not_counts tally records now fault.Store had = tt
+not_counts tally records now other had = absurd had
 
 pub not_asked : (tally : Tally) (records : Records) (now : ℕ) (why : Fault) → Has AskNextCrl NextCrlIs records now (Err why) → HasDue tally records now (Err why)
 not_asked tally records now (fault.Refused refusal) refused = refused
-not_asked tally records now other had = tt
+not_asked tally records now fault.Memory had = tt
+not_asked tally records now fault.Store had = tt
+not_asked tally records now other had = absurd had
 
 pub not_read : (tally : Tally) (records : Records) (now : ℕ) (why : Fault) → IsOfStore why → HasDue tally records now (Err why)
-not_read tally records now (fault.Refused refusal) is = absurd is
-not_read tally records now other is = tt
+not_read tally records now fault.Memory is = tt
+not_read tally records now fault.Store is = tt
+not_read tally records now other is = absurd is
 
 pub not_due : (tally : Tally) (records : Records) (now : ℕ) (why : Fault) → HasDue tally records now (Err why) → HasFound tally records now (Err why)
 not_due tally records now (fault.Refused refusal) refused = inr refused
-not_due tally records now other had = tt
+not_due tally records now fault.Memory had = tt
+not_due tally records now fault.Store had = tt
+not_due tally records now other had = absurd had
 
 pub not_standing : (tally : Tally) (records : Records) (now : ℕ) (why : Fault) → IsOfStore why → HasFound tally records now (Err why)
-not_standing tally records now (fault.Refused refusal) is = absurd is
-not_standing tally records now other is = tt
+not_standing tally records now fault.Memory is = tt
+not_standing tally records now fault.Store is = tt
+not_standing tally records now other is = absurd is
+
+-- the open requests can't be counted
+pub not_open : (records : Records) (now : ℕ) (why : Fault) → IsOfStore why → HasRequests records now (Err why)
+not_open records now fault.Memory is = tt
+not_open records now fault.Store is = tt
+not_open records now other is = absurd is
 
 -- the latest CRL, by its row
 pub latest_is : (found : Option Crl) (row : CrlRow) → Some row ≡ option_map row_of found → (crl : Crl) × (found ≡ Some crl) × (row.number ≡ crl.number)

@@ -10,7 +10,7 @@ use Rattle.reg_core.specs.declared.command.Query.TheVariants.{Counts as AskCount
 use Rattle.reg_core.specs.declared.command.Reply.{Reply}
 use Rattle.reg_core.specs.declared.command.Reply.TheVariants.{Counts as CountsAre, NextCrl as NextCrlIs, Overdue as OverdueAre}
 use Rattle.reg_core.specs.declared.refusal.Fault.{Fault}
-use Rattle.reg_core.specs.declared.refusal.Fault.TheVariants.{Refused}
+use Rattle.reg_core.specs.declared.refusal.Fault.TheVariants.{Memory, Refused, Store}
 use Rattle.reg_crl.specs.Signing.{sha1_algorithm}
 use Rattle.reg_crl_signer.specs.Signed.{IsCrlWithAlgorithm}
 use Rattle.reg_desk_cli.specs.declared.desk.TheConstants.{VERSION}
@@ -38,11 +38,14 @@ use Rattle.reg_desk_metrics.specs.declared.tally.Tally.{Tally}
 
 -- ---- the numbers that are read from a register
 
--- the answer to a query is a reply of this kind, a refusal or a fault; a reply of another kind, which no office gives, counts as a fault
+-- the answer to a query is a reply of this kind, a refusal, or a fault of memory or the store; a reply of another kind, which no office gives, counts
+-- as a fault of the store
 abbrev pub Has : {A : Type 0} → Query → (A → Reply) → Records → ℕ → Result A Fault → Type 0
 Has query kind records now (Ok it) = answer records now query ≡ Ok (kind it)
 Has query kind records now (Err (Refused refusal)) = answer records now query ≡ Err refusal
-Has query kind records now (Err other) = Unit {0}
+Has query kind records now (Err Memory) = Unit {0}
+Has query kind records now (Err Store) = Unit {0}
+Has query kind records now (Err other) = ⊥
 
 -- how many requests are overdue, by the reply to `overdue`
 abbrev pub overdue_count : Option Overdue → ℕ
@@ -53,7 +56,10 @@ abbrev pub HasOverdue : Records → ℕ → Result ℕ Fault → Type 0
 HasOverdue records now (Ok count) =
     (overdue : Option Overdue) × (answer records now AskOverdue ≡ Ok (OverdueAre overdue))
     × (count ≡ overdue_count overdue)
-HasOverdue records now (Err fault) = Unit {0}
+HasOverdue records now (Err (Refused refusal)) = answer records now AskOverdue ≡ Err refusal
+HasOverdue records now (Err Memory) = Unit {0}
+HasOverdue records now (Err Store) = Unit {0}
+HasOverdue records now (Err other) = ⊥
 
 -- how CRLs are signed, as the tally has it
 abbrev pub signing_by : CrlSignerChoice → CrlSigning
@@ -96,7 +102,9 @@ HasDue tally records now (Ok due) = (asked : Option ℕ) × (read : Option ReadC
     × Has AskNextCrl NextCrlIs records now (Ok asked) × IsLatestRead tally records read
     × (due ≡ due_after_latest read asked)
 HasDue tally records now (Err (Refused refusal)) = answer records now AskNextCrl ≡ Err refusal
-HasDue tally records now (Err other) = Unit {0}
+HasDue tally records now (Err Memory) = Unit {0}
+HasDue tally records now (Err Store) = Unit {0}
+HasDue tally records now (Err other) = ⊥
 
 -- the tally keeps the number of the latest CRL and whether it is unsigned, or does not change
 abbrev pub KeepsRead : Tally → Records → Tally → Type 0
@@ -121,14 +129,16 @@ HasFound tally records now (Ok numbers) =
     × IsRegisterSummary records numbers.summary
 HasFound tally records now (Err (Refused refusal)) =
     (answer records now AskCounts ≡ Err refusal) ⊎ (answer records now AskNextCrl ≡ Err refusal)
-HasFound tally records now (Err other) = Unit {0}
+HasFound tally records now (Err Memory) = Unit {0}
+HasFound tally records now (Err Store) = Unit {0}
+HasFound tally records now (Err other) = ⊥
 
--- its requests for revocation at a moment
+-- its requests for revocation at a moment; or why they can't be counted, as for the overdue ones
 abbrev pub HasRequests : Records → ℕ → Result Requests Fault → Type 0
 HasRequests records now (Ok requests) =
     (requests.at ≡ now) × HasOpen records now (Ok requests.waiting)
     × HasOverdue records now (Ok requests.overdue)
-HasRequests records now (Err fault) = Unit {0}
+HasRequests records now (Err fault) = HasOverdue records now (Err fault)
 
 -- the requests for revocation were counted anew, or the tally stays
 abbrev pub Recounts : Records → ℕ → Tally → Tally → Type 0

@@ -377,13 +377,18 @@ fn requests_at<M: Machine>(
     ensures { LooksIn M.Office.Office (λ records. HasRequests records now result) office.old office.new }
 {
     let asked = office.ask(alloc, now, &Query::Overdue);
-    let overdue = overdue_of(asked)?;
-    let waiting = office.open_count(now)?;
-    Ok(Requests {
-        at: now,
-        waiting,
-        overdue,
-    })
+    let overdue = match overdue_of(asked) {
+        Ok(overdue) => overdue,
+        Err(fault) => return Err(fault),
+    };
+    match office.open_count(now) {
+        Ok(waiting) => Ok(Requests {
+            at: now,
+            waiting,
+            overdue,
+        }),
+        Err(fault) => Err(fault),
+    }
 }
 
 /// `plain`: an answer without a signature or an effect on the store, here with a JSON body.
