@@ -3,7 +3,8 @@ use Rattle.std.proofs.Common.{◌≡◌, ◌∙◌, ℕ, Bool, true, false, List
 use Rattle.std.specs.Prelude.{Option, ◌==◌, ◌&&◌, not, codes, if◌then◌else◌}
 use Rattle.std.specs.List.{position, starts_with}
 use Rattle.std.proofs.lemmas.Bool.{true≢false}
-use Rattle.reg_desk_service.specs.Confirmations.{after_part, has_given_schedule, has_schedule, has_schedule_before, has_schedule_steps, follower_before, follower_in_query, follower_number, confirming_before, confirming_in, confirming_number, unwaiting}
+use Rattle.reg_desk_service.specs.Confirmations.{has_given_schedule, has_schedule, has_schedule_before, has_schedule_steps, follower_before, follower_in_query, follower_number, confirming_before, confirming_in, confirming_number, unwaiting}
+use Rattle.reg_desk_service.specs.PageSchedules.{after_part}
 use Rattle.reg_desk_service.specs.FeedEnds.{asks_after, waits_for_changes}
 
 -- a part at the front of a text, and one that is not

@@ -1,7 +1,8 @@
 -- The steps of a follower's work over an office.
-use Rattle.std.proofs.Common.{◌≡◌, ◌⊎◌, ℕ, List, Some, Ok, Err, ap, inl, inr, refl, subst, sym, ◌∙◌}
+use Rattle.std.proofs.Common.{◌≡◌, ◌⊎◌, ℕ, List, [], ◌∷◌, ◌++◌, Some, Ok, Err, Vec, Global, ap, inl, inr, refl, subst, sym, ◌∙◌}
 use Rattle.std.specs.Prelude.{Result, OnErr, OnOk}
 use Rattle.reg_core.specs.Records.{Records}
+use Rattle.reg_core_lists.specs.ReceivedPages.{received_of, received_text}
 use Rattle.reg_core_lists.specs.declared.feed_reader.ReceivedPage.{ReceivedPage}
 use Rattle.reg_core_lists.specs.declared.positions.Positions.{Positions}
 use Rattle.reg_office_api.specs.Follows.{FollowStep, FormsSign}
@@ -11,6 +12,7 @@ use Rattle.reg_office_api.specs.declared.follow.FollowFault.{FollowFault}
 use Rattle.reg_office_api.specs.declared.office.Office.{Ghosts as Office}
 use Rattle.reg_desk_service.specs.ExpectedCrls.{ExpectsCrls, LeadsWithCrls}
 use Rattle.reg_desk_service.specs.Following.{SendsRequest, FollowsAt, KeepsProgress, KeepsRecords, LastEnds, Reaches, TakesResponse}
+use Rattle.reg_desk_service.specs.PageSchedules.{HasLastSteps, steps_in}
 use Rattle.reg_desk_service.specs.declared.follower.Follower.{Follower}
 
 -- what holds anyway holds for a result
@@ -22,11 +24,17 @@ pub on_err : {A E P : Type 0} (result : Result A E) → P → OnErr result P
 on_err (Ok it) holds = tt
 on_err (Err fault) holds = holds
 
+-- the steps of the schedule in the page that was kept last
+pub last_steps : (earlier pages : List ReceivedPage) (page : ReceivedPage) (body steps : List ℕ) → pages ≡ earlier ++ page ∷ []
+    → body ≡ received_text (received_of page) → steps ≡ steps_in body → HasLastSteps pages steps
+last_steps earlier pages page body steps kept text is = (page, (earlier, kept), is ∙ ap steps_in text)
+
 -- the progress stays, one step after the other
 pub progress_same : (old new : Follower) → new ≡ old → KeepsProgress old new
 progress_same old new same = record {
   lag = ap (λ (it : Follower). it.lag) same;
   own = ap (λ (it : Follower). it.own) same;
+  schedule = ap (λ (it : Follower). it.schedule) same;
   asked_at = ap (λ (it : Follower). it.asked_at) same;
   reached_at = ap (λ (it : Follower). it.reached_at) same;
 }
@@ -35,6 +43,7 @@ pub progress_then : (old middle new : Follower) → KeepsProgress old middle →
 progress_then old middle new first next = record {
   lag = next.lag ∙ first.lag;
   own = next.own ∙ first.own;
+  schedule = next.schedule ∙ first.schedule;
   asked_at = next.asked_at ∙ first.asked_at;
   reached_at = next.reached_at ∙ first.reached_at;
 }
@@ -82,12 +91,14 @@ module _ {O : Type 0} (office : Office O) where
       )
 
   -- pages were entered, and that is kept
-  pub reaches_of : (old new : Follower) (positions : Positions) (result : Result Positions FollowFault) (s t : O) → LastEnds old.pages.items → result ≡ Ok positions
+  pub reaches_of : (old new : Follower) (positions : Positions) (schedule : Vec ℕ Global) (result : Result Positions FollowFault) (s t : O) → LastEnds old.pages.items
+      → HasLastSteps old.pages.items schedule.items → new.schedule ≡ schedule → result ≡ Ok positions
       → (FormsSign office.signs office.forms → LeadsWithCrls office (FollowStep old.own old.pages.items result) s t)
       → new.own ≡ positions → new.lag ≡ old.lag → new.asked_at ≡ old.asked_at → new.reached_at ≡ Some old.asked_at → Reaches office old new s t
-  reaches_of old new positions result s t ends is entered own lag asked_at reached_at = record {
+  reaches_of old new positions schedule result s t ends steps kept is entered own lag asked_at reached_at = record {
     pages = old.pages.items;
     ends = ends;
+    steps = subst (λ (it : Vec ℕ Global). HasLastSteps old.pages.items it.items) (sym kept) steps;
     entered = λ forms. subst (λ (r : Result Positions FollowFault). LeadsWithCrls office (FollowStep old.own old.pages.items r) s t) (is ∙ ap Ok (sym own)) (entered forms);
     lag = lag;
     asked_at = asked_at;
@@ -100,6 +111,7 @@ module _ {O : Type 0} (office : Office O) where
   takes_after old middle new s t first (inr it) = inr record {
     pages = it.pages;
     ends = it.ends;
+    steps = it.steps;
     entered = λ forms. subst (λ (from : Positions). LeadsWithCrls office (FollowStep from it.pages (Ok new.own)) s t) first.own (it.entered forms);
     lag = it.lag ∙ first.lag;
     asked_at = it.asked_at ∙ first.asked_at;
@@ -113,6 +125,7 @@ module _ {O : Type 0} (office : Office O) where
   takes_then old middle new s m t (inr it) next same = inr record {
     pages = it.pages;
     ends = it.ends;
+    steps = subst (λ (kept : Vec ℕ Global). HasLastSteps it.pages kept.items) (sym next.schedule) it.steps;
     entered = λ forms.
         subst (λ (own : Positions). LeadsWithCrls office (FollowStep old.own it.pages (Ok own)) s t) (sym next.own)
         (subst (λ (o : O). LeadsWithCrls office (FollowStep old.own it.pages (Ok middle.own)) s o) (sym same) (it.entered forms));

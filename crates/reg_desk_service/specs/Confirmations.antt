@@ -1,11 +1,12 @@
 -- When the replies to commands wait for followers, and which requests confirm that a follower has all commands.
-use Rattle.std.specs.Prelude.{◌≡◌, ◌⊎◌, ◌==◌, ◌&&◌, ◌||◌, ◌-◌, ◌+◌, ℕ, nat_le, nat_lt, not, Bool, true, false, cond, List, [], ◌∷◌, ◌++◌, length, take, drop, is_none, codes, if◌then◌else◌, Option, Some, None, IsFalse, slice_set}
+use Rattle.std.specs.Prelude.{◌≡◌, ◌⊎◌, ◌==◌, ◌&&◌, ◌||◌, ◌-◌, ◌+◌, ℕ, nat_le, nat_lt, not, Bool, true, false, cond, List, ◌++◌, length, take, drop, is_none, codes, if◌then◌else◌, Option, Some, None, IsFalse, slice_set}
 use Rattle.std.specs.List.{ends_with, list_any, position, starts_with}
 use Rattle.std.specs.Option.{option_or}
 use Rattle.reg_core.specs.Number.{number_of}
 use Rattle.reg_desk_server.specs.Exchange.{Outcome, said, pending, later}
 use Rattle.reg_desk_server.specs.LineEnds.{FirstLineEnds}
 use Rattle.reg_desk_service.specs.Following.{IsNoCommand}
+use Rattle.reg_desk_service.specs.PageSchedules.{after_part}
 use Rattle.reg_desk_service.specs.declared.confirmation.Confirmation.{Confirmation}
 
 -- ---- a request that confirms
@@ -17,13 +18,6 @@ ends_feed response positions =
     && (ends_with (λ a b. a == b) (take (length response - 1) response) positions
     && ends_with (λ a b. a == b) (take (length response - 1 - length positions) (take (length response - 1) response))
     (codes "\nend ")))
-
--- what follows the first place at which a text has this part
-abbrev pub after_part : List ℕ → List ℕ → Option (List ℕ)
-after_part part [] = None
-after_part part (first ∷ rest) =
-    if starts_with (λ a b. a == b) (first ∷ rest) part then Some (drop (length part) (first ∷ rest))
-    else after_part part rest
 
 -- the page in a response has these steps in its line `schedule`
 abbrev pub begins_line : List ℕ → Option (List ℕ) → Bool

@@ -21,6 +21,7 @@ use Rattle.reg_desk_service.specs.ExpectedCrls.{ExpectsCrls, LeadsWithCrls}
 use Rattle.reg_desk_service.specs.ControlReplies.{IsReplyText, ReportsFault}
 use Rattle.reg_desk_service.specs.ControlWords.{AnswersLinesByClock, HasCommand, IsAdmissionAfter, WordMeaning, helps, why, copies, shows, decides, accepts, schedules, commands, meaning_in}
 use Rattle.reg_desk_service.specs.Exchanges.{AnswersAs}
+use Rattle.reg_desk_service.specs.PageSchedules.{HasLastSteps}
 use Rattle.reg_desk_service.specs.FinishedResponses.{FinishesUnsigned, Meets}
 use Rattle.reg_desk_service.specs.SignerAnswers.{AnsweredAtSomePath}
 use Rattle.reg_desk_service.specs.declared.admission.Admission.{Admission}
@@ -73,10 +74,11 @@ next_request follower =
 
 -- ---- its work
 
--- its lag, the positions of its records, and the moments of its last request and of the last one that reached the leader stay
+-- its lag, the positions and the schedule of its records, and the moments of its last request and of the last one that reached the leader stay
 pub record KeepsProgress (old new : Follower) : Type 0 where
   pub lag : new.lag ≡ old.lag
   pub own : new.own ≡ old.own
+  pub schedule : new.schedule ≡ old.schedule
   pub asked_at : new.asked_at ≡ old.asked_at
   pub reached_at : new.reached_at ≡ old.reached_at
 
@@ -110,10 +112,11 @@ module _ {O : Type 0} (office : Office O) where
 
   -- Pages up to the end of the leader's feed were entered, all or (if there is no news) none. They go on from the positions of the follower's
   -- records.
-  -- So these are the leader's at the moment of the request or later.
+  -- So these are the leader's at the moment of the request or later. The schedule that it keeps for its requests is that of the last page.
   pub record Reaches (old new : Follower) (s t : O) : Type 0 where
     pub pages : List ReceivedPage
     pub ends : LastEnds pages
+    pub steps : HasLastSteps pages new.schedule.items
     pub entered : FormsSign office.signs office.forms → LeadsWithCrls office (FollowStep old.own pages (Ok new.own)) s t
     pub lag : new.lag ≡ old.lag
     pub asked_at : new.asked_at ≡ old.asked_at

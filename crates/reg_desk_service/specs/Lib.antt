@@ -18,6 +18,7 @@ pub mod FinishedResponses
 pub mod Log
 pub mod LogNames
 pub mod OwnReplies
+pub mod PageSchedules
 pub mod Reasons
 pub mod RegisterFailures
 pub mod Registers

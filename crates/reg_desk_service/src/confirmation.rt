@@ -1,16 +1,17 @@
 //! Whether followers have the commands that a desk accepted: with `desk open --confirm-by N`, the reply to a command is sent only after that.
 
-ghost use Rattle.std.specs.Prelude.{◌≡◌, ◌==◌, ◌<◌, length, option_map, IsTrue, IfSome};
+ghost use Rattle.std.specs.Prelude.{◌≡◌, ◌==◌, ◌<◌, length, option_map, IfOk, IsTrue, IfSome};
 ghost use Rattle.std.specs.List.{position};
 ghost use Rattle.reg_desk_server.specs.LineEnds.{IsWholeLines};
 ghost use Rattle.reg_desk_server.specs.Outcomes.{outcome_of};
-ghost use Rattle.reg_desk_service.specs.Confirmations.{AfterFirstLine, after_lines, after_outcome, after_part, after_request, follower_in_query, follower_number, confirming_follower, confirming_in, confirming_number, ends_feed, follower_in, has_follower, has_schedule, has_schedule_steps, holds_reply, is_confirmed, is_done_with, is_wanted, unwaiting, with_follower};
+ghost use Rattle.reg_desk_service.specs.Confirmations.{AfterFirstLine, after_lines, after_outcome, after_request, follower_in_query, follower_number, confirming_follower, confirming_in, confirming_number, ends_feed, follower_in, has_follower, has_schedule, has_schedule_steps, holds_reply, is_confirmed, is_done_with, is_wanted, unwaiting, with_follower};
+ghost use Rattle.reg_desk_service.specs.PageSchedules.{after_part, steps_in, whole_first_line};
 
 use crate::line_kinds::{first_line, may_be_command};
 use crate::unsigned_responses::Unsigned;
 use reg_core::{Moment, read_number};
 use reg_io::ReadyOrUnsigned;
-use std::alloc::Global;
+use std::alloc::{AllocError, Global};
 
 /// The most followers that a command can wait for.
 pub const MOST_FOLLOWERS: usize = 8;
@@ -226,16 +227,24 @@ fn has_schedule_steps(steps: &[u8], response: &[u8]) -> bool
     }
 }
 
-/// The steps of the schedule in a page, as text; empty if it has none, or out of memory.
-pub(crate) fn schedule_in(alloc: Global, page: &[u8]) -> Vec<u8> {
-    let mut steps = Vec::new(alloc);
-    if let Some(line) = after_part(SCHEDULE, page) {
-        if let Some(end) = first_line_end(line) {
-            // Out of memory: it stays empty.
-            let _ = steps.extend_from_slice(&line[..end]);
-        }
+/// The steps of the schedule in a page, as text; empty if it has none.
+pub(crate) fn schedule_in(alloc: Global, page: &[u8]) -> Result<Vec<u8>, AllocError>
+    ensures { IfOk result (λ steps. steps.items ≡ steps_in page.now) }
+{
+    match after_part(SCHEDULE, page) {
+        Some(line) => Vec::from_slice(alloc, whole_first_line(line)),
+        None => Ok(Vec::new(alloc)),
     }
-    steps
+}
+
+/// The first line of a text, without its LF; empty if the text has no LF.
+fn whole_first_line(text: &[u8]) -> &[u8]
+    ensures { result.now ≡ whole_first_line text.now }
+{
+    match first_line_end(text) {
+        Some(end) => &text[..end],
+        None => b"",
+    }
 }
 
 /// What follows the first place at which a text has this part; `None` if it has none.
@@ -307,6 +316,7 @@ fn first_return(text: &[u8]) -> Option<usize>
 }
 
 fn first_line_end(text: &[u8]) -> Option<usize>
+    ensures place { result ≡ position (λ b. b == 10) text.now }
     ensures within { IfSome result (λ at. at < length text.now) }
 {
     text.iter().position(|byte| *byte == b'\n')

@@ -5,6 +5,7 @@ ghost use Rattle.reg_desk_metrics.specs.Tallies.{greatest};
 ghost use Rattle.reg_desk_server.specs.Buffers.{unsent_of};
 ghost use Rattle.reg_office_api.specs.Follows.{FollowStep, FormsSign};
 ghost use Rattle.reg_desk_service.specs.ExpectedCrls.{ExpectsCrls, LeadsWithCrls};
+ghost use Rattle.reg_desk_service.specs.PageSchedules.{HasLastSteps};
 ghost use Rattle.reg_desk_service.specs.Following.{NotesFailure, IsTooFarBehind, SendsRequest, FollowsAt, KeepsProgress, KeepsRecords, LastEnds, Reaches, TakesResponse, has_diverged, is_current_at, may_wait, next_request, reached_within, progress_at};
 
 use crate::confirmation::schedule_in;
@@ -332,10 +333,12 @@ impl<'a, 'w> Follower<'a, 'w> {
         };
         let ends = page.ends;
         self.keep_page(page, body.len(), now)?;
-        if ends {
-            self.enter::<M>(office, machine, schedule_in(self.alloc, body))
-        } else {
-            self.check_room()
+        if !ends {
+            return self.check_room();
+        }
+        match schedule_in(self.alloc, body) {
+            Ok(schedule) => self.enter::<M>(office, machine, schedule),
+            Err(_) => Err(FeedFailure::Memory),
         }
     }
 
@@ -382,7 +385,8 @@ impl<'a, 'w> Follower<'a, 'w> {
         machine: &M,
         schedule: Vec<u8>,
     ) -> Result<(), FeedFailure>
-        requires { LastEnds self.old.pages.items }
+        requires ends { LastEnds self.old.pages.items }
+        requires steps { HasLastSteps self.old.pages.items schedule.items }
         ensures ok { OnOk result (Reaches M.Office.Office self.old self.new office.old office.new) }
         ensures err { OnErr result (self.new ≡ self.old) }
         ensures kept { OnErr result (KeepsRecords M.Office.Office office.old office.new) }

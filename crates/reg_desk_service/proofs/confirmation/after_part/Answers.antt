@@ -1,6 +1,6 @@
 use Rattle.std.proofs.Common.{Some, ap, length, sym, ◌∙◌}
 use Rattle.std.proofs.lemmas.List.{take_rest}
-use Rattle.reg_desk_service.specs.Confirmations.{after_part}
+use Rattle.reg_desk_service.specs.PageSchedules.{after_part}
 use Rattle.reg_desk_service.proofs.Confirming.{part_here, part_later}
 use Rattle.reg_desk_service.proofs.confirmation.after_part.Goals as goal
 

@@ -1,5 +1,5 @@
 use Rattle.std.proofs.Common.{◌≡◌, length}
-use Rattle.reg_desk_service.specs.Confirmations.{after_part}
+use Rattle.reg_desk_service.specs.PageSchedules.{after_part}
 use Rattle.reg_desk_service.proofs.confirmation.after_part.Given as goal
 
 abbrev pub invariant-loop-rest : goal.invariant-loop-rest

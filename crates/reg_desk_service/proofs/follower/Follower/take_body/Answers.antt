@@ -7,4 +7,4 @@ returns-in-Ok g c = c.in-Ok.ensures.ok
 
 pub returns-in-Err : goal.returns-in-Err
 returns-in-Err g c =
-    inl (progress_then _ _ _ c.in-Err.ensures.err (progress_then _ _ _ (record { lag = refl; own = refl; asked_at = refl; reached_at = refl }) c.fail.ensures.kept), c.in-Err.ensures.kept)
+    inl (progress_then _ _ _ c.in-Err.ensures.err (progress_then _ _ _ (record { lag = refl; own = refl; schedule = refl; asked_at = refl; reached_at = refl }) c.fail.ensures.kept), c.in-Err.ensures.kept)
