@@ -15,7 +15,7 @@ use Rattle.reg_core.specs.Serial.{serial_text}
 use Rattle.reg_core.specs.declared.rows.CrlRow.{CrlRow}
 use Rattle.reg_core.specs.declared.refusal.Fault.{Fault}
 use Rattle.reg_core.specs.declared.refusal.Fault.TheVariants as fault
-use Rattle.reg_crl.specs.Reading.{AreEntries, IsEntryAt, revoked_entry_at}
+use Rattle.reg_crl.specs.Reading.{AreEntries, IsCrlWith, IsEntryAt, revoked_entry_at}
 use Rattle.reg_desk_cli.specs.declared.failure.Failure.{Failure}
 use Rattle.reg_desk_cli.specs.declared.failure.Failure.TheVariants as failure
 use Rattle.reg_desk_jobs.specs.Conversations.{IsInput}
@@ -24,7 +24,7 @@ use Rattle.reg_office_api.specs.Leads.{Leads, Looks}
 use Rattle.reg_office_api.specs.Signers.{OfficeSigners}
 use Rattle.reg_office_api.proofs.PublicLaws.{chains, follows, stays}
 use Rattle.reg_desk_service.proofs.PublicLaws.{looks_as, looks_then}
-use Rattle.reg_desk_jobs.specs.Published.{Compares, FindsMissing, HasAll, ReportsMissing, latest_number, missing_at, missing_crl, missing_revocation}
+use Rattle.reg_desk_jobs.specs.Published.{Compares, FindsMissing, FindsNothing, HasAll, ReportsMissing, latest_number, missing_at, missing_crl, missing_revocation}
 
 -- ---- entries
 
@@ -93,6 +93,15 @@ module _ {S : Type 0} (is_clean : S → Type 0) (stands : OfficeSigners → S �
       (looks_then is_clean stands _ _ s t u first next)
 
 -- ---- ends
+
+-- any fault may end a comparison
+pub any_fault : (NoCrl : Type 0) (why : Fault) → FindsNothing NoCrl (failure.Fault why)
+any_fault NoCrl (fault.Refused refusal) = tt
+any_fault NoCrl fault.Memory = tt
+any_fault NoCrl fault.Store = tt
+any_fault NoCrl fault.Signer = tt
+any_fault NoCrl fault.Read = tt
+any_fault NoCrl fault.Write = tt
 
 -- a fault that is passed on
 passed_on : {A : Type 0} (P : Result A Failure → Type 0) (result : Result A Failure) (why : Failure) → IsErrAnd result (λ it. it ≡ why) → P (Err why) → P result
@@ -182,7 +191,15 @@ module _ {S : Type 0} (is_clean : S → Type 0) (stands : OfficeSigners → S �
   compares_fault input out why result s is =
       passed_on (λ it. Looks is_clean stands (λ records. Compares records input out out it) s s) result (failure.Fault why) is
       (looks_as is_clean stands (λ records. Unit {0}) (λ records. Compares records input out out (Err (failure.Fault why)))
-      (λ records it. (Err (failure.Fault why), ((input_bytes input).0, (input_bytes input).1, tt), (refl, refl))) s s (unlooked s s refl))
+      (λ records it. (
+        Err (failure.Fault why),
+        (
+          (input_bytes input).0,
+          (input_bytes input).1,
+          any_fault ((number : ℕ) → (serials : List ℕ) → ¬ IsCrlWith (input_bytes input).0 number serials) why,
+        ),
+        (refl, refl),
+      )) s s (unlooked s s refl))
 
   pub compares : (input out out' : Option (List ℕ)) (bytes : List ℕ) (found : Result (List ℕ) Failure) (result : Result (Unit {0}) Failure) (s t : S)
       → IsInput input bytes → ReportsMissing out out' found result → Looks is_clean stands (λ records. FindsMissing records bytes found) s t

@@ -42,7 +42,12 @@ missing_text records number serials =
 -- why a comparison fails: `NotACrl`, and then `NoCrl` is true; or any fault
 abbrev pub FindsNothing : Type 0 → Failure → Type 0
 FindsNothing NoCrl failure.NotACrl = NoCrl
-FindsNothing NoCrl (failure.Fault why) = Unit {0}
+FindsNothing NoCrl (failure.Fault (fault.Refused refusal)) = Unit {0}
+FindsNothing NoCrl (failure.Fault fault.Memory) = Unit {0}
+FindsNothing NoCrl (failure.Fault fault.Store) = Unit {0}
+FindsNothing NoCrl (failure.Fault fault.Signer) = Unit {0}
+FindsNothing NoCrl (failure.Fault fault.Read) = Unit {0}
+FindsNothing NoCrl (failure.Fault fault.Write) = Unit {0}
 FindsNothing NoCrl other = ⊥
 
 -- the lines for the missing serial numbers of entries were appended; or the comparison failed, for example because the bytes are no entries
