@@ -64,7 +64,11 @@ IsDeclinedAlready row records = ⊥
 -- if the row is a decline, there is a request with that id
 abbrev pub HasRequest : FeedRow → Records → Type 0
 HasRequest (Declined id) records = IsSome (request_in records.requests id)
-HasRequest row records = Unit {0}
+HasRequest (Subscriber row) records = Unit {0}
+HasRequest (Order row) records = Unit {0}
+HasRequest (Certificate row) records = Unit {0}
+HasRequest (Request row) records = Unit {0}
+HasRequest (Revocation row) records = Unit {0}
 
 -- the row is entered at a moment; a request that was declined already stays
 abbrev pub EntersFeedRow : ℕ → FeedRow → Records → Records → Type 0
