@@ -1,6 +1,6 @@
 //! The input that decisions read from the tables (a `Head`, and rows), and the result of a decision.
 
-ghost use Rattle.std.specs.Prelude.{◌≡◌, ◌<◌, ◌^◌, option_map, IfOk, IfSome, IsTrue};
+ghost use Rattle.std.specs.Prelude.{◌≡◌, ◌↔◌, ◌<◌, ◌^◌, option_map, IfOk, IfSome, IsTrue};
 ghost use Rattle.reg_core.specs.Calendar.{clock_end};
 ghost use Rattle.reg_core.specs.Crls.{latest, row_of};
 ghost use Rattle.reg_core.specs.Decisions.{head_of};
@@ -67,7 +67,7 @@ pub(crate) fn certificate_of<C: Alter>(
 
 /// Whether the number is below 10^18 (18 digits) and thisUpdate before `CLOCK_END` (9999-12-22), as reg_core requires. A register writes no others.
 fn can_be_written(crl: &CrlRow) -> bool
-    ensures { IsTrue result → (crl.now.number < 10 ^ 18) × (crl.now.this_update < clock_end) }
+    ensures { IsTrue result ↔ ((crl.now.number < 10 ^ 18) × (crl.now.this_update < clock_end)) }
 {
     crl.number < 1_000_000_000_000_000_000 && crl.this_update < Moment::CLOCK_END
 }

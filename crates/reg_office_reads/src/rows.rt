@@ -1,6 +1,7 @@
 //! The rows of lists. A `Listing` has the numbers of the first and the last CRL that list a serial number.
 
-ghost use Rattle.std.specs.Prelude.{◌≡◌, ◌-◌, Some, None, cond, nat_lt, option_map, IfOk};
+ghost use Rattle.std.specs.Prelude.{◌≡◌, ◌-◌, ◌≤◌, Some, None, cond, nat_lt, option_map, IfErr, IfOk};
+ghost use Rattle.reg_core.specs.Calendar.{clock_end};
 ghost use Rattle.reg_core.specs.Due.{deadline};
 ghost use Rattle.reg_core.specs.Queries.{listing};
 ghost use Rattle.reg_core.specs.Records.{certificate_in, order_in, request_in, revocation_in, subscriber_in};
@@ -251,6 +252,7 @@ fn listed_request<C: Alter>(
 /// The deadline of a request. `Store` if it was received at `CLOCK_END` (9999-12-22) or later: a register has no such request.
 fn due_of(request: &RequestRow) -> Result<Moment, DatabaseFault>
     ensures due { IfOk result (λ due. due ≡ deadline request.now) }
+    ensures late { IfErr result (λ why. (why ≡ DatabaseFault.Store) × (clock_end ≤ request.now.received)) }
 {
     if request.received >= Moment::CLOCK_END {
         return Err(DatabaseFault::Store);
