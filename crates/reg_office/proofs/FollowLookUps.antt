@@ -39,9 +39,9 @@ without_news page issuer terms last records issuer_is terms_are last_is without 
   };
 }
 
--- schedules that `==` finds equal have the same steps
-pub same_schedule : (own given : List (ℕ × ℕ)) → same_steps own given ≡ true → own ≡ given
-same_schedule own given same = (pointwise_decides decides own given).0 same
+-- `==` finds schedules equal exactly if they have the same steps
+pub same_schedules : (own given : List (ℕ × ℕ)) → Decides (same_steps own given) (own ≡ given)
+same_schedules own given = pointwise_decides decides own given
   where
     decides : (left right : ℕ × ℕ) → Decides (same_step left right) (left ≡ right)
     decides left right = (

@@ -1,7 +1,7 @@
 //! Which CRLs of another register may have the placeholder digest: the first ones, from before that register had a signer with a key. `take` returns
 //! the DER value at the front, and the bytes after it.
 
-ghost use Rattle.std.specs.Prelude.{◌≡◌, ◌<◌, ◌^◌, List, ℕ, length, IfSome, IsTrue};
+ghost use Rattle.std.specs.Prelude.{◌≡◌, ◌↔◌, ◌<◌, ◌^◌, List, ℕ, length, IfSome, IsTrue};
 ghost use Rattle.reg_crl.specs.Signing.{IsAlgorithm};
 ghost use Rattle.reg_office.specs.Replays.{HasAlgorithm, IsBeforeKey};
 ghost use Rattle.reg_store_tables.specs.LookUps.{Learns};
@@ -80,7 +80,7 @@ fn algorithm_of(crl: &[u8]) -> Option<&[u8]>
 
 /// Whether these are fewer octets than the contents of a DER value may have.
 fn is_short(crl: &[u8]) -> bool
-    ensures { IsTrue result → length crl.now < 2 ^ 32 }
+    ensures { IsTrue result ↔ (length crl.now < 2 ^ 32) }
 {
     crl.len() < FOUR_GIB
 }

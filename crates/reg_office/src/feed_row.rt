@@ -1,6 +1,6 @@
 //! A row of the changes feed, and the command that enters it.
 
-ghost use Rattle.std.specs.Prelude.{◌≡◌, ◌≢◌, ℕ, IsTrue};
+ghost use Rattle.std.specs.Prelude.{◌≡◌, ◌≢◌, ◌↔◌, ℕ, IsTrue};
 ghost use Rattle.reg_core.specs.Changes.{changed_by};
 ghost use Rattle.reg_core.specs.Records.{Records};
 ghost use Rattle.reg_core.specs.declared.command.Command.TheVariants.{Crl as IssueCrl};
@@ -103,7 +103,7 @@ impl FeedRow {
 // ---- whether a change enters a row: field by field, so that the prover sees equal rows
 
 fn enters_subscriber(change: &Change<'_>, row: &SubscriberRow) -> bool
-    ensures { IsTrue result → change.now ≡ Change.Subscriber row.now }
+    ensures { IsTrue result ↔ (change.now ≡ Change.Subscriber row.now) }
 {
     match *change {
         Change::Subscriber(decided) => {
@@ -114,7 +114,7 @@ fn enters_subscriber(change: &Change<'_>, row: &SubscriberRow) -> bool
 }
 
 fn enters_order(change: &Change<'_>, row: &OrderRow) -> bool
-    ensures { IsTrue result → change.now ≡ Change.Order row.now }
+    ensures { IsTrue result ↔ (change.now ≡ Change.Order row.now) }
 {
     match *change {
         Change::Order(decided) => {
@@ -125,7 +125,7 @@ fn enters_order(change: &Change<'_>, row: &OrderRow) -> bool
 }
 
 fn enters_certificate(change: &Change<'_>, row: &CertRow) -> bool
-    ensures { IsTrue result → change.now ≡ Change.Certificate row.now }
+    ensures { IsTrue result ↔ (change.now ≡ Change.Certificate row.now) }
 {
     match *change {
         Change::Certificate(decided) => {
@@ -139,7 +139,7 @@ fn enters_certificate(change: &Change<'_>, row: &CertRow) -> bool
 }
 
 fn enters_request(change: &Change<'_>, row: &RequestRow) -> bool
-    ensures { IsTrue result → change.now ≡ Change.Request row.now }
+    ensures { IsTrue result ↔ (change.now ≡ Change.Request row.now) }
 {
     match *change {
         Change::Request(decided) => {
@@ -154,7 +154,7 @@ fn enters_request(change: &Change<'_>, row: &RequestRow) -> bool
 }
 
 fn enters_decline(change: &Change<'_>, id: u64) -> bool
-    ensures { IsTrue result → change.now ≡ Change.Decline id }
+    ensures { IsTrue result ↔ (change.now ≡ Change.Decline id) }
 {
     match *change {
         Change::Decline(decided) => decided == id,
@@ -164,7 +164,7 @@ fn enters_decline(change: &Change<'_>, id: u64) -> bool
 
 /// The change also has the certificate's notAfter. A revocation's row in the feed lacks it, so it is not compared.
 fn enters_revocation(change: &Change<'_>, row: &RevocationRow) -> bool
-    ensures { IsTrue result → (not_after : ℕ) × (change.now ≡ Change.Revocation row.now not_after) }
+    ensures { IsTrue result ↔ ((not_after : ℕ) × (change.now ≡ Change.Revocation row.now not_after)) }
 {
     match *change {
         Change::Revocation(decided, _) => {

@@ -1,7 +1,7 @@
 //! Enters pages of the changes feed of another register, of which this one is a copy: all of them in one transaction, or nothing. The commands that
 //! entered the rows are replayed (`replay.rt`), so the register checks each row by its own rules. The settings come from the last page's head.
 
-ghost use Rattle.std.specs.Prelude.{◌≡◌, ◌≤◌, ◌<◌, ◌+◌, ℕ, [], None, false, true, length, IfErr, IfOk, IfSome, IsTrue, OnOk};
+ghost use Rattle.std.specs.Prelude.{◌≡◌, ◌↔◌, ◌≤◌, ◌<◌, ◌+◌, ℕ, [], None, false, true, length, IfErr, IfOk, IfSome, IsTrue, OnOk};
 ghost use Rattle.sha2.specs.Sha256.{sha256};
 ghost use Rattle.reg_core.specs.Calendar.{clock_end};
 ghost use Rattle.reg_core.specs.Schedule.{one_step};
@@ -311,8 +311,8 @@ fn issuer_after(
 }
 
 fn has_same_terms(own: &Policy, given: &Policy) -> bool
-    ensures { IsTrue result → (given.now.crl_life ≡ own.now.crl_life)
-        × (given.now.ocsp_life ≡ own.now.ocsp_life) × (given.now.cap ≡ own.now.cap) }
+    ensures { IsTrue result ↔ ((given.now.crl_life ≡ own.now.crl_life)
+        × (given.now.ocsp_life ≡ own.now.ocsp_life) × (given.now.cap ≡ own.now.cap)) }
 {
     own.crl_life() == given.crl_life()
         && own.ocsp_life() == given.ocsp_life()
@@ -355,7 +355,7 @@ fn has_same_identifiers(own: &Issuer, given: &Issuer, crls: u64) -> bool
 }
 
 fn is_same_identifier(own: &Option<Label>, given: &Option<Label>) -> bool
-    ensures { IsTrue result → given.now ≡ own.now }
+    ensures { IsTrue result ↔ (given.now ≡ own.now) }
 {
     match (own, given) {
         (Some(own), Some(given)) => own.as_bytes() == given.as_bytes(),
@@ -531,7 +531,7 @@ fn has_no_rows(rows: &FeedRows) -> bool
 }
 
 fn has_no_crl(page: &ReceivedPage) -> bool
-    ensures { IsTrue result → page.now.crl ≡ None }
+    ensures { IsTrue result ↔ (page.now.crl ≡ None) }
 {
     match &page.crl {
         Some(_) => false,
@@ -540,8 +540,8 @@ fn has_no_crl(page: &ReceivedPage) -> bool
 }
 
 fn is_same_issuer(issuer: &Issuer, head: &FeedHead) -> bool
-    ensures { IsTrue result → (issuer.now.name ≡ head.now.stored_name.items)
-        × (issuer.now.key ≡ head.now.key.items) }
+    ensures { IsTrue result ↔ ((issuer.now.name ≡ head.now.stored_name.items)
+        × (issuer.now.key ≡ head.now.key.items)) }
 {
     issuer.stored_name() == head.stored_name.as_slice() && issuer.key() == head.key.as_slice()
 }
@@ -556,7 +556,7 @@ fn is_same_policy(own: &Policy, given: &Policy) -> bool
 }
 
 fn is_same_schedule(own: &Schedule, given: &Schedule) -> bool
-    ensures { IsTrue result → own.now ≡ given.now }
+    ensures { IsTrue result ↔ (own.now ≡ given.now) }
 {
     *own == *given
 }

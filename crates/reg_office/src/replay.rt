@@ -1,6 +1,6 @@
 //! Replays the commands that entered the rows of pages of the changes feed: the register decides each again, and its decision must be the row.
 
-ghost use Rattle.std.specs.Prelude.{◌+◌, ◌≡◌, ◌≤◌, length, map, true, None, IfOk, IfSome, IsFalse, IsSome, IsTrue, OnOk};
+ghost use Rattle.std.specs.Prelude.{◌+◌, ◌≡◌, ◌↔◌, ◌≤◌, length, map, true, None, IfOk, IfSome, IsFalse, IsSome, IsTrue, OnOk};
 ghost use Rattle.reg_core.specs.Changes.{declined_if, with_crl};
 ghost use Rattle.reg_core.specs.Crls.{EntriesAscend, cert_list};
 ghost use Rattle.reg_core.specs.Records.{request_in};
@@ -274,7 +274,7 @@ impl<C: Alter, S: Signer> Office<C, S> {
 }
 
 fn is_same_row(row: &CrlRow, given: &CrlRow) -> bool
-    ensures { IsTrue result → row.now ≡ given.now }
+    ensures { IsTrue result ↔ (row.now ≡ given.now) }
 {
     row.number == given.number && row.this_update == given.this_update
 }
@@ -409,7 +409,7 @@ fn wrong_octets<S: Signer>(
 }
 
 pub(crate) fn same_octets(some: &[u8], others: &[u8]) -> bool
-    ensures { IsTrue result → some.now ≡ others.now }
+    ensures { IsTrue result ↔ (some.now ≡ others.now) }
 {
     some == others
 }

@@ -8,9 +8,9 @@ pub returns-then-same_stored_name : goal.returns-then-same_stored_name
 returns-then-same_stored_name c is =
     let own = c.args.own.now in
     let given = c.args.given.now in
-    let key : given.key ≡ own.key = sym c.key-2.ensures.key ∙ sym (c.same_octets-same_key.ensures c.if-not-same_key.false) ∙ c.key.ensures.key in
+    let key : given.key ≡ own.key = sym c.key-2.ensures.key ∙ sym (c.same_octets-same_key.ensures.0 c.if-not-same_key.false) ∙ c.key.ensures.key in
     let stored : given.name ≡ own.name =
-    sym c.stored_name-2.ensures.stored_name ∙ sym (c.same_octets-same_stored_name.ensures c.if-same_stored_name.true) ∙ c.stored_name.ensures.stored_name in
+    sym c.stored_name-2.ensures.stored_name ∙ sym (c.same_octets-same_stored_name.ensures.0 c.if-same_stored_name.true) ∙ c.stored_name.ensures.stored_name in
     let same : given ≡ own = same_issuers own given stored key in
     (ap name_of same, key, λ number one within. ap (λ (it : Issuer). key_identifier_at it number) same)
 
@@ -18,6 +18,6 @@ pub returns : goal.returns
 returns c is =
     let own = c.args.own.now in
     let given = c.args.given.now in
-    let key : given.key ≡ own.key = sym c.key-2.ensures.key ∙ sym (c.same_octets-same_key.ensures c.if-not-same_key.false) ∙ c.key.ensures.key in
-    let name : name_of given ≡ name_of own = sym c.name-2.ensures.name ∙ sym (c.same_octets-same_name.ensures c.if-not-same_name.false) ∙ c.name.ensures.name in
+    let key : given.key ≡ own.key = sym c.key-2.ensures.key ∙ sym (c.same_octets-same_key.ensures.0 c.if-not-same_key.false) ∙ c.key.ensures.key in
+    let name : name_of given ≡ name_of own = sym c.name-2.ensures.name ∙ sym (c.same_octets-same_name.ensures.0 c.if-not-same_name.false) ∙ c.name.ensures.name in
     (name, key, c.has_same_identifiers.ensures is)

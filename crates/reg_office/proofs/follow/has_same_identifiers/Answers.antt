@@ -11,7 +11,7 @@ loop-count-preserved c number one within = elim (up_to number c.loop-count.count
   | inl earlier ↦ c.loop-count.invariant number one earlier
   | inr last ↦
       let here : key_identifier_at c.args.given.now (c.loop-count.count + 1) ≡ key_identifier_at c.args.own.now (c.loop-count.count + 1) =
-      sym c.key_identifier-in-loop-count.ensures.identifier ∙ c.is_same_identifier.ensures c.if-not-is_same_identifier.false ∙ c.key_identifier.ensures.identifier in
+      sym c.key_identifier-in-loop-count.ensures.identifier ∙ c.is_same_identifier.ensures.0 c.if-not-is_same_identifier.false ∙ c.key_identifier.ensures.identifier in
       subst (λ (n : ℕ). key_identifier_at c.args.given.now n ≡ key_identifier_at c.args.own.now n) (sym last) here
 ]
 

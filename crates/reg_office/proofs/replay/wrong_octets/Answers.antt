@@ -20,7 +20,7 @@ returns g c none =
       entries = c.args.entries.now;
     } in
     let octets : c.args.der.now ≡ certificate_list tbs second signature =
-    sym (c.same_octets.ensures c.if-not-same_octets.false) ∙ c.deref-2.ensures.value ∙ c.in_ok-whole.ensures.bytes ∙ ap (λ (t : List ℕ). certificate_list t second signature) c.deref.ensures.value in
+    sym (c.same_octets.ensures.0 c.if-not-same_octets.false) ∙ c.deref-2.ensures.value ∙ c.in_ok-whole.ensures.bytes ∙ ap (λ (t : List ℕ). certificate_list t second signature) c.deref.ensures.value in
     let has : forms identity c.deref-3.result.now signature = subst (λ (b : Bool). OnTrue b (forms identity c.deref-3.result.now signature)) c.if-not-has_form.false c.has_form.ensures in
     has_signed_form forms identity list signature tbs c.args.der.now c.algorithm.result.now second c.algorithm.ensures.value c.algorithm-2.ensures.value c.in_ok-tbs.ensures.crl octets
     (subst (λ (t : List ℕ). forms identity t signature) c.deref-3.ensures.value has)

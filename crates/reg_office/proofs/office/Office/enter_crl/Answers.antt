@@ -17,7 +17,7 @@ returns-in-Ok-clause-made g c forms =
     let row = c.args.row in
     let looks = lent c.deref_mut.ensures.shows c.in_ok-wrong.ensures in
     let crl = c.args.crl.now in
-    let same : row ≡ crl.row = c.is_same_row.ensures c.if-not-is_same_row.false in (
+    let same : row ≡ crl.row = c.is_same_row.ensures.0 c.if-not-is_same_row.false in (
       same,
       leads_if_as s signs identity c.args.self.now.store c.enter.new.self
           (crl_leads s signs identity c.args.self.now.store c.checked_crl.new.tables c.enter.new.self row c.args.next_update c.as_slice-der.result crl.der.items c.as_slice-der.ensures.value
