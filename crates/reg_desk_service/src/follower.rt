@@ -1,6 +1,6 @@
 //! A follower: it asks a leader for changes, keeps the pages in memory up to the one that ends the feed, and then has its office enter them.
 
-ghost use Rattle.std.specs.Prelude.{◌≡◌, ◌⊎◌, ◌++◌, ◌∷◌, ◌*◌, [], min, None, Some, Ok, IfErr, IfOk, IfSome, IsFalse, IsTrue, OnErr, OnOk, is_some};
+ghost use Rattle.std.specs.Prelude.{◌≡◌, ◌⊎◌, ◌↔◌, ◌++◌, ◌∷◌, ◌*◌, [], min, None, Some, Ok, IfErr, IfOk, IfSome, IsFalse, IsTrue, OnErr, OnOk, is_some};
 ghost use Rattle.reg_desk_metrics.specs.Tallies.{greatest};
 ghost use Rattle.reg_desk_server.specs.Buffers.{unsent_of};
 ghost use Rattle.reg_office_api.specs.Follows.{FollowStep, FormsSign};
@@ -415,7 +415,8 @@ impl<'a, 'w> Follower<'a, 'w> {
 
     /// Whether its records have these positions, and this schedule.
     fn is_at(&self, positions: &Positions, schedule: &[u8]) -> bool
-        ensures { IsTrue result → (positions.now ≡ self.now.own) × (schedule.now ≡ self.now.schedule.items) }
+        ensures { IsTrue result ↔ ((positions.now ≡ self.now.own)
+            × (schedule.now ≡ self.now.schedule.items)) }
     {
         *positions == self.own && schedule == self.schedule.as_slice()
     }
