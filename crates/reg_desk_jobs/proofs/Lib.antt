@@ -1,3 +1,4 @@
+pub mod Checked
 pub mod Comparing
 pub mod DeskRuns
 pub mod PrintedTexts

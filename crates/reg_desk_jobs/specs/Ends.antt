@@ -230,11 +230,23 @@ ScriptInMemory remaining contents input_failed output_failed reader reader' writ
     × ScriptEnds (Lines digests digest_alone) remaining contents input_failed output_failed sample_records after
     reader reader' writer writer' ran))
 
--- the lines of a script are to run at the machine's clock, which is too far ahead, and the operator does not accept that
-abbrev pub IsClockRefused : ScriptOptions → (ℕ → Type 0) → Records → Type 0
-IsClockRefused options clock_reached records =
-    IsTrue options.is_clocked × IsFalse options.accepts_clock
-    × ((now : ℕ) × clock_reached now × IsTrue (is_ahead now records.last None))
+-- a moment is not too far ahead of the last accepted command's; or it is, or that one can't be read, and the job fails
+abbrev pub ChecksMoment : ℕ → Records → Result (Unit {0}) Failure → Type 0
+ChecksMoment now records (Ok done) = IsFalse (is_ahead now records.last None)
+ChecksMoment now records (Err why) =
+    ((why ≡ failure.BadClock) × IsTrue (is_ahead now records.last None))
+    ⊎ ((store_fault : Fault) × (why ≡ failure.Fault store_fault) × IsOfStore store_fault)
+
+-- the lines of a script run at the machine's clock, and the operator does not accept one that is too far ahead
+abbrev pub IsChecked : ScriptOptions → Type 0
+IsChecked options = IsTrue options.is_clocked × IsFalse options.accepts_clock
+
+-- the check of a script's clock: lines whose clock is not checked run; so do those whose clock can't be read, and the first one reports that
+abbrev pub ChecksLines
+    : ScriptOptions → (ℕ → Type 0) → Type 0 → Records → Result (Unit {0}) Failure → Type 0
+ChecksLines options clock_reached clock_failed records result =
+    ((result ≡ Ok tt) × ((¬ IsChecked options) ⊎ clock_failed))
+    ⊎ (IsChecked options × ((now : ℕ) × clock_reached now × ChecksMoment now records result))
 
 -- A job that reads and writes: the machine, the reader and the writer, before the job and after it, and what states that a read or a write of
 -- those failed.
@@ -258,19 +270,20 @@ module _ {M O D S R E W : Type 0} (machines : Machine M O D S R) (offices : Offi
       ScriptEnds (Lines offices.signs identity) remaining contents input_failed output_failed before after
       reader reader' writer writer' ran)
 
-  -- no line of a script runs, because the clock is too far ahead
+  -- no line of a script runs, because the clock is too far ahead, or can't be compared with the last accepted command's moment
   abbrev pub ClockRefusedAt : LineScript → Result (Unit {0}) Failure → Type 0
   ClockRefusedAt it result =
-      (result ≡ Err failure.BadClock) × (reader' ≡ reader) × (writer' ≡ writer)
+      (why : Failure) × (result ≡ Err why) × (reader' ≡ reader) × (writer' ≡ writer)
       × UsesRegister machines offices machine machine' it.file (signing_with it.signer issuer_responds)
       (λ identity before after.
-      IsClockRefused it.options machines.clock_reached before × (after ≡ before))
+      ChecksLines it.options machines.clock_reached machines.failed before (Err why) × (after ≡ before))
 
   -- the lines of a script run over the register at a path
   abbrev pub LinesRunAt : LineScript → Result (Unit {0}) Failure → Type 0
   LinesRunAt it =
       RunsAt exit_of_run it.file (signing_with it.signer issuer_responds) (λ ran identity before after.
-      LinesEnd (Lines offices.signs identity) remaining contents input_failed output_failed before after
+      ChecksLines it.options machines.clock_reached machines.failed before (Ok tt)
+      × LinesEnd (Lines offices.signs identity) remaining contents input_failed output_failed before after
       reader reader' writer writer' machines.clock_reached machines.failed it.options.is_clocked
       it.options.is_strict ran)
 
@@ -278,39 +291,41 @@ module _ {M O D S R E W : Type 0} (machines : Machine M O D S R) (offices : Offi
   abbrev pub LinesAt : LineScript → Result (Unit {0}) Failure → Type 0
   LinesAt it result = ClockRefusedAt it result ⊎ LinesRunAt it result
 
-  -- the rows of an import ran at a moment; the import is strict or not
-  abbrev pub ImportRan : Bool → List ℕ → ℕ → Result (Unit {0}) Failure → Type 0
-  ImportRan false path now result = (ran : Result (Unit {0}) Fault) × (result ≡ exit_of ran)
+  -- the rows of an import ran at a moment, which is checked or not; the import is strict or not
+  abbrev pub ImportRan : Bool → Bool → List ℕ → ℕ → Result (Unit {0}) Failure → Type 0
+  ImportRan is_checked false path now result = (ran : Result (Unit {0}) Fault) × (result ≡ exit_of ran)
       × UsesRegister machines offices machine machine' path unsigned (λ identity before after.
-      ImportEnds (Lines offices.signs identity) remaining contents input_failed output_failed now before after
+      (IsTrue is_checked → ChecksMoment now before (Ok tt))
+      × ImportEnds (Lines offices.signs identity) remaining contents input_failed output_failed now before after
       reader reader' writer writer' ran)
-  ImportRan true path now result = (ran : Result Ended Fault) × (result ≡ exit_of_run ran)
+  ImportRan is_checked true path now result = (ran : Result Ended Fault) × (result ≡ exit_of_run ran)
       × UsesRegister machines offices machine machine' path unsigned (λ identity before after.
-      StrictEnds (Lines offices.signs identity) remaining contents input_failed output_failed now before after
+      (IsTrue is_checked → ChecksMoment now before (Ok tt))
+      × StrictEnds (Lines offices.signs identity) remaining contents input_failed output_failed now before after
       reader reader' writer writer' ran)
 
   -- an import into the register at a path: it could not be opened, or the rows ran
-  abbrev pub ImportAt : Bool → List ℕ → ℕ → Result (Unit {0}) Failure → Type 0
-  ImportAt is_strict path now result =
+  abbrev pub ImportAt : Bool → Bool → List ℕ → ℕ → Result (Unit {0}) Failure → Type 0
+  ImportAt is_checked is_strict path now result =
       (NotOpened machines machine machine' path unsigned result × (reader' ≡ reader) × (writer' ≡ writer))
-      ⊎ ImportRan is_strict path now result
+      ⊎ ImportRan is_checked is_strict path now result
 
-  -- no row is imported, because the moment of the import is too far ahead
+  -- no row is imported, because the moment of the import is too far ahead, or can't be compared with the last accepted command's
   abbrev pub ImportRefusedAt : List ℕ → ℕ → Result (Unit {0}) Failure → Type 0
   ImportRefusedAt path now result =
-      (result ≡ Err failure.BadClock) × (reader' ≡ reader) × (writer' ≡ writer)
+      (why : Failure) × (result ≡ Err why) × (reader' ≡ reader) × (writer' ≡ writer)
       × UsesRegister machines offices machine machine' path unsigned (λ identity before after.
-      IsTrue (is_ahead now before.last None) × (after ≡ before))
+      ChecksMoment now before (Err why) × (after ≡ before))
 
-  -- an import at a moment; if the moment is checked, the whole import is refused where the moment is too far ahead
+  -- an import at a moment; if the moment is checked, the whole import is refused exactly where the moment is too far ahead
   abbrev pub ImportChecked : Bool → Bool → List ℕ → ℕ → Result (Unit {0}) Failure → Type 0
   ImportChecked is_checked is_strict path now result =
-      (IsTrue is_checked × ImportRefusedAt path now result) ⊎ ImportAt is_strict path now result
+      (IsTrue is_checked × ImportRefusedAt path now result) ⊎ ImportAt is_checked is_strict path now result
 
   -- an import at the given moment, which is not checked, or else at one of the clock, which is checked unless the operator accepts it; if the clock
   -- can't be read, nothing is done
   abbrev pub ImportAtMoment : Option ℕ → Bool → Bool → List ℕ → Result (Unit {0}) Failure → Type 0
-  ImportAtMoment (Some now) accepts is_strict path result = ImportAt is_strict path now result
+  ImportAtMoment (Some now) accepts is_strict path result = ImportAt false is_strict path now result
   ImportAtMoment None accepts is_strict path result =
       ((result ≡ Err (failure.Fault fault.Read)) × (machine' ≡ machine) × (reader' ≡ reader)
       × (writer' ≡ writer))

@@ -1,19 +1,18 @@
 //! The jobs `init`, `script` (without `--clock` and `--strict`), `import`, `crl`, `schedule`, `key-id` and `audit`. An opening error, below, is an
 //! error of [`Machine::check_database`] or [`Machine::open_in`].
 
-ghost use Rattle.std.specs.Prelude.{◌≡◌, Result, IfErr, IsTrue, None};
+ghost use Rattle.std.specs.Prelude.{◌≡◌, Result, IfErr, IsTrue, OnErr};
 ghost use Rattle.reg_office_api.specs.Items.{items_of};
 ghost use Rattle.reg_office_api.specs.Calls.{LeadsIn, LooksIn};
-ghost use Rattle.reg_desk_metrics.specs.Ahead.{is_ahead};
 ghost use Rattle.reg_lines.specs.ByCalls.{Lines};
 ghost use Rattle.reg_lines.specs.Strict.{StrictEnds};
-ghost use Rattle.reg_desk_jobs.specs.Ends.{AuditAt, CrlAt, ImportJobEnds, ImportChecked, InitAt, KeyIdAt, CreatesAt, ScheduleAt, ScriptAt};
+ghost use Rattle.reg_desk_jobs.specs.Ends.{AuditAt, ChecksMoment, CrlAt, ImportJobEnds, ImportChecked, InitAt, KeyIdAt, CreatesAt, ScheduleAt, ScriptAt};
 ghost use Rattle.reg_desk_jobs.specs.Ends.{PrintsResult, PrintsBroken, PrintsLine, PrintsSetResult, ReportsAuditResult};
 ghost use Rattle.reg_desk_service.specs.RegisterUses.{exit_of_run};
 ghost use Rattle.reg_office_api.specs.LookUps.{IsOfStore};
 ghost use Rattle.reg_lines.specs.AuditLines.{broken_text, sound_text};
 
-use crate::lines_job::{is_ahead_of, run_script_over};
+use crate::lines_job::{check_moment, run_script_over};
 use crate::output_lines::print_text;
 use reg_core::{AuditResult, Audited, BrokenRow, Fault, Moment, Policy};
 use reg_der::Issuer;
@@ -154,9 +153,12 @@ fn import_at<M: Machine, R: Source, W: Sink>(
 {
     let path = rows.file.as_str();
     let mut office = open_unsigned(machine, path)?;
-    if refuses_import::<M>(&mut office, now, is_checked) {
-        machine.close(path, office);
-        return Err(Failure::BadClock);
+    match check_import::<M>(&mut office, now, is_checked) {
+        Ok(()) => {}
+        Err(why) => {
+            machine.close(path, office);
+            return Err(why);
+        }
     }
     if rows.is_strict {
         let imported = import_strict_rows::<M, R, W>(
@@ -175,15 +177,19 @@ fn import_at<M: Machine, R: Source, W: Sink>(
     ended(imported)
 }
 
-fn refuses_import<M: Machine>(office: &mut M::Office, now: Moment, is_checked: bool) -> bool
-    ensures checked { IsTrue result → IsTrue is_checked }
+fn check_import<M: Machine>(
+    office: &mut M::Office,
+    now: Moment,
+    is_checked: bool,
+) -> Result<(), Failure>
+    ensures checked { OnErr result (IsTrue is_checked) }
     ensures looks { LooksIn M.Office.Office
-        (λ records. IsTrue result → IsTrue (is_ahead now records.last None)) office.old office.new }
+        (λ records. IsTrue is_checked → ChecksMoment now records result) office.old office.new }
 {
     if !is_checked {
-        return false;
+        return Ok(());
     }
-    is_ahead_of::<M>(office, now)
+    check_moment::<M>(office, now)
 }
 
 fn import_strict_rows<M: Machine, R: Source, W: Sink>(

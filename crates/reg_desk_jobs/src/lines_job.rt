@@ -1,11 +1,10 @@
 //! The job `script` with `--clock` or `--strict`, and runs of scripts over an open register.
 
-ghost use Rattle.std.specs.Prelude.{◌↔◌, IsTrue, None};
+ghost use Rattle.std.specs.Prelude.{◌↔◌, IsTrue};
 ghost use Rattle.reg_office_api.specs.Calls.{LeadsIn, LooksIn};
 ghost use Rattle.reg_lines.specs.ByCalls.{Lines};
 ghost use Rattle.reg_lines.specs.Script.{LinesEnd, ScriptEnds};
-ghost use Rattle.reg_desk_jobs.specs.Ends.{IsClockRefused, LinesAt};
-ghost use Rattle.reg_desk_metrics.specs.Ahead.{is_ahead as ahead};
+ghost use Rattle.reg_desk_jobs.specs.Ends.{ChecksLines, ChecksMoment, LinesAt};
 ghost use Rattle.reg_desk_jobs.specs.PlaceholderWarning.{IsFirstCrl, placeholder_warning};
 
 use crate::jobs::run_ended;
@@ -67,9 +66,12 @@ pub fn script_by_lines<M: Machine, R: Source, W: Sink>(
     let path = script.file.as_str();
     let responder = ResponderChoice::Issuer { certificate: None };
     let mut office = open_signed(machine, path, &script.signer, &responder)?;
-    if refuses_clock::<M>(machine, &mut office, script.options) {
-        machine.close(path, office);
-        return Err(Failure::BadClock);
+    match check_clock::<M>(machine, &mut office, script.options) {
+        Ok(()) => {}
+        Err(why) => {
+            machine.close(path, office);
+            return Err(why);
+        }
     }
     let is_unsigned = script.signer.is_none();
     let ran = run_over::<M, R, W>(
@@ -86,30 +88,34 @@ pub fn script_by_lines<M: Machine, R: Source, W: Sink>(
     run_ended(ran)
 }
 
-/// Whether lines run at a clock that is too far ahead and not accepted. `false` if the clock can't be read, which the first line reports.
-fn refuses_clock<M: Machine>(machine: &M, office: &mut M::Office, options: ScriptOptions) -> bool
+/// `BadClock` if lines run at a clock that is too far ahead and not accepted. `Ok` if the clock can't be read, which the first line reports. Other
+/// errors: those of [`check_moment`].
+fn check_clock<M: Machine>(
+    machine: &M,
+    office: &mut M::Office,
+    options: ScriptOptions,
+) -> Result<(), Failure>
     ensures { LooksIn M.Office.Office
-        (λ records. IsTrue result → IsClockRefused options M.clock_reached records)
-        office.old office.new }
+        (λ records. ChecksLines options M.clock_reached M.failed records result) office.old office.new }
 {
     if !options.is_clocked || options.accepts_clock {
-        return false;
+        return Ok(());
     }
     let Ok(now) = machine.moment() else {
-        return false;
+        return Ok(());
     };
-    is_ahead_of::<M>(office, now)
+    check_moment::<M>(office, now)
 }
 
-/// Whether `now` is over 30 days past the last accepted command's moment. `false` without such a command, or if reading fails: the job reports that.
-pub(crate) fn is_ahead_of<M: Machine>(office: &mut M::Office, now: Moment) -> bool
-    ensures { LooksIn M.Office.Office (λ records. IsTrue result → IsTrue (ahead now records.last None))
-        office.old office.new }
+/// `BadClock` if `now` is over 30 days past the last accepted command's moment, if there is one. Other errors: `Memory`, `Store`.
+pub(crate) fn check_moment<M: Machine>(office: &mut M::Office, now: Moment) -> Result<(), Failure>
+    ensures { LooksIn M.Office.Office (λ records. ChecksMoment now records result) office.old office.new }
 {
     match office.last() {
         // `None`: no moment was accepted by a line `accept-clock`, which only the control socket of an open desk has.
-        Ok(last) => is_ahead(now, last, None),
-        Err(_) => false,
+        Ok(last) if is_ahead(now, last, None) => Err(Failure::BadClock),
+        Ok(_) => Ok(()),
+        Err(fault) => Err(Failure::Fault(fault)),
     }
 }
 

@@ -1,25 +1,26 @@
 use Rattle.std.proofs.Common.{◌≡◌, rules, inl, inr, refl}
 use Rattle.reg_office_api.proofs.PublicLaws.{follows}
-use Rattle.reg_desk_service.proofs.PublicLaws.{still_then}
+use Rattle.reg_desk_jobs.proofs.Checked.{seen_then}
 use Rattle.reg_desk_jobs.proofs.jobs.import_at.Goals as goal
 
 pub returns-in_err-office : goal.returns-in_err-office
 returns-in_err-office g c = let unopened = rw c.as_str-path.ensures at c.in_err-office.ensures.err in inr (search rules)
 
-pub returns-then-refuses_import : goal.returns-then-refuses_import
-returns-then-refuses_import g c = inl (
-  c.refuses_import.ensures.checked c.if-refuses_import.true,
+pub returns-in-Err : goal.returns-in-Err
+returns-in-Err g c = inl (
+  c.in-Err.ensures.checked,
   (
+    c.in-Err.why,
     refl,
     refl,
     refl,
     record {
       first = c.in_ok-office.office;
-      last = c.refuses_import.new.office;
+      last = c.check_import.new.office;
       between = c.open_unsigned.new.machine;
       opened = rw c.as_str-path.ensures at c.in_ok-office.ensures.ok;
-      moves = follows g.M.Office.Office.is_clean g.M.Office.Office.stands _ _ (λ signers before after seen. (seen.0 c.if-refuses_import.true, seen.1)) _ _
-          c.refuses_import.ensures.looks;
+      moves = follows g.M.Office.Office.is_clean g.M.Office.Office.stands _ _ (λ signers before after seen. (seen.0 c.in-Err.ensures.checked, seen.1)) _ _
+          c.in-Err.ensures.looks;
       closed = rw c.as_str-path.ensures at c.close.ensures;
     },
   ),
@@ -34,9 +35,7 @@ returns-then-rows g c = rw c.if-rows.true (inr (inr (
     last = c.import_strict_rows-imported.new.office;
     between = c.open_unsigned.new.machine;
     opened = rw c.as_str-path.ensures at c.in_ok-office.ensures.ok;
-    moves = still_then g.M.Office.Office.is_clean g.M.Office.Office.stands _ _ _ _
-        (follows g.M.Office.Office.is_clean g.M.Office.Office.stands _ (λ signers before after. after ≡ before) (λ signers before after seen. seen.1) _ _ c.refuses_import.ensures.looks)
-        c.import_strict_rows-imported.ensures;
+    moves = seen_then g.M.Office.Office.is_clean g.M.Office.Office.stands _ _ _ _ _ c.in-Ok.ensures.looks c.import_strict_rows-imported.ensures;
     closed = rw c.as_str-path.ensures at c.close-then-rows.ensures;
   },
 )))
@@ -50,9 +49,7 @@ returns g c = rw c.if-rows.false (inr (inr (
     last = c.import-imported.new.office;
     between = c.open_unsigned.new.machine;
     opened = rw c.as_str-path.ensures at c.in_ok-office.ensures.ok;
-    moves = still_then g.M.Office.Office.is_clean g.M.Office.Office.stands _ _ _ _
-        (follows g.M.Office.Office.is_clean g.M.Office.Office.stands _ (λ signers before after. after ≡ before) (λ signers before after seen. seen.1) _ _ c.refuses_import.ensures.looks)
-        c.import-imported.ensures.ends;
+    moves = seen_then g.M.Office.Office.is_clean g.M.Office.Office.stands _ _ _ _ _ c.in-Ok.ensures.looks c.import-imported.ensures.ends;
     closed = rw c.as_str-path.ensures at c.close-2.ensures;
   },
 )))
