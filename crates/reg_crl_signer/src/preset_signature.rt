@@ -10,8 +10,9 @@ pub struct PresetSignature {
 }
 
 pub(crate) fn answer_to(preset_signature: PresetSignature, message: &[u8]) -> Option<Vec<u8>>
-    ensures { IfSome result (λ answer. (preset_signature.answer ≡ Some answer)
+    ensures given { IfSome result (λ answer. (preset_signature.answer ≡ Some answer)
         × (preset_signature.message.items ≡ message.now)) }
+    ensures only { preset_signature.message.items ≡ message.now → result ≡ preset_signature.answer }
 {
     if preset_signature.message.as_slice() == message {
         preset_signature.answer

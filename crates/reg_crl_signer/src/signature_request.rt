@@ -82,6 +82,7 @@ impl SignatureRequest {
     pub fn receive(&mut self) -> bool
         ensures ended { IsTrue result ↔ HasEnded self.new.connection.progress }
         ensures leads { LeadsOn self.old.connection.progress self.new.connection.progress }
+        ensures rest { self.new ≡ record self.old { connection = self.new.connection } }
     {
         self.connection.receive();
         self.connection.has_ended()
@@ -100,6 +101,8 @@ impl SignatureRequest {
             (λ signature. TakesSignature self.old self.new signature.items)) }
         ensures short { IfOk result (λ taken. IfSome taken (λ signature. length signature.items ≤ 4096)) }
         ensures none { IfOk result (λ taken. IfNone taken (¬ HasArrived self.old)) }
+        ensures registered { self.new.is_registered ≡ self.old.is_registered }
+        ensures announced { IsTrue self.old.is_announced → IsTrue self.new.is_announced }
     {
         let answer = match self.connection.take_answer(alloc)? {
             Some(answer) => answer,

@@ -1,6 +1,6 @@
 //! `DeviceSigner`: makes signatures by asking a device that holds the key, such as a signer process behind a Unix socket.
 
-ghost use Rattle.std.specs.Prelude.{◌≡◌, ◌<◌, ◌≤◌, Some, None, IfOk, OnErr, length, vec_len};
+ghost use Rattle.std.specs.Prelude.{◌≡◌, ◌<◌, ◌≤◌, Some, None, IfOk, IsTrue, OnErr, length, vec_len};
 ghost use Rattle.std.specs.Bool.{OnFalse, OnTrue};
 ghost use Rattle.reg_crl_signer.specs.Forms.{HasKeyForm, HasSignatureForm};
 ghost use Rattle.reg_crl_signer.specs.PresetSignature.{IsPreset};
@@ -119,8 +119,10 @@ impl<D: Device + Drop> DeviceSigner<D> {
     }
 
     fn is_signature(&self, answer: &[u8]) -> bool
-        ensures { OnTrue result (HasSignatureForm self.now.algorithm (D.public_key self.now.device) answer.now
+        ensures form { OnTrue result (HasSignatureForm self.now.algorithm (D.public_key self.now.device) answer.now
             × (length answer.now ≤ 4096)) }
+        ensures only { HasSignatureForm self.now.algorithm (D.public_key self.now.device) answer.now
+            → length answer.now ≤ 4096 → IsTrue result }
     {
         answer.len() <= LONGEST_ANSWER
             && self
