@@ -1,14 +1,16 @@
 """Limits of a follower and of its leader: many rows, pages and waiting requests, long positions, full queues, out of memory, and system calls."""
 
+import subprocess
 import time
 
 from groups.changes import LINES, Tables, asked, taken
 from groups.follow import CLOCK, LATER, OPEN, Copy, Forward, address, faked, led, paged, timed
-from groups.follow_steps import fills, now_text, page_for, sets_out, waits
+from groups.follow_steps import Server, fills, now_text, page_for, sets_out, waiting_for, waits
 from groups.limits import full_queue
+from groups.overdue import seconds_of
 from groups.signers import LONGEST_RSA_KEY
 from lib import faults, program
-from lib.authority import until
+from lib.authority import end, until
 from lib.passing import Passing
 from lib.trial import test
 
@@ -25,6 +27,21 @@ def a_new_copy_of_sixty_six_thousand_rows(t):
     copy = Copy(t, address(leader.port))
     until(lambda: copy.leader["current"], "the leader", seconds=60)
     t.same(copy.leader["positions"].split(".")[0], "66000", "subscribers of the copy")
+
+
+@test(seconds=4)
+def a_request_without_news_reads_few_rows_of_its_leader(t):
+    """A follower asks each second, also a leader with 60,000 subscribers."""
+    t.register(lines=LINES)
+    t.sql("ca.db", f"INSERT INTO subscriber {MORE_ROWS}", 60_000)
+    t.clock(CLOCK)
+    leader, control = t.open(), t.control()
+    positions = Tables(taken(t, control)).positions()
+    begun = seconds_of(leader)
+    for _ in range(20):
+        t.same(asked(t, leader, positions)[1:4], ([], {}, True), "a page without rows")
+    took = seconds_of(leader) - begun
+    t.true(took < 0.5, f"20 requests took {took} seconds of the processor")
 
 
 @test(seconds=10)
@@ -96,6 +113,18 @@ def a_follower_of_a_schedule_of_sixteen_steps_confirms(t):
     t.same(lines.ask("subscriber third"), "subscriber 3", "the reply to a command")
 
 
+@test(seconds=3)
+def a_new_key_identifier_after_a_hundred_crls(t):
+    """Each CRL keeps its own."""
+    t.register(lines=LINES + f"{LATER} crl\n" * 100)
+    t.done("copy", "ca.db", "copy.db")
+    t.done("key-id", "ca.db", "0A1B2C3D")
+    t.clock(CLOCK)
+    leader, control = t.open(), t.control()
+    t.same(control.ask("crl"), "crl 104 entries 2")
+    Copy(t, address(leader.port)).is_like(control)
+
+
 @test(seconds=4)
 def a_request_without_news_writes_to_no_file(t):
     """A follower asks five times a second. The register has a schedule of several steps, and an issuer with another key identifier."""
@@ -162,6 +191,18 @@ def a_new_copy_asks_again_after_a_second(t):
 
 
 @test(seconds=3)
+def a_new_copy_that_waits_for_a_page_is_not_busy(t):
+    server = t.enter_context(Server(lambda target: None))
+    words = ["follow", "new.db", "--from", address(server.port), "--port", str(program.free_port()), "--unsigned"]
+    env = program.environment(faults=faults.environment(count=t.room / "count"))
+    t.callback(end, subprocess.Popen([program.program(), *words], cwd=t.room, stdin=subprocess.DEVNULL, stderr=subprocess.DEVNULL, env=env))
+    until(lambda: server.targets, "its request")
+    time.sleep(1)
+    polls = faults.counted(t.room / "count")["poll"]
+    t.true(polls < 100, f"{polls} calls of epoll_wait(2) in a second")
+
+
+@test(seconds=3)
 def a_leader_whose_queue_is_full_holds_up_no_client(t):
     """Its socket is that of ssh, which has stopped. The copy tries once a second and answers meanwhile. It follows once there is room."""
     leader, control, copy = led(t)
@@ -219,6 +260,25 @@ def twelve_requests_wait_at_once(t):
     clients = [waits(it, positions) for _ in range(12)]
     it.advance(1_000)
     t.same([page_for(t, client) for client in clients], [([], {}, True)] * 12, "pages after a second")
+
+
+@test(seconds=8)
+def requests_that_wait_cost_a_desk_no_more_with_each_line(t):
+    """No time passes, so 200 requests wait until the test ends. The desk looks at them after each line."""
+    t.register(lines=LINES)
+    t.clock(CLOCK)
+    it, control = Passing(t), t.control()
+    positions = Tables(taken(t, control)).positions()
+    t.same(asked(t, it.desk, positions)[1:4], ([], {}, True), "a page without rows")
+    for _ in range(200):
+        t.enter_context(it.desk.connect()).sendall(waiting_for(positions))
+    took = []
+    for _ in range(3):
+        begun = seconds_of(it.desk)
+        for _ in range(250):
+            t.same(control.ask("counts"), "good 2 revoked 2 expired 0")
+        took.append(seconds_of(it.desk) - begun)
+    t.true(took[2] < 2 * took[0] + 0.2, f"seconds of the processor: {took}")
 
 
 @test(seconds=3)

@@ -2283,6 +2283,33 @@ def a_copy_takes_little_memory(t):
     t.same((ran.returncode, ran.stdout.split()[:1], ran.stderr), (0, [b"copied"], b""), "status, the first word of the output, and standard error")
 
 
+@test(seconds=3)
+def a_copy_has_a_long_log_in_memory_once(t):
+    """The log has 24 MB, and the program may have 54 MB."""
+    t.register(lines=f"{DAY} crl\n")
+    with contextlib.closing(sqlite3.connect(t.room / "ca.db", isolation_level=None)) as other:
+        other.execute("PRAGMA wal_autocheckpoint = 0")
+        for _ in range(6):
+            other.execute("UPDATE crl SET der = randomblob(4000000)")
+        t.true((t.room / "ca.db-wal").stat().st_size > 24_000_000, "the log is shorter")
+        ran = t.tried("prlimit", "--as=54000000", program.program(), "copy", "ca.db", "copy.db")
+    t.same((ran.returncode, ran.stdout.split()[:1], ran.stderr), (0, [b"copied"], b""), "status, the first word of the output, and standard error")
+
+
+@test(seconds=3)
+def lines_that_a_client_sends_ahead_take_little_memory(t):
+    """Of eight megabytes of lines that come faster than they are answered, most wait in the socket."""
+    t.register()
+    t.clock(DAY)
+    desk, control = t.open(), t.control()
+    most = lambda: int(re.search(r"VmHWM:\s+(\d+) kB", open(f"/proc/{desk.process.pid}/status").read())[1])
+    t.same(control.ask("counts"), "good 0 revoked 0 expired 0")
+    before = most()
+    threading.Thread(target=control.stream.sendall, args=((b"x" * 199 + b"\n") * 40_000,), daemon=True).start()
+    t.same({control.file.readline() for _ in range(40_000)}, {b"E22 syntax\n"}, "replies")
+    t.true(most() - before < 3_000, f"the desk took {most() - before} kB more")
+
+
 @test(seconds=2)
 def a_long_script_without_a_file_takes_little_memory(t):
     """The log of a register in memory is emptied again and again: ten thousand commands run in a program that may have 32 MB."""

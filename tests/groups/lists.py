@@ -4,6 +4,8 @@ import csv
 import io
 import json
 
+from groups.overdue import seconds_of
+from lib import registers
 from lib.program import parted
 from lib.trial import each, test
 from model import lines as model_lines
@@ -423,3 +425,23 @@ def no_list_is_served_but_by_open(t):
     for target in ("/list/revoked", "/list/crls?limit=1"):
         status, _, body = parted(desk.ask("GET", target))
         t.same((status, body), (404, b'{"error":"404"}'), target)
+
+
+@test(seconds=6)
+def certificates_that_end_later_are_not_looked_up(t):
+    """Of 8,000 certificates none ends before the moment. That list takes less than half of the processor time of the list of all."""
+    records = registers.Records(8_000)
+    registers.make(t.room / "ca.db", records, 3)
+    t.clock(records.last)
+    desk = t.open()
+
+    def took(word, more=""):
+        begun, count, after = seconds_of(desk), 0, ""
+        while after is not None:
+            page = json.loads(parted(desk.ask("GET", f"/list/{word}?limit=250{more}{after}"))[2])
+            count, after = count + len(page["rows"]), page["next"] and f"&after={page['next']}"
+        return count, seconds_of(desk) - begun
+
+    (every, long), (none, short) = took("certificates"), took("ending", "&before=1970-01-02T00:00:00Z")
+    t.same((every, none), (8_000, 0), "rows")
+    t.true(short < long / 2, f"seconds of the processor: {short} for no row, {long} for all")

@@ -87,22 +87,50 @@ def seconds_of(desk):
     return (int(user) + int(system)) / os.sysconf("SC_CLK_TCK")
 
 
-@test(seconds=8)
-def only_the_first_query_reads_all_requests(t):
-    """A register has 60,000 open requests. After the first query, each scrape of /metrics and each `overdue` reads only those that came since, also
-    after lines that came together."""
+def many_requests(t):
+    """A register with 60,000 requests, of which 59,997 are open."""
     t.register(lines=LINES)
     more = "WITH RECURSIVE row (at) AS (SELECT 5 UNION ALL SELECT at + 1 FROM row WHERE at < ?)"
     t.sql("ca.db", f"{more} INSERT INTO request SELECT at, serial, ground, received, 0 FROM row, (SELECT * FROM request WHERE id = 4)", 60_000)
+
+
+@test(seconds=8)
+def only_the_first_query_reads_all_requests(t):
+    """After the first query, each scrape of /metrics and each `overdue` reads only the requests that came since, also after lines that came together,
+    a decline and a revocation."""
+    many_requests(t)
     moment = read(b"2026-01-03T00:00:00Z")
     t.clock(moment)
     desk, lines = t.open(), t.control()
     took, begun = [], seconds_of(desk)
     for at in range(12):
         t.clock(moment + 60 * at)
-        t.same(of(metrics(t, desk), "desk_requests_")["open"], 59_997, "open requests")
+        t.same(of(metrics(t, desk), "desk_requests_")["open"], 59_997 - (at + 1) // 2, "open requests")
         t.same(lines.ask("overdue"), "overdue 0", "overdue")
         took, begun = [*took, seconds_of(desk) - begun], seconds_of(desk)
         replies = send_together(desk, lines, [f"subscriber s{at}", f"order 1 {at + 1}", f"subscriber t{at}"])
         t.same([it.split()[0] for it in replies], ["subscriber", "order", "subscriber"], "replies")
+        if at % 2 == 0:
+            t.same(lines.ask(f"decline {5 + at}"), "declined")
+            continue
+        order, serial = lines.ask("order 1 30").split()[1], f"a{at:x}"
+        t.same(lines.ask(f"register {order} {serial} 2026-01-03T00:00:00Z 2026-01-20T00:00:00Z"), "registered")
+        t.same(lines.ask(f"revoke {lines.ask(f'request {serial} asked').split()[1]}"), "revoked")
     t.true(sum(took[1:]) < 2 * took[0] + 0.2, f"seconds of the processor: {took}")
+
+
+@test(seconds=8)
+def only_the_first_query_of_a_follower_reads_all_requests(t):
+    """After it, each one reads only those of the pages that came since."""
+    many_requests(t)
+    t.done("copy", "ca.db", "copy.db")
+    t.clock("2026-01-03T00:00:00Z")
+    desk, lines = t.open(), t.control()
+    copy, took = Copy(t, address(desk.port)), []
+    for at in range(8):
+        t.same(lines.ask(f"subscriber s{at}"), f"subscriber {3 + at}")
+        copy.follows(desk)
+        begun = seconds_of(copy.desk)
+        t.same(copy.lines.ask("overdue"), "overdue 0", "overdue")
+        took.append(seconds_of(copy.desk) - begun)
+    t.true(sum(took[1:]) < took[0] + 0.1, f"seconds of the processor: {took}")

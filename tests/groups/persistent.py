@@ -10,6 +10,7 @@ import time
 from concurrent import futures
 from concurrent.futures import ThreadPoolExecutor
 
+from groups.follow import Copy, address
 from groups.limits import asks
 from groups.waiting import SIGNING, asked_for, files, names, ocsp_answer, own_signature
 from lib import authority, faults, native, program
@@ -131,6 +132,17 @@ def one_client_uses_one_connection(t):
     for at in range(50):
         t.true(is_own(ocsp_answer(desk, 0x1100 + at), 0x1100 + at), f"answer {at}")
     t.same((len(signer.asked), [len(it) for it in signer.kept]), (1, [49]), "messages on each connection")
+
+
+@test(seconds=3)
+def one_client_of_a_follower_uses_one_connection(t):
+    signer = t.enter_context(Keeping(t.room / "ca.sign"))
+    t.register(key=P256_KEY)
+    copy = Copy(t, address(t.open().port), signing=SIGNING)
+    authority.until(lambda: copy.leader["current"], "the leader")
+    for at in range(20):
+        t.true(is_own(ocsp_answer(copy.desk, 0x1100 + at), 0x1100 + at), f"answer {at}")
+    t.same((len(signer.asked), [len(it) for it in signer.kept]), (1, [19]), "messages on each connection")
 
 
 @test(seconds=3)
