@@ -119,6 +119,33 @@ def lines_of_each_kind_are_synced_once(t, line, words, moment):
         t.true(count < once + 8, f"{count} syncs for 256 lines, and {once} for a line alone")
 
 
+# For each row: the lines that come together, and the first word of their replies.
+OF_REQUESTS = {
+    "requests for revocation": (lambda at: f"request {at + 9:x} superseded", "request"),
+    "revocations": (lambda at: f"revoke {at + 1}", "revoked"),
+    "declines": (lambda at: f"decline {at + 1}", "declined"),
+}
+
+
+@each(OF_REQUESTS, seconds=2)
+def requests_and_decisions_are_synced_once(t, line, word):
+    """Eight lines of a kind come together. The first eight of 16 certificates have a request for revocation."""
+    orders = [text for at in range(1, 17) for text in ("order 1 398", f"register {at} {at:x} {DAY} {END}")]
+    lines = ["subscriber acme", *orders, *(f"request {at:x} superseded" for at in range(1, 9))]
+    t.register(lines="".join(f"{DAY} {it}\n" for it in lines))
+    t.clock(DAY)
+    desk = t.open("ca.db", faults=faults.environment(count=t.room / "count"))
+    with t.control() as control:
+        synced = lambda: faults.counted(t.room / "count")["sync"]
+        t.same(control.ask("subscriber second"), "subscriber 2", "the line before them")
+        before = synced()
+        t.same(control.ask("subscriber third"), "subscriber 3", "one line alone")
+        once, before = synced() - before, synced()
+        replies = send_together(desk, control, [line(at) for at in range(8)])
+        t.same({it.split()[0] for it in replies}, {word}, "the first words of the replies")
+        t.same(synced() - before, once, "syncs for eight lines")
+
+
 @test
 def each_of_256_lines_is_counted_and_logged(t):
     t.register()
