@@ -16,7 +16,7 @@ from groups.changes import DAY, KINDS, LINES, Tables, asked, feed_after, taken
 from groups.responder import JAVA, LEAVES, Responder
 from groups.responder import asked as asked_at
 from lib import faults, program, registers
-from lib.authority import EXAMPLES, TRY_LATER, Authority, body_of, end, first_day, now, until
+from lib.authority import EXAMPLES, KEYS, TRY_LATER, Authority, body_of, end, first_day, now, until
 from lib.program import parted
 from lib.trial import Skipped, each, need, test
 from lib.web_server import AROUND, certificates
@@ -659,6 +659,24 @@ def a_responder_of_its_own(t, has_crl, is_signed):
     copy.desk.end()
     t.same(control.ask("crl"), f"crl {number + 1} entries 2")
     Copy(t, address(leader.port), signing=responder.words()).is_like(control)
+
+
+@each({it: it for it in KEYS if it != "ecdsa-sha256"}, seconds=6)
+def crls_of_the_other_algorithms(t, algorithm):
+    """A copy with a responder of its own takes the CRLs that the leader's key signed, whatever its algorithm is."""
+    ca = Authority(t, algorithm)
+    responder = Responder(ca)
+    ca.signer()
+    responder.signer()
+    ca.register()
+    t.done("script", "ca.db", given=first_day(now() - 3600))
+    leader = t.open("ca.db", *ca.signing())
+    control = t.control()
+    copy = Copy(t, address(leader.port), signing=responder.words())
+    copy.is_like(control)
+    t.same(control.ask("crl"), "crl 2 entries 1")
+    copy.is_like(control)
+    ca.verifies(parted(copy.desk.ask("GET", "/crl"))[2])
 
 
 @test(seconds=15)

@@ -380,9 +380,16 @@ def a_certificate_is_exchanged(t, is_new):
 # The CA's certificate in its own answers
 
 
-@each({"with a key that signs": True, "with a digest that seals": False}, seconds=4)
-def the_ca_s_certificate_in_its_answers(t, is_signed):
-    it = Authority(t)
+CA_KEYS = {
+    "with a key that signs": ("ecdsa-sha256", True),
+    "with an RSA key that signs": ("rsa-sha256", True),
+    "with a digest that seals": ("ecdsa-sha256", False),
+}
+
+
+@each(CA_KEYS, seconds=4)
+def the_ca_s_certificate_in_its_answers(t, algorithm, is_signed):
+    it = Authority(t, algorithm)
     der, signing = der_of(t, "ca"), it.signing() if is_signed else ()
     it.signer()
     a_day(t, it, *signing)
