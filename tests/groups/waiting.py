@@ -774,18 +774,24 @@ def a_crl_of_more_than_a_socket_takes_at_once(t):
     t.has(authority.body_of(t, desk.ask("GET", "/crl"), "application/pkix-crl"), message, "the CRL has the signed message")
 
 
-@test(seconds=4)
-def a_signer_that_ends_before_it_has_read_a_long_crl_holds_up_no_line(t):
-    """The message to sign is longer than the socket's buffers. The signer reads one byte and closes the connection. The CRL then fails at once: no
-    time passes for the desk."""
-    registers.make_revoked(t.room / "ca.db", 6_000, P256_KEY)
+def long_crl(t):
+    """A signer's socket, and the control socket of a desk for which no time passes. A CRL's message is longer than a socket's buffers."""
+    registers.make_revoked(t.room / "ca.db", 6_000, P256_KEY, every=1)
     server = t.enter_context(socket.socket(socket.AF_UNIX))
     server.bind(str(t.room / "ca.sign"))
     server.listen(4)
     Passing(t, *SIGNING)
-    with ThreadPoolExecutor(1) as pool, t.control() as control:
-        control.stream.settimeout(20)
-        t.same(control.ask(f"accept-clock {program.moment_of(authority.now())}"), "clock accepted")
+    control = t.control()
+    control.stream.settimeout(20)
+    t.same(control.ask(f"accept-clock {program.moment_of(authority.now())}"), "clock accepted")
+    return server, control
+
+
+@test(seconds=4)
+def a_signer_that_ends_before_it_has_read_a_long_crl_holds_up_no_line(t):
+    """The signer reads one byte and closes the connection. The CRL then fails at once."""
+    server, control = long_crl(t)
+    with ThreadPoolExecutor(1) as pool:
         crl = pool.submit(control.ask, "crl")
         client, _ = server.accept()
         with client:
@@ -794,3 +800,20 @@ def a_signer_that_ends_before_it_has_read_a_long_crl_holds_up_no_line(t):
             time.sleep(0.3)
         with t.at_once("the line"):
             t.same(crl.result(), "F3 signer")
+
+
+@test(seconds=4)
+def a_signer_whose_answer_to_a_long_crl_is_too_long_holds_up_no_line(t):
+    """The signer reads the message, sends more bytes than a signature may have, and does not close the connection."""
+    server, control = long_crl(t)
+    with ThreadPoolExecutor(1) as pool:
+        crl = pool.submit(control.ask, "crl")
+        client, _ = server.accept()
+        with client:
+            message = program.read_all(client)
+            t.true(len(message) > 262_144, f"the message to sign has only {len(message)} bytes")
+            # By the end of this time, the desk only waits for the answer.
+            time.sleep(0.3)
+            client.sendall(bytes(8_192))
+            with t.at_once("the line"):
+                t.same(crl.result(), "F3 signer")
