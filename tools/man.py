@@ -19,6 +19,11 @@ def escaped(text):
     return text.replace("\\", "\\e").replace("-", "\\-").replace("'", "\\(aq").replace("`", "\\(ga").replace("^", "\\(ha").replace("~", "\\(ti")
 
 
+def guarded(line):
+    """The line; roff would take a dot at its beginning for that of a macro."""
+    return "\\&" + line if line.startswith(".") else line
+
+
 def inline(text):
     """Markdown text with `code`, **bold** and *emphasis*. Long code may be broken after a comma and before a slash."""
     out = []
@@ -31,8 +36,7 @@ def inline(text):
             out.append("\\fI" + escaped(part[1:-1]) + "\\fR")
         else:
             out.append(escaped(re.sub(r"docs/\w+\.md", r"/usr/share/doc/durshavon/\g<0>", part)))
-    text = "".join(out)
-    return "\\&" + text if text[:1] in (".", "'") else text
+    return guarded("".join(out))
 
 
 def head(name, section, title):
@@ -81,7 +85,7 @@ def markdown(lines):
         elif line.startswith("    "):
             out += [".PP", ".nf"]
             while at < len(lines) and lines[at].startswith("    "):
-                out.append(escaped(lines[at][4:]))
+                out.append(guarded(escaped(lines[at][4:])))
                 at += 1
             out.append(".fi")
             at -= 1
