@@ -7,6 +7,7 @@ ghost use Rattle.reg_office.specs.Replays.{HasAlgorithm, IsBeforeKey};
 ghost use Rattle.reg_store_tables.specs.LookUps.{Learns};
 
 use crate::crls::latest_der;
+use crate::replay::same_octets;
 use reg_core::{Fault, Refusal};
 use reg_crl::Signer;
 use reg_der::take;
@@ -53,15 +54,9 @@ fn has_other_algorithm(crl: &[u8], algorithm: &[u8]) -> bool
     ensures { IsTrue result → ¬ HasAlgorithm crl.now algorithm.now }
 {
     match algorithm_of(crl) {
-        Some(found) => !is_same(found, algorithm),
+        Some(found) => !same_octets(found, algorithm),
         None => false,
     }
-}
-
-fn is_same(some: &[u8], others: &[u8]) -> bool
-    ensures { some.now ≡ others.now → IsTrue result }
-{
-    some == others
 }
 
 /// The signatureAlgorithm of a CRL, in DER. For other bytes, `None` or some part of them.
