@@ -321,7 +321,7 @@ fn has_same_terms(own: &Policy, given: &Policy) -> bool
 
 /// Whether the issuers have the same Name, key, and key identifiers of the first `crls` CRLs. A stored name is the Name with all key identifiers.
 fn continues(own: &Issuer, given: &Issuer, crls: u64) -> bool
-    ensures { IsTrue result → (name_of given.now ≡ name_of own.now) × (given.now.key ≡ own.now.key)
+    ensures { IsTrue result ↔ (name_of given.now ≡ name_of own.now) × (given.now.key ≡ own.now.key)
         × ((number : ℕ) → 1 ≤ number → number ≤ crls
         → key_identifier_at given.now number ≡ key_identifier_at own.now number) }
 {
@@ -342,8 +342,8 @@ fn continues(own: &Issuer, given: &Issuer, crls: u64) -> bool
 }
 
 fn has_same_identifiers(own: &Issuer, given: &Issuer, crls: u64) -> bool
-    ensures { IsTrue result → (number : ℕ) → 1 ≤ number → number ≤ crls
-        → key_identifier_at given.now number ≡ key_identifier_at own.now number }
+    ensures { IsTrue result ↔ ((number : ℕ) → 1 ≤ number → number ≤ crls
+        → key_identifier_at given.now number ≡ key_identifier_at own.now number) }
 {
     for count in 0..crls {
         let number = count + 1;

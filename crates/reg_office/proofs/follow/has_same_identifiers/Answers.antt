@@ -1,4 +1,4 @@
-use Rattle.std.proofs.Common.{◌≡◌, ◌∙◌, ◌+◌, ℕ, inl, inr, sym, subst, arith}
+use Rattle.std.proofs.Common.{◌≡◌, ◌∙◌, ◌+◌, ℕ, inl, inr, refl, sym, subst, arith}
 use Rattle.reg_der.specs.Authority.{key_identifier_at}
 use Rattle.reg_office.proofs.FollowLookUps.{up_to}
 use Rattle.reg_office.proofs.follow.has_same_identifiers.Goals as goal
@@ -16,4 +16,4 @@ loop-count-preserved c number one within = elim (up_to number c.loop-count.count
 ]
 
 pub returns : goal.returns
-returns c is number one within = c.loop-count.invariant number one (omega arith)
+returns c = (λ is number one within. c.loop-count.invariant number one (omega arith), λ all. refl)
