@@ -140,7 +140,9 @@ impl<H: Handler> HttpConnections<H> {
     }
 
     /// Makes the connections due whose requests waited in the iteration before this one, and that still receive.
-    pub(crate) fn wake(&mut self) {
+    pub(crate) fn wake(&mut self)
+        ensures { self.new.waiting.items ≡ [] }
+    {
         for index in 0..self.waiting.len() {
             if let Some(requester) = self.waiting.get(index).copied() {
                 self.wake_one(requester);
