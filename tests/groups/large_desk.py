@@ -12,18 +12,20 @@ import socket
 from concurrent.futures import ThreadPoolExecutor
 
 from groups.changes import COUNTED, GROUNDS, Tables, asked, pages_of
+from groups.follow import inside_of, ran
 from groups.identifiers import name_of
 from groups.limits import asks, full_queue, have_passed
 from groups.lists import FIELDS
 from groups.monitoring import metrics, of
 from groups.persistent import Keeping, is_own
+from groups.second_machine import namespace
 from groups.signers import LONGEST_RSA_KEY
 from groups.waiting import Held, asked_for, own_signature
 from lib import authority, faults, program, registers
 from lib.native import ANNOUNCEMENT, frame
 from lib.passing import Passing
 from lib.program import ANY_SIGNATURE, P256_KEY, Control, Signers, moment_of, parted, read_all
-from lib.trial import Skipped, test
+from lib.trial import Skipped, need, test
 from model import der, ocsp
 from model.register import GROUNDS as TERMS
 from model.register import Certificate, Register, Revocation
@@ -683,6 +685,27 @@ def together(desk, requests, status=b"HTTP/1.1 200 OK\r\n"):
         found += read_all(client).startswith(status)
         client.close()
     return found
+
+
+@test(seconds=8)
+def a_signed_answer_that_its_socket_does_not_take_at_once(t):
+    """A socket holds 4 KiB in each direction, and the client reads 24 KiB a second, so the desk sends its answer of 80 KiB in parts, for longer
+    than a quarter of a second, in which an answer to a client that has no time left would end."""
+    need("curl", "ip")
+    host = f"desk-{os.getpid()}-small"
+    namespace(t, host)
+    sizes = "cd /proc/sys/net/ipv4 && echo 4096 4096 4096 | tee tcp_wmem tcp_rmem"
+    t.same(ran(*inside_of(host), "sh", "-c", sizes), 0, "status of what sets the sizes of buffers")
+    t.register(key=P256_KEY)
+    t.clock("2026-01-01T00:00:00Z")
+    t.signer()
+    asked, got = t.room / "request", t.room / "answer"
+    asked.write_bytes(asks(800))
+    desk = t.open("ca.db", *SIGNING, before=inside_of(host))
+    words = ("--limit-rate", "24k", "--data-binary", f"@{asked}", "-o", got, "-w", "%{http_code} %header{content-length}")
+    told = t.tool(*inside_of(host), "curl", "-s", *words, f"http://127.0.0.1:{desk.port}/ocsp").decode()
+    size = got.stat().st_size
+    t.same((told, size > 80_000, ANY_SIGNATURE in got.read_bytes()), (f"200 {size}", True, True), "its status and length; its size; its signature")
 
 
 @test(seconds=20)
