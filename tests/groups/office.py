@@ -390,6 +390,27 @@ def thousands_of_rows(t):
     t.same(complaints(browser), [], "errors in the browser's log")
 
 
+@test(seconds=15)
+def more_rows_than_the_page_keeps(t):
+    """It counts 5,010 open requests, which are overdue, and as many certificates that end soon. It can show 5,000 of each."""
+    now, count = authority.now(), 5_010
+    _, desk, front, browser = opened(t, f"{moment_of(now - HOUR)} subscriber acme\n")
+    desk.end()
+    numbers, serial = "WITH RECURSIVE row (id) AS (SELECT 1 UNION ALL SELECT id + 1 FROM row WHERE id < ?)", "CAST(printf('%020d', id) AS BLOB)"
+    for table, columns in {
+        "orders": "id, 1, 398", "cert": f"{serial}, id, {now - 20 * DAY}, {now + 20 * DAY}", "standing": f"{serial}, {now + 20 * DAY}, 'G'",
+        "request": f"id, {serial}, 8, {now - 10 * DAY}, 0",
+    }.items():  # fmt: skip
+        t.sql("ca.db", f"INSERT INTO {table} {numbers} SELECT {columns} FROM row", count)
+    t.sql("ca.db", f"UPDATE kept SET n_good = {count}")
+    t.open("ca.db", "--port", desk.port, "--control", "second")
+    load(browser, front)
+    t.same(texts(browser, "good", "open", "overdue", "ending"), ["5,010"] * 4, "counts")
+    told = ["5,010, 5,010 overdue; the first 5,000 can be shown", "5,010; the latest 5,000 can be shown", "5,010; the first 5,000 can be shown"]
+    t.same(texts(browser, "requestsnote", "recentnote", "endingnote"), told, "open requests, those of 30 days, and certificates that end soon")
+    t.same(complaints(browser), [], "errors in the browser's log")
+
+
 @test(seconds=8)
 def the_office_view_is_for_the_office_alone(t):
     need("nginx")
