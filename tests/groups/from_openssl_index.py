@@ -287,6 +287,15 @@ def subscribers_have_the_names_of_register_pem(t):
 
 
 @test
+def each_of_several_subjects_with_one_common_name_is_a_subscriber(t):
+    """Also if another subject has the name that one of them would get."""
+    subjects = ("/CN=acme", "/CN=acme.2", "/O=A/CN=acme", "/O=B/CN=acme")
+    (t.room / "index.txt").write_text("".join(f"V\t260301000000Z\t\t{at:02}\tunknown\t{it}\n" for at, it in enumerate(subjects, 1)))
+    script, _ = moved(t, "index.txt", "--days", "90", "--now", "2025-12-02T00:00:00Z")
+    t.same([line.split()[2] for line in script.splitlines() if " subscriber " in line], ["acme", "acme.2", "acme.3", "acme.4"])
+
+
+@test
 def a_subject_in_latin_1(t):
     """Indexes of old versions of openssl may have such octets."""
     (t.room / "index.txt").write_bytes("V\t260301000000Z\t\t05\tunknown\t/CN=Müller\n".encode("latin-1"))
