@@ -271,11 +271,12 @@ def a_crl_is_published_once_another_run_has_ended(t):
     _, desk = open_desk(t, "crl")
     folder = os.open(t.room / "www", os.O_RDONLY)
     fcntl.flock(folder, fcntl.LOCK_EX)
+    (t.room / "www/.publish-crl.other").mkdir()
     with ThreadPoolExecutor(1) as pool:
         run = pool.submit(publish, t, desk)
         # The script would begin to write in this time if it did not wait.
         time.sleep(1)
-        t.same((run.done(), names(t.room / "www")), (False, []), "whether the script has ended, and the files in the folder")
+        t.same((run.done(), names(t.room / "www")), (False, [".publish-crl.other"]), "whether the script has ended, and the files in the folder")
         os.close(folder)
         t.same(run.result(), (0, "crl 1 published in www\n", []))
 
@@ -888,6 +889,16 @@ def no_copy_goes_where_it_fails(t, fail, told):
     fails(t, fail(t), told)
     t.same(contents(copies), before, "the files of the older copies")
     t.same(len(names(copies)), 8, "number of entries in the folder of copies")
+
+
+@test
+def a_second_run_leaves_the_unfinished_copy_of_the_first(t):
+    copies = register_and_copies(t)
+    (copies / ".backup.first").mkdir()
+    (copies / ".backup.first/ca.db").write_text("a front")
+    before = contents(copies)
+    fails(t, held(t), "another run holds copies")
+    t.same(contents(copies), before, "the first run's files")
 
 
 @test(seconds=2)
