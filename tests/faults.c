@@ -17,6 +17,7 @@
                            `file`, or the end of a path (`ca.db-wal`), separated by commas.
    FAULTS_SLOW_CHMOD=PATH  chmod(2) waits until the file PATH exists, for at most a minute.
    FAULTS_SLOW_OPEN=PATH   open(2) of a path that FAULTS_ONLY names creates the file PATH.waits, and then waits in the same way.
+   FAULTS_SLOW_UNLINK=PATH So does unlink(2).
    FAULTS_AWAKE=1          The process never sleeps: nanosleep(2) returns at once.
    FAULTS_SAME=1           The system's random numbers are the same in each run, and so are the bytes of files.
    FAULTS_QUICK=1          A sync reports success without waiting for the disk.
@@ -62,7 +63,7 @@ static uint64_t counted_here[COUNTS], *counts = counted_here, *passed;
 static struct { uint64_t from, to; int error; } fails[KINDS];
 static uint64_t stop_at, most, lose, tick, ticks;
 static int torn, lose_files, same, quick, awake;
-static const char *only, *slow_chmod, *slow_open;
+static const char *only, *slow_chmod, *slow_open, *slow_unlink;
 
 /* The environment variables. */
 
@@ -127,7 +128,8 @@ __attribute__((constructor)) static void at_first(void) {
     const char *path = getenv("FAULTS_COUNT");
     read_fails(getenv("FAULTS_FAIL"));
     stop_at = number("FAULTS_STOP"), most = number("FAULTS_SHORT"), lose = number("FAULTS_LOSE");
-    slow_chmod = getenv("FAULTS_SLOW_CHMOD"), slow_open = getenv("FAULTS_SLOW_OPEN"), tick = number("FAULTS_TICK");
+    slow_chmod = getenv("FAULTS_SLOW_CHMOD"), slow_open = getenv("FAULTS_SLOW_OPEN"), slow_unlink = getenv("FAULTS_SLOW_UNLINK");
+    tick = number("FAULTS_TICK");
     torn = number("FAULTS_TORN") != 0, lose_files = number("FAULTS_LOSE_FILES") != 0, same = number("FAULTS_SAME") != 0;
     quick = number("FAULTS_QUICK") != 0, awake = number("FAULTS_AWAKE") != 0;
     only = getenv("FAULTS_ONLY");
@@ -458,6 +460,16 @@ static void wait_for(const char *path) {
         syscall(SYS_nanosleep, &(struct timespec){0, 10000000}, NULL);
 }
 
+/* For a path that FAULTS_ONLY names, creates the file SLOW.waits, and waits until SLOW exists. */
+static void pause_at(const char *path, const char *slow) {
+    if (!slow || !only || !is_meant(-1, path))
+        return;
+    char waits[4096];
+    snprintf(waits, sizeof waits, "%s.waits", slow);
+    syscall(SYS_close, syscall(SYS_openat, AT_FDCWD, waits, O_CREAT | O_WRONLY | O_CLOEXEC, 0600));
+    wait_for(slow);
+}
+
 int open(const char *path, int how, ...) {
     mode_t mode = 0;
     if (how & (O_CREAT | O_TMPFILE)) {
@@ -468,12 +480,7 @@ int open(const char *path, int how, ...) {
     }
     if (is_meant(-1, path) && fails_now(OPEN))
         return -1;
-    if (slow_open && only && is_meant(-1, path)) {
-        char waits[4096];
-        snprintf(waits, sizeof waits, "%s.waits", slow_open);
-        syscall(SYS_close, syscall(SYS_openat, AT_FDCWD, waits, O_CREAT | O_WRONLY | O_CLOEXEC, 0600));
-        wait_for(slow_open);
-    }
+    pause_at(path, slow_open);
     int is_new = ready && lose_files && (how & O_CREAT) && syscall(SYS_faccessat, AT_FDCWD, path, F_OK);
     int file = syscall(SYS_openat, AT_FDCWD, path, how, mode);
     if (file >= 0 && is_new && made_count < sizeof made / sizeof *made) {
@@ -500,7 +507,12 @@ int chmod(const char *path, mode_t mode) {
     return syscall(SYS_fchmodat, AT_FDCWD, path, mode);
 }
 
-int unlink(const char *path) { return stays(UNLINK, path) ? -1 : syscall(SYS_unlinkat, AT_FDCWD, path, 0); }
+int unlink(const char *path) {
+    if (stays(UNLINK, path))
+        return -1;
+    pause_at(path, slow_unlink);
+    return syscall(SYS_unlinkat, AT_FDCWD, path, 0);
+}
 
 int link(const char *from, const char *to) { return stays(LINK, to) ? -1 : syscall(SYS_linkat, AT_FDCWD, from, AT_FDCWD, to, 0); }
 

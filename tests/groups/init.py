@@ -43,6 +43,22 @@ def a_register_whose_reply_can_not_be_printed_is_not_left(t):
 
 
 @test
+def a_register_is_locked_while_it_is_removed(t):
+    """Otherwise another program could open it meanwhile, and lose its commands."""
+    env = program.environment(faults=faults.environment(slow_unlink=t.room / "goes-on", only="ca.db"))
+    words = [program.program(), "init", "ca.db", *WORDS]
+    with open("/dev/full", "wb") as full:
+        it = subprocess.Popen(words, cwd=t.room, stdin=subprocess.DEVNULL, stdout=full, stderr=subprocess.PIPE, env=env)
+    t.callback(it.kill)
+    authority.until(lambda: (t.room / "goes-on.waits").exists(), "the desk to remove the register")
+    other = t.desk("script", "ca.db", "--why", given="2026-01-01T00:00:00Z subscriber acme\n")
+    (t.room / "goes-on").touch()
+    t.same((other.status, other.out, other.err), (1, b"", b"F2 store\n  in use by another program (FILE)\n"), "the other program")
+    t.same((it.communicate(timeout=program.LONGEST)[1], it.returncode), (b"F5 write\n", 1), "the end of `desk init`")
+    t.same([it.name for it in t.room.glob("ca.db*")], [], "what is left")
+
+
+@test
 def a_read_only_file_system(t):
     ran = t.desk("init", "ca.db", *WORDS, "--why", faults=faults.environment(fail="open:1=EROFS", only="ca.db"))
     t.same((ran.status, ran.out, ran.err), (1, b"", b"F2 store\n  permission denied, or the file system is read-only (FILE)\n"))
