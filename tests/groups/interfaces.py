@@ -165,11 +165,11 @@ def eight_desks_that_open_at_one_stale_socket(t):
 
 @test
 def the_lock_of_the_folder_of_a_control_socket(t):
-    """A desk waits while another program has the lock. It releases its own lock before it listens. Its working directory is another folder."""
+    """A desk waits while another program has a lock, also a shared one. It releases its own before it listens. It works in another folder."""
     t.register()
     (t.room / "sockets").mkdir()
     folder = os.open(t.room / "sockets", os.O_RDONLY)
-    fcntl.flock(folder, fcntl.LOCK_EX)
+    fcntl.flock(folder, fcntl.LOCK_SH)
     tried = lambda: (t.room / "count").exists() and faults.counted(t.room / "count")["lock"]
     with ThreadPoolExecutor(1) as pool:
         opening = pool.submit(t.open, "ca.db", "--control", "sockets/control", faults=faults.environment(count=t.room / "count", only="sockets"))
