@@ -1480,6 +1480,46 @@ def eight_that_start_at_one_stale_socket(t):
         serving[0].stdout.close()
 
 
+# Loaded before the signer (LD_PRELOAD), this has listen(2) wait until the file `goes-on` exists.
+SLOW_LISTEN = """
+#define _GNU_SOURCE
+#include <dlfcn.h>
+#include <sys/socket.h>
+#include <unistd.h>
+
+int listen(int socket, int most) {
+    int (*real)(int, int) = dlsym(RTLD_NEXT, "listen");
+    for (int at = 0; at < 6000 && access("goes-on", F_OK) != 0; at++)
+        usleep(10000);
+    return real(socket, most);
+}
+"""
+
+
+@test(seconds=2)
+def a_signer_has_the_folder_locked_until_it_listens(t):
+    """Between bind(2) and listen(2) its socket refuses connections, as a stale one does."""
+    it = Authority(t)
+    words = [native.signer(), it.key, "ca.sign"]
+    start = lambda *before: subprocess.Popen([*before, *words], cwd=t.room, stdout=subprocess.PIPE, stderr=subprocess.PIPE)
+    first = start(*preloaded(t, "slow_listen", SLOW_LISTEN))
+    t.callback(authority.end, first)
+    authority.until(lambda: (t.room / "ca.sign").exists(), "the first signer's socket")
+    made = (t.room / "ca.sign").stat().st_ino
+    second = start()
+    t.callback(authority.end, second)
+    t.callback((t.room / "goes-on").touch)
+    # The second signer would replace the socket in this time if it had the lock.
+    time.sleep(0.5)
+    t.same(((t.room / "ca.sign").stat().st_ino, second.poll()), (made, None), "the socket's inode number, and the status of the second signer")
+    (t.room / "goes-on").touch()
+    t.same(first.stdout.readline(), b"ecdsa-sha256 at ca.sign\n", "the first signer's line")
+    told = (*second.communicate(timeout=program.LONGEST), second.returncode)
+    t.same(told, (b"", b"desk-signer: something listens at ca.sign already\n", 1), "the end of the second one")
+    t.true(signature(t.room / "ca.sign", b"a message") != b"", "the first signer gives no signature")
+    first.stdout.close()
+
+
 @test(seconds=6)
 def a_folder_that_stays_locked(t):
     """While another program has the folder's lock, the signer waits, and takes hardly any processor time."""
