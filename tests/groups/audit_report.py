@@ -319,6 +319,8 @@ def a_time_with_no_crl_and_one_that_ended(t):
     told = report(t, "--register", "ca.db", "--folder", "it", day(5), day(20))
     t.same(told.splitlines()[0], f"No CRL was valid for 12 d 0 h before {day(20)}.")
     t.same(table(t, "it", "crls"), [])
+    figures = {name.strip(): value for name, value in Page((t.room / "it/report.html").read_text(encoding="utf-8")).rows["Figures"]}
+    t.same((figures["CRLs"], figures["Times in which no CRL was valid"]), ("0", "1"), "figures")
 
 
 @test(seconds=2)
