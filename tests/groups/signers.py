@@ -196,13 +196,14 @@ def examples_signer_py_has_a_queue_for_all_requests_of_a_desk(t):
 
 @test(seconds=5)
 def examples_signer_py_started_thrice_at_a_stale_socket(t):
-    """Three signers start at once, and each takes half a second to remove the stale socket. One serves. The others report that a signer listens
-    already."""
+    """Three signers start at once, and each takes half a second to remove the stale socket, and as long from bind(2) to listen(2). One serves. The
+    others report that a signer listens already."""
     authority.need_cryptography(t)
     it = Authority(t)
     with socket.socket(socket.AF_UNIX) as stale:
         stale.bind(str(t.room / "ca.sign"))
-    slowed = ("import os, runpy, sys, time; remove = os.remove; os.remove = lambda path: (time.sleep(0.5), remove(path)); "
+    slowed = ("import os, runpy, socket, sys, time; remove = os.remove; os.remove = lambda path: (time.sleep(0.5), remove(path)); "
+              "listen = socket.socket.listen; socket.socket.listen = lambda it, most: (time.sleep(0.5), listen(it, most)); "
               "sys.argv = sys.argv[1:]; sys.path.insert(0, os.path.dirname(sys.argv[0])); runpy.run_path(sys.argv[0])")
     words = [sys.executable, "-c", slowed, str(authority.EXAMPLES / "signer.py"), str(it.key), "ca.sign"]
     processes = [subprocess.Popen(words, cwd=t.room, stdout=subprocess.PIPE, stderr=subprocess.PIPE) for _ in range(3)]
