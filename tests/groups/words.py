@@ -574,3 +574,10 @@ def a_crl_is_that_of_its_number(t):
     for number in ("0", "5", "999999999999999999"):
         ran = t.desk("crl", "ca.db", "--number", number)
         t.same((ran.status, ran.out, ran.err), (1, b"", b"E21 no-crl\n"), f"number {number}")
+
+
+@each({"a subscriber that is none": ("x", "398"), "days that are none": ("1", "x"), "more than 18 digits": ("1234567890123456789", "398"), "nothing": ("", "398")})
+def an_order_of_an_import_is_of_two_numbers(t, subscriber, days):
+    wrong = days if subscriber == "1" else subscriber
+    told = refused(t, "at", "ca.control", "--import", "rows.csv", "--orders", subscriber, days).splitlines()[0]
+    t.true(told.startswith(f"error: invalid value '{wrong}' for '--orders': {NUMBER}"), f"the value and its option are not first: {told!r}")
