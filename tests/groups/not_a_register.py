@@ -39,3 +39,13 @@ def a_command_leaves_it(t, words, given, contents, line, cause):
         with t.untouched(words[0]):
             ran = t.desk(*words, *more, given=given)
         t.same((ran.status, ran.out, ran.err), (1, b"", told.encode()))
+
+
+@each(COMMANDS)
+def a_log_beside_an_empty_file_stays_too(t, words, given):
+    for name, contents in (("ca.db", b""), ("ca.db-wal", b"what another program left")):
+        (t.room / name).write_bytes(contents)
+    words = [*words, program.free_port()] if words[-1] == "--port" else words
+    with t.untouched(words[0]):
+        ran = t.desk(*words, given=given)
+    t.same((ran.status, ran.out, ran.err), (1, b"", b"not-a-register\n"))
