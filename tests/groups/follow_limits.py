@@ -1,5 +1,6 @@
 """Limits of a follower and of its leader: many rows, pages and waiting requests, long positions, full queues, out of memory, and system calls."""
 
+import socket
 import subprocess
 import time
 
@@ -303,3 +304,31 @@ def a_request_waits_at_a_desk_whose_numbers_are_long(t):
     t.same(asked(t, leader, positions)[1:4], ([], {}, True), "a page without rows")
     took, page = timed(lambda: asked(t, leader, f"{positions}&wait=1"))
     t.true(0.9 < took < 4 * program.PATIENCE, f"{took} seconds without news")
+
+
+@test(seconds=4)
+def a_leader_whose_queue_at_a_port_was_full_is_asked_as_soon_as_it_is_connected(t):
+    """At the latest in the third of three tries. The system connects again after a second."""
+    took = []
+    with socket.socket() as server:
+        server.bind(("127.0.0.1", 0))
+        # There is room for one connection.
+        server.listen(0)
+        port = server.getsockname()[1]
+        for turn in range(3):
+            filled = socket.create_connection(("127.0.0.1", port))
+            words = ("follow", f"{turn}.db", "--from", address(port), "--port", str(program.free_port()), "--control", "copy", "--unsigned")
+            process = subprocess.Popen([program.program(), *words], cwd=t.room, stderr=subprocess.PIPE, env=program.environment())
+            t.callback(end, process)
+            # State 02: the connection is requested.
+            until(lambda: f":{port:04X} 02 " in open("/proc/net/tcp").read(), "a new copy to connect")
+            server.accept()[0].close()
+            filled.close()
+            client, begun = server.accept()[0], time.monotonic()
+            with client:
+                t.has(client.recv(65_536).decode(), "GET /changes HTTP/1.1\r\n")
+                took.append(time.monotonic() - begun)
+            process.kill()
+            if took[-1] < 1:
+                break
+    t.true(min(took) < 1, f"seconds from the connection to the request: {took}")
