@@ -21,6 +21,7 @@ from pathlib import Path
 
 from groups.limits import full_queue
 from groups.only_ours import forms_of_answer, handed, other_crls, to_be_signed
+from groups.responder import below_a_root
 from lib import authority, native, program
 from lib.authority import EXAMPLES, KEYS, Authority, values_of
 from lib.native import ANNOUNCEMENT, NAME, answer, asked, connected, ended, frame, signature, started
@@ -481,6 +482,16 @@ def certificates_of_other_forms(t):
     t.same((len(issuer.key_identifiers), compared(t, ours(issuer), it)), (2, 5), "a long subject and an odd extension: key identifiers, accepted")
     (t.room / "ca.der").write_bytes(t.tool("openssl", "x509", "-in", it.pem, "-outform", "DER"))
     t.same(t.tool(native.signer(), "--only-ours", "ca.der", it.key), b"ecdsa-sha256\n", "the certificate in DER")
+
+
+@test(seconds=3)
+def a_ca_whose_certificate_another_one_issued(t):
+    """The name in its CRLs is its own, which is the subject of its certificate."""
+    it = Authority(t)
+    name = filter_module().issuer_of(it.pem).name
+    below_a_root(t, it)
+    issuer = filter_module().issuer_of(it.pem)
+    t.same((issuer.name, compared(t, ours(issuer), it)), (name, len(ours(issuer))), "the name of the CA, and accepted messages")
 
 
 def authority_key_identifier(count):
