@@ -1040,20 +1040,21 @@ def a_client_that_reads_no_answers(t):
 
 @test(seconds=13)
 def an_idle_connection_has_no_time_limit(t):
-    """A client is idle for twelve seconds. Another one is idle for eight, and needs four for its message. A third one's message takes too long."""
+    """A client is idle for twelve seconds. Another one is idle for nine, and needs three for its message. A third one is cut off after ten."""
     it = Authority(t)
     process = started(t, "--persistent", it.key)
     idle, later, slow = (persistent(t) for _ in range(3))
     for client in (idle, later, slow):
         verifies(t, it, b"a message", asked(client, b"a message"))
-    slow.sendall(frame(b"a message")[:5])
-    time.sleep(8)
-    later.sendall(frame(b"a message")[:5])
-    time.sleep(4)
+    with t.ten_seconds("the end of the third one"):
+        slow.sendall(frame(b"a message")[:5])
+        time.sleep(9)
+        later.sendall(frame(b"a message")[:5])
+        t.same(answer(slow), None, "the answer to a message that has not come whole")
+    time.sleep(2)
     later.sendall(frame(b"a message")[5:])
-    verifies(t, it, b"a message", answer(later), "a message after eight seconds")
+    verifies(t, it, b"a message", answer(later), "a message after nine seconds")
     verifies(t, it, b"a message", asked(idle, b"a message"), "a message after twelve seconds")
-    t.same(answer(slow), None, "the answer to a message that has not come whole")
     t.same(ended(process), (0, [f"{NAME}a connection failed: its message took longer than ten seconds"]), "standard error")
 
 
