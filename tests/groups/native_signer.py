@@ -1852,6 +1852,9 @@ def memory_that_can_t_be_locked(t):
     if subprocess.run(["bash", "-c", "ulimit -H -l unlimited"], capture_output=True).returncode == 0:
         raised = ["bash", "-c", 'ulimit -H -l unlimited; ulimit -S -l 64; exec "$@"', "-", *as_nobody, copy]
         authority.started(t, [*raised, it.key, "raised.sign"], t.room / "raised.sign")
+    # Each process may raise its limit up to the hard one.
+    partly = ["bash", "-c", 'ulimit -H -l 8192; ulimit -S -l 64; exec "$@"', "-", *as_nobody, copy]
+    authority.started(t, [*partly, it.key, "partly.sign"], t.room / "partly.sign")
     # The limit of systemd and of Debian's kernel.
     usual = ["bash", "-c", 'ulimit -l 8192; exec "$@"', "-", *as_nobody, copy]
     authority.started(t, [*usual, "--only-ours", it.pem, it.key, "usual.sign"], t.room / "usual.sign")
