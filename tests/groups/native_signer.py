@@ -51,13 +51,13 @@ def verifies(t, it, message, signed, what=""):
 # Messages as the desk writes them, by hand
 
 
-def crl_by_hand(issuer, serials=(b"\x05", b"\0\x80", b"\x7f" + bytes(19)), identifier=None):
+def crl_by_hand(issuer, serials=(b"\x05", b"\0\x80", b"\x7f" + bytes(19)), identifier=None, number=b"\x07"):
     """A TBSCertList with these serial numbers; every second one has a reason, and every third one was revoked in 2050."""
     rows = b"".join(
         tlv(SEQUENCE, tlv(INTEGER, it), tlv(GENERAL, b"20500101000000Z") if at % 3 == 2 else tlv(UTC, b"260101000000Z"),
             bytes.fromhex("300C300A0603551D150403") + b"\x0A\x01\x01" if at % 2 else b"")
         for at, it in enumerate(serials))
-    extensions = tlv(SEQUENCE, identifier or issuer.key_identifiers[0], tlv(SEQUENCE, bytes.fromhex("0603551D14"), tlv(OCTETS, b"\x02\x01\x07")))
+    extensions = tlv(SEQUENCE, identifier or issuer.key_identifiers[0], tlv(SEQUENCE, bytes.fromhex("0603551D14"), tlv(OCTETS, tlv(INTEGER, number))))
     moments = tlv(UTC, b"260101000000Z") + tlv(GENERAL, b"20500101000000Z")
     return tlv(SEQUENCE, b"\x02\x01\x01", issuer.algorithm, issuer.name, moments, tlv(SEQUENCE, rows) if rows else b"", tlv(0xA0, extensions))
 
@@ -1976,3 +1976,14 @@ def clients_that_only_connect_are_spread_over_the_processes(t):
     # Each process has the listener too.
     counts = [sum(os.readlink(it).startswith("socket:") for it in Path(f"/proc/{number}/fd").iterdir()) - 1 for number in numbers]
     t.true(max(counts) - min(counts) <= 2, f"connections of each process: {counts}")
+
+
+@test(seconds=2)
+def crls_with_numbers_of_any_form(t):
+    """In DER, the CRL numbers 128 to 255 and 32,768 to 65,535 have a first octet 0."""
+    it = Authority(t)
+    issuer = filter_module().issuer_of(it.pem)
+    started(t, "--only-ours", it.pem, it.key)
+    for number in (b"\1", b"\x7F", b"\0\x80", b"\0\xFF", b"\1\0", b"\0\x80\0", b"\0\xFF\xFF"):
+        message = crl_by_hand(issuer, number=number)
+        verifies(t, it, message, signature(t.room / "ca.sign", message), f"CRL {number.hex()}")
