@@ -1987,3 +1987,18 @@ def crls_with_numbers_of_any_form(t):
     for number in (b"\1", b"\x7F", b"\0\x80", b"\0\xFF", b"\1\0", b"\0\x80\0", b"\0\xFF\xFF"):
         message = crl_by_hand(issuer, number=number)
         verifies(t, it, message, signature(t.room / "ca.sign", message), f"CRL {number.hex()}")
+
+
+@test(seconds=2)
+def a_process_that_can_not_serve_is_noticed_at_the_start(t):
+    """Without privileges, no process can become a user. The first one starts the second, which fails, before it needs the privileges itself."""
+    need("setpriv")
+    it = Authority(t)
+    t.room.chmod(0o777)
+    it.key.chmod(0o444)
+    copy = shutil.copy(native.signer(), t.room / "desk-signer")
+    as_nobody = ("setpriv", "--reuid", "65534", "--regid", "65534", "--clear-groups", "--inh-caps=-all", "--bounding-set=-all")
+    ran = t.tried(*(as_nobody if os.geteuid() == 0 else ()), copy, "--user", "nobody", "--processes", 2, "--allow-swap", it.key, "ca.sign")
+    told = b"desk-signer: can't become nobody: Operation not permitted\ndesk-signer: another process doesn't start\n"
+    t.same((ran.returncode, ran.stdout, ran.stderr), (1, b"", told), "status, output, standard error")
+    t.same((t.room / "ca.sign").exists(), False, "whether there is a socket")
