@@ -2002,3 +2002,15 @@ def a_process_that_can_not_serve_is_noticed_at_the_start(t):
     told = b"desk-signer: can't become nobody: Operation not permitted\ndesk-signer: another process doesn't start\n"
     t.same((ran.returncode, ran.stdout, ran.stderr), (1, b"", told), "status, output, standard error")
     t.same((t.room / "ca.sign").exists(), False, "whether there is a socket")
+
+
+@test(seconds=4)
+def a_desk_is_idle_once_its_answers_are_signed(t):
+    """The signatures come within the fraction of a millisecond in which the desk polls for them without waiting."""
+    it = Authority(t)
+    it.register()
+    started(t, "--persistent", it.key)
+    desk = t.open("ca.db", *it.signing())
+    for _ in range(20):
+        authority.body_of(t, desk.ask("GET", authority.path_of(it.asks("06"))))
+    is_idle(t, desk.process)
