@@ -516,8 +516,11 @@ def a_responder_signs_its_answers_alone(t):
 
 @test(seconds=3)
 def a_certificate_of_another_key_is_not_taken(t):
+    """The certificate is of another key of the same curve, of another curve, or of another kind of key."""
     it, other, curve = Authority(t), Authority(t, name="other"), Authority(t, "ecdsa-sha384", name="curve")
+    kind = Authority(t, "ed25519", name="kind")
     rows = [(["--only-ours", other.pem], b"other.pem: it is the certificate of another key"), (["--only-ours", curve.pem], b"the certificate of another key"),
+            (["--only-ours", kind.pem], b"kind.pem: it is the certificate of another key"),
             (["--only-ours", it.key], b"no certificate of a CA"), (["--only-ours", "nowhere.pem"], b"no certificate of a CA"),
             (["--only-ours", it.pem, "--responder", other.pem], b"other.pem: it is the certificate of another key"),
             (["--only-ours", it.pem, "--responder", it.key], b"no certificate of a responder")]
