@@ -1556,20 +1556,30 @@ def a_client_whose_answer_makes_room_is_not_lost(t):
     desk.loses()
 
 
-@test(seconds=4)
-def answers_that_nobody_takes_have_64_mib_together(t):
-    """The sockets take no byte, and no time passes. 67 answers of a megabyte fit, and the next one does not, so the oldest connection is closed."""
-    t.register(lines=f"{DAY} crl\n{DAY} crl\n")
-    t.sql("ca.db", "UPDATE crl SET der = zeroblob(1000000) WHERE number = 1")
+# Requests for a long answer, and for one that nobody signs.
+LONG_ANSWER = b"GET /crl/1 HTTP/1.1\r\n\r\n"
+UNSIGNED_ANSWER = b"POST /ocsp HTTP/1.1\r\nContent-Length: %d\r\n\r\n" % len(asks(1)) + asks(1)
+# The bytes of a CRL, how many answers with it fit, how many requests follow, and which.
+UNTAKEN = {"another of a megabyte": (1_000_000, 67, 1, LONG_ANSWER), "answers that no signer signed": (8_388_000, 8, 60, UNSIGNED_ANSWER)}
+
+
+@each(UNTAKEN, seconds=4)
+def answers_that_nobody_takes_have_64_mib_together(t, size, fit, more, request):
+    """The sockets take no byte, and no time passes. The first answers fit, and what follows does not, so the oldest connection is closed."""
+    t.register(key=P256_KEY, lines=f"{DAY} crl\n{DAY} crl\n")
+    t.sql("ca.db", f"UPDATE crl SET der = zeroblob({size}) WHERE number = 1")
     have_passed(t, 0)
-    desk = t.open("ca.db", "--log", faults=faults.environment(passed=t.room / "passed", fail="write:1+=EAGAIN", only="socket"))
+    desk = t.open("ca.db", "--log", *SIGNING, faults=faults.environment(passed=t.room / "passed", fail="write:1+=EAGAIN", only="socket"))
     logged, clients = lambda word: [it for it in desk.log if word in it], []
-    for count in range(1, 69):
+    for count in range(1, fit + 1):
         clients.append(t.enter_context(desk.connect()))
-        clients[-1].sendall(b"GET /crl/1 HTTP/1.1\r\n\r\n")
+        clients[-1].sendall(LONG_ANSWER)
         authority.until(lambda: len(logged('"GET /crl/1')) == count, f"answer {count}", seconds=20)
+    t.same(logged(" lost "), [], f"lost connections after {fit} answers")
+    for _ in range(more):
+        t.enter_context(desk.connect()).sendall(request)
     authority.until(lambda: logged(" lost "), "a lost connection", seconds=10)
-    t.same([it.split(":")[-1] for it in logged(" lost ")], [f"{clients[0].getsockname()[1]} lost crowded"], "lost connections after 68 answers of a megabyte")
+    t.same([it.split(":")[-1] for it in logged(" lost ")], [f"{clients[0].getsockname()[1]} lost crowded"], "lost connections after all answers")
 
 
 @test
