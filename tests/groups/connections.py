@@ -13,7 +13,7 @@ from lib import faults
 from lib.authority import until
 from lib.passing import Passing
 from lib.program import LONGEST, Control, is_read, parted, read_all
-from lib.trial import Skipped, test
+from lib.trial import Skipped, each, test
 
 DAY = "2026-01-01T00:00:00Z"
 COUNTS = b"GET /counts HTTP/1.1\r\nHost: localhost\r\n\r\n"
@@ -383,20 +383,22 @@ def a_connection_that_only_drops_bytes_ends_with_its_client(t):
     desk.loses()
 
 
-@test
-def an_answered_connection_is_evicted_before_the_oldest(t):
-    entered(t)
+@each({"it has its answer": ((), COUNTS + b"more", True), "it does not take its answer": ((LARGE,), CRL, False)})
+def an_answered_connection_is_evicted_before_the_oldest(t, sizes, request, is_taken):
+    entered(t, *sizes)
     desk = Passing(t)
     t.tool("prlimit", "--pid", desk.desk.process.pid, f"--nofile={desk.before + 3}:{desk.before + 3}")
-    oldest, has_it = desk.comes(COUNTS[:9]), desk.comes(COUNTS + b"more")
-    t.same(parted(read_all(has_it))[0], 200)
+    oldest, answered = desk.comes(COUNTS[:9]), desk.comes(request)
+    t.same(answered.recv(1), b"H", "the first byte of its answer")
+    if is_taken:
+        t.same(parted(b"H" + read_all(answered))[0], 200)
     newest = client(t, desk.desk, COUNTS[:9])
     until(lambda: desk.files == desk.before + 3, "three connections, which use all descriptors")
     at_once(t, desk.desk, "them")
     for it in (oldest, newest):
         it.sendall(COUNTS[9:])
         t.same(parted(read_all(it))[0], 200, "a connection that had no answer yet")
-    desk.loses()
+    desk.loses(*([] if is_taken else [answered]), why="crowded")
 
 
 @test(seconds=10)
