@@ -123,6 +123,7 @@ def a_client_that_leaves_takes_no_reply_of_others(t):
     with clients[0]:
         pass
     until(lambda: open_ones() == 3, "the end of one connection")
+    t.same(metrics(t, leader)['desk_connections_lost_total{why="broken"}'], 1, "lost connections")
     confirm(t, leader, other, 7)
     t.same([lines.file.readline().strip() for lines in clients[1:]], [b"subscriber 4", b"subscriber 5"], "the replies")
 
