@@ -271,7 +271,7 @@ def a_signed_crl_behind_a_thousand_rows(t):
 
 @test(seconds=3)
 def a_line_that_is_signed_blocks_nobody(t):
-    """A copy signs OCSP answers: while the line `ocsp` waits for its signer, others get their answers."""
+    """A copy signs OCSP answers: while the line `ocsp` waits for its signer, others get their answers. It refuses `crl` without asking its signer."""
     t.register(key=P256_KEY, lines=LINES)
     t.clock(CLOCK)
     leader, control = t.open(), t.control()
@@ -279,6 +279,7 @@ def a_line_that_is_signed_blocks_nobody(t):
     copy = Copy(t, address(leader.port), signing=SIGNING)
     copy.follows(leader)
     until(lambda: copy.leader["current"], "the leader")
+    t.same((copy.lines.ask("crl"), held.signers.asked), ("follower", []), "the reply to `crl`, and the messages to the signer")
     sender = Sender(t, f"ocsp {asked_for(0x1105).hex()}", copy.name)
     t.true(held.signers.until(1), "the signer is not asked")
     began = time.monotonic()
