@@ -180,15 +180,17 @@ def a_new_copy_that_has_no_memory_says_so(t):
 
 @test(seconds=3)
 def a_new_copy_asks_again_after_a_second(t):
-    times, failures = [], iter([(503, b"")])
+    """It says each failure that differs from the one before."""
+    times, failures = [], iter([(503, b""), (404, b"")])
 
     def answer(target, status, body):
         times.append(time.monotonic())
         return next(failures, None) or (status, body)
 
     leader, server = fills(t, answer)
-    Copy(t, address(server.port))
+    copy = Copy(t, address(server.port))
     t.true(0.9 < times[1] - times[0] < 8, f"it asked again after {times[1] - times[0]:.1f} seconds")
+    t.same(copy.desk.log[:2], ["follow: leader answered 503", "follow: leader answered 404"], "what it says")
 
 
 @test(seconds=3)
