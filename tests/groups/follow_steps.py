@@ -208,6 +208,22 @@ def a_leader_that_is_too_far_ahead(t):
     t.same((ran.status, ran.err_lines[-1]), (1, "too-far-behind"), "its end")
 
 
+@test(seconds=4)
+def a_leader_that_is_512_pages_ahead(t):
+    """That is not too far: the follower enters all of them."""
+    it = Slow(t)
+    it.asks(FIRST)
+    rows = [f"{number} s{number}" for number in range(3, 515)]
+    after = [with_rows(it.tables, subscriber=rows[:count]) for count in range(1, len(rows) + 1)]
+    ends = ["more"] * (len(rows) - 1) + ["end"]
+    pages = iter([(200, paged(it.tables, [f"subscriber {row}"], tail=f"{end} {then.positions()}")) for row, end, then in zip(rows, ends, after)])
+    it.leader.answer = lambda target: next(pages, no_news(after[-1], LATER))
+    it.set_forward(10)
+    until(lambda: it.health()["failure"] or it.health()["positions"] == after[-1].positions(), "512 pages")
+    got = it.health()
+    t.same((got["failure"], got["refused"], got["positions"]), (None, 0, after[-1].positions()), "after 512 pages")
+
+
 def megabytes(it, count):
     """A page with a CRL of so many megabytes, which is not the last one. Its rows are checked only once there is a last page."""
     counts = it.tables.positions().split(".")
