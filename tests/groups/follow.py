@@ -656,6 +656,7 @@ def a_responder_of_its_own(t, has_crl, is_signed):
     copy.follows(leader)
     t.same(ca.reads("06", body_of(t, copy.desk.ask("POST", "/ocsp", ca.asks("06"), headers=[OCSP]))), "revoked", "OCSP after a revocation")
     t.same(copy.lines.ask("crl"), "follower", "a CRL of the copy")
+    t.same(copy.refused, 0, "refused pages")
     copy.desk.end()
     t.same(control.ask("crl"), f"crl {number + 1} entries 2")
     Copy(t, address(leader.port), signing=responder.words()).is_like(control)
