@@ -114,6 +114,18 @@ def a_crl_of_more_than_16_mib_is_compared(t):
     serves(t, crl="long.crl")
 
 
+@test
+def a_crl_that_is_larger_than_the_memory(t):
+    """The file has 200 MB, and the program may have 95 MB."""
+    t.register()
+    (t.room / "long.crl").touch()
+    os.truncate(t.room / "long.crl", 200_000_000)
+    for words in (("open", "ca.db", "--control", "control", "--unsigned"), ("serve", "ca.db", "--requests", "1")):
+        more = ("--port", program.free_port(), "--published", "long.crl")
+        ran = t.tried("prlimit", "--as=95000000", program.program(), *words, *more)
+        t.same((ran.returncode, ran.stdout, ran.stderr), (1, b"", b"F1 memory\n"), words[0])
+
+
 @test(seconds=2)
 def hundreds_of_entries_that_are_not_revoked(t):
     registers.make_revoked(t.room / "ca.db", 300, program.KEY)
