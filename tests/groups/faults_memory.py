@@ -117,6 +117,16 @@ def a_job_that_is_refused_is_done_the_next_time(t, words, given, base):
         t.same(faults.tables(t.room / "ca.db"), after, f"{where}: the tables at the end")
 
 
+@each({name: JOBS[name] for name in ("import", "list", "audit")})
+def a_file_that_the_system_has_no_memory_to_open(t, words, given, base):
+    """open(2) fails with ENOMEM. An operator who is told of the store looks at the disk."""
+    t.register(lines=script(REGISTERED))
+    last = faults.total(t, words, "open", given, only="ca.db,ca.db-wal")
+    for at in range(1, last + 1):
+        ran, count = faults.run(t, words, given, only="ca.db,ca.db-wal", fail=f"open:{at}=ENOMEM")
+        t.same((ran.status, ran.out, ran.err, count["met"]), (1, b"", b"F1 memory\n", 1), f"open {at}")
+
+
 # HTTP requests to an open desk, with the status and the body of each response. Two lines at the control socket follow them (asked_of).
 ASKED = [
     ("GET", "/counts", None, 200, b'{"expired":0,"good":1,"revoked":0}'),
