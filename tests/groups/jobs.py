@@ -296,10 +296,18 @@ def no_right_to_read(t):
 
 @test
 def no_right_to_make(t):
+    """Neither a register nor a control socket."""
+    t.register()
+    for file in t.room.iterdir():
+        os.chmod(file, 0o666)
     folder = t.room / "closed"
     folder.mkdir(mode=0o555)
-    ran = t.as_nobody("init", "closed/ca.db", "--name", program.NAME, "--key", program.KEY, "--why")
-    t.same((ran.returncode, ran.stdout, ran.stderr), (1, b"", b"F2 store\n  permission denied, or the file system is read-only (FILE)\n"))
+    init = ("init", "closed/ca.db", "--name", program.NAME, "--key", program.KEY)
+    opens = ("open", "ca.db", "--port", program.free_port(), "--control", "closed/control", "--unsigned")
+    for words, line, place in ((init, b"F2 store", b"FILE"), (opens, b"F4 read", b"--control")):
+        ran = t.as_nobody(*words, "--why")
+        told = b"%s\n  permission denied, or the file system is read-only (%s)\n" % (line, place)
+        t.same((ran.returncode, ran.stdout, ran.stderr), (1, b"", told), words[0])
     t.same(list(folder.iterdir()), [])
 
 
