@@ -2205,6 +2205,21 @@ def a_job_with_another_signer_leaves_nothing_in_the_log(t):
     t.has(t.done("audit", "ca.db"), "sound, 50 certificates, ")
 
 
+@test
+def a_second_init_leaves_nothing_in_the_log(t):
+    """The desk was killed, so the log has pages. The job refuses the register, but copies the log into the file."""
+    t.register()
+    desk = t.open()
+    t.same(t.control().ask("subscriber acme"), "subscriber 1")
+    desk.end(signal.SIGKILL)
+    t.true((t.room / "ca.db-wal").stat().st_size > 4_096, "the log has no page")
+    ran = t.desk("init", "ca.db", "--name", program.NAME, "--key", program.KEY)
+    t.same((ran.status, ran.out, ran.err), (1, b"", b"not-empty\n"))
+    size = (t.room / "ca.db-wal").stat().st_size
+    t.true(size < 4_096, f"the log has {size} bytes, which are a page and more")
+    t.same(t.done("list", "ca.db", "subscribers"), "subscriber,name\n1,acme\n")
+
+
 @test(seconds=2)
 def the_log_of_an_open_register_stays_short(t):
     """Before a transaction, the desk copies a log of a thousand pages into the file, and begins it anew."""
