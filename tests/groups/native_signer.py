@@ -1630,7 +1630,8 @@ def it_uses_no_processor_time_while_256_clients_wait_for_their_turn(t):
 
 @test(seconds=3)
 def its_standard_streams(t):
-    """If the standard streams are closed from the start, no client gets a warning as its signature. If their reader ends, the signer goes on."""
+    """If the standard streams are closed from the start, no client gets a warning as its signature. If their reader ends, the signer goes on. It
+    prints one line, also with several processes."""
     it = Authority(t)
     message = answer_by_hand(filter_module().issuer_of(it.pem))
     words = [native.signer(), "--only-ours", it.pem, it.key]
@@ -1644,6 +1645,13 @@ def its_standard_streams(t):
     process.stderr.close()
     t.same(signature(t.room / "ca.sign", b"hello"), b"", "the reply to a message that is refused, while nobody reads standard error")
     verifies(t, it, message, signature(t.room / "ca.sign", message))
+    with open(t.room / "told", "wb") as told:
+        process = subprocess.Popen([*words, "--processes", "3", "told.sign"], cwd=t.room, stdin=subprocess.DEVNULL, stdout=told, stderr=subprocess.PIPE)
+    t.callback(authority.end, process)
+    authority.until(lambda: (t.room / "told").read_bytes(), "its line on standard output")
+    verifies(t, it, message, signature(t.room / "told.sign", message))
+    t.same(ended(process), (0, []), "its status and standard error")
+    t.same((t.room / "told").read_bytes(), b"ecdsa-sha256 at told.sign\n", "standard output of three processes")
 
 
 @test(seconds=2)
