@@ -1682,6 +1682,58 @@ def what_it_was_started_with(t):
     t.same(ended(process), (0, []), "ended by SIGTERM")
 
 
+# Loaded before the signer, this has it get SIGTERM when it is about to sleep after its first answer, if STOP is "sleep"; else when it lets signals
+# through for a moment because a client has come, with SIGCHLD right after SIGTERM.
+STOP = """
+#define _GNU_SOURCE
+#include <dlfcn.h>
+#include <poll.h>
+#include <signal.h>
+#include <stdbool.h>
+#include <stdlib.h>
+#include <string.h>
+#include <sys/socket.h>
+
+static bool has_answered;
+
+static bool stops_asleep(void) {
+    return strcmp(getenv("STOP"), "sleep") == 0;
+}
+
+ssize_t send(int to, const void *octets, size_t length, int flags) {
+    ssize_t (*real)(int, const void *, size_t, int) = dlsym(RTLD_NEXT, "send");
+    has_answered = true;
+    return real(to, octets, length, flags);
+}
+
+int ppoll(struct pollfd *polled, nfds_t count, const struct timespec *timeout, const sigset_t *signals) {
+    int (*real)(struct pollfd *, nfds_t, const struct timespec *, const sigset_t *) = dlsym(RTLD_NEXT, "ppoll");
+    if (stops_asleep() && has_answered && (timeout->tv_sec || timeout->tv_nsec))
+        raise(SIGTERM);
+    return real(polled, count, timeout, signals);
+}
+
+int sigprocmask(int how, const sigset_t *signals, sigset_t *before) {
+    int (*real)(int, const sigset_t *, sigset_t *) = dlsym(RTLD_NEXT, "sigprocmask");
+    int result = real(how, signals, before);
+    if (!stops_asleep() && how == SIG_SETMASK && !sigismember(signals, SIGTERM)) {
+        raise(SIGTERM);
+        raise(SIGCHLD);
+    }
+    return result;
+}
+"""
+
+
+@each({"as it goes to sleep": "sleep", "beside the end of a child": "child"}, seconds=2)
+def sigterm_at_any_moment_ends_it(t, when):
+    it = Authority(t)
+    process = started(t, "--fresh-nonces", it.key, before=preloaded(t, "stop", STOP, f"STOP={when}"))
+    with t.at_once("its end"):
+        signature(t.room / "ca.sign", b"a message")
+        t.same((process.wait(20), process.stderr.read()), (0, b""), "its status and standard error")
+
+
 @test(seconds=2)
 def it_notices_the_end_of_its_process_beside_that_of_another_child(t):
     """A child from before exec(3) and a process of the signer end while the signer is stopped, so that it gets one SIGCHLD for both."""
