@@ -1382,6 +1382,8 @@ def a_terminal_shows_the_rows_and_crls_of_an_audit(t):
     tables = ("office", "subscriber", "orders", "cert", "request", "revocation", "crl", "standing", "kept", "listed")
     t.same(rows[-1], sum(t.sql("ca.db", f"SELECT count(*) FROM {it}")[0][0] for it in tables), "rows of the last line, and of these tables")
     t.same(crls[-1], 4, "CRLs")
+    few = len(on_a_terminal(t, "audit", "ca.db", tick=100))
+    t.true(0 < few <= len(shown) // 10 + 1, f"{len(shown)} lines in so many seconds, but {few} in a tenth of these")
     t.same(t.desk("audit", "ca.db", faults=faults.environment(tick=1_000)).err, b"", "standard error that is no terminal")
     (t.room / "passed").write_bytes(bytes(8))
     t.same(on_a_terminal(t, "audit", "ca.db", passed=t.room / "passed"), [], "what the terminal shows in less than a second")
