@@ -1,6 +1,8 @@
 -- Why a file, a port or the clock can't be used, why a signer does not fit a register, or which part of a policy is invalid: the line of each cause.
 use Rattle.std.specs.Prelude.{ℕ, Bool, ◌||◌, nat_lt, List, codes, if◌then◌else◌, Some, None}
 use Rattle.std.specs.declared.option.Option.{Option}
+use Rattle.std.specs.declared.io.ErrorKind.{ErrorKind}
+use Rattle.std.specs.declared.io.ErrorKind.TheVariants as kind
 use Rattle.reg_core.specs.declared.cause.Cause.{Cause}
 use Rattle.reg_core.specs.declared.cause.Cause.TheVariants as cause
 
@@ -22,6 +24,26 @@ cause_line cause.CrlLife = codes "  --crl-life: 1 to 863999"
 cause_line cause.OcspLife = codes "  --ocsp-life: 28800 to 863999"
 cause_line cause.Cap = codes "  --cap: 1 to 1000000"
 cause_line cause.Steps = codes "  1 to 16 MOMENT=DAYS, ascending from 1970-01-01, DAYS 1 to 398"
+
+-- the cause of a failed system call, by the kind of its error, if that has one
+unfoldable pub io_cause : ErrorKind → Option Cause
+io_cause kind.NotFound = Some cause.NoFile
+io_cause kind.PermissionDenied = Some cause.NoPermission
+io_cause kind.ReadOnlyFilesystem = Some cause.NoPermission
+io_cause kind.AddrInUse = Some cause.InUse
+io_cause kind.StorageFull = Some cause.DiskFull
+io_cause kind.QuotaExceeded = Some cause.DiskFull
+io_cause _ = None
+
+-- the same of the call that creates a file
+unfoldable pub create_cause : ErrorKind → Option Cause
+create_cause kind.AlreadyExists = Some cause.PathExists
+create_cause it = io_cause it
+
+-- the same of the call that binds a port
+unfoldable pub port_cause : ErrorKind → Option Cause
+port_cause kind.AddrInUse = Some cause.PortInUse
+port_cause it = io_cause it
 
 -- whether a number is below `least` or above `most`
 abbrev pub is_out : ℕ → ℕ → ℕ → Bool

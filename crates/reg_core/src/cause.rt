@@ -1,5 +1,5 @@
 ghost use Rattle.std.specs.Prelude.{◌≡◌, ◌≤◌, Some, None, length, if◌then◌else◌};
-ghost use Rattle.reg_core.specs.Causes.{cause_line, policy_cause};
+ghost use Rattle.reg_core.specs.Causes.{cause_line, create_cause, io_cause, policy_cause, port_cause};
 
 use crate::Label;
 use std::io::ErrorKind;
@@ -71,12 +71,9 @@ fn line_of(text: &[u8]) -> Label
 }
 
 /// The cause of a failed system call, by the kind of its error; `None` for a kind without a cause.
+#[tactic(auto, unfolding(crate::specs::Causes::io_cause))]
 pub fn io_cause_of(kind: ErrorKind) -> Option<Cause>
-    ensures no_file { kind ≡ ErrorKind.NotFound → result ≡ Some Cause.NoFile }
-    ensures no_right { kind ≡ ErrorKind.PermissionDenied → result ≡ Some Cause.NoPermission }
-    ensures in_use { kind ≡ ErrorKind.AddrInUse → result ≡ Some Cause.InUse }
-    ensures disk_full { kind ≡ ErrorKind.StorageFull → result ≡ Some Cause.DiskFull }
-    ensures no_quota { kind ≡ ErrorKind.QuotaExceeded → result ≡ Some Cause.DiskFull }
+    ensures { result ≡ io_cause kind }
 {
     match kind {
         ErrorKind::NotFound => Some(Cause::NoFile),
@@ -88,10 +85,9 @@ pub fn io_cause_of(kind: ErrorKind) -> Option<Cause>
 }
 
 /// As [`io_cause_of`], for the call that creates a new file.
+#[tactic(auto, unfolding(crate::specs::Causes::create_cause))]
 pub fn create_cause_of(kind: ErrorKind) -> Option<Cause>
-    ensures taken { kind ≡ ErrorKind.AlreadyExists → result ≡ Some Cause.PathExists }
-    ensures no_right { kind ≡ ErrorKind.PermissionDenied → result ≡ Some Cause.NoPermission }
-    ensures disk_full { kind ≡ ErrorKind.StorageFull → result ≡ Some Cause.DiskFull }
+    ensures { result ≡ create_cause kind }
 {
     match kind {
         ErrorKind::AlreadyExists => Some(Cause::PathExists),
@@ -100,9 +96,9 @@ pub fn create_cause_of(kind: ErrorKind) -> Option<Cause>
 }
 
 /// As [`io_cause_of`], for the call that binds a port.
+#[tactic(auto, unfolding(crate::specs::Causes::port_cause))]
 pub fn port_cause_of(kind: ErrorKind) -> Option<Cause>
-    ensures in_use { kind ≡ ErrorKind.AddrInUse → result ≡ Some Cause.PortInUse }
-    ensures no_right { kind ≡ ErrorKind.PermissionDenied → result ≡ Some Cause.NoPermission }
+    ensures { result ≡ port_cause kind }
 {
     match kind {
         ErrorKind::AddrInUse => Some(Cause::PortInUse),
