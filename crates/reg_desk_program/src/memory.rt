@@ -20,7 +20,7 @@ use reg_desk_cli::Failure;
 use reg_desk_files::Overlay;
 use reg_desk_service::ended;
 use reg_io::{Sink, Source};
-use reg_lines::run_script;
+use reg_lines::run_script_in_batches;
 use reg_office::Office;
 use sqlite::{Connection, FileStore, Options};
 use sqlite_disk::Files;
@@ -60,7 +60,7 @@ pub(crate) fn script_in_memory<R: Source, W: Sink>(
 {
     let mut fresh = office_in_memory(alloc)?;
     // `ended` makes a `Failure` of a fault.
-    ended(run_script(alloc, reader, writer, &mut fresh))
+    ended(run_script_in_batches(alloc, reader, writer, &mut fresh))
 }
 
 fn office_in_memory(alloc: Global) -> Result<MemoryOffice, Failure>

@@ -1,4 +1,5 @@
 pub mod Accepting
+pub mod BatchLemmas
 pub mod Beginnings
 pub mod FieldLemmas
 pub mod Meanings

@@ -1,5 +1,5 @@
 -- Runs of lines, and imports, over an office that keeps records.
-use Rattle.std.proofs.Common.{ℕ, Bool, true, false, List, map, inl, inr}
+use Rattle.std.proofs.Common.{ℕ, Bool, true, false, List, ◌++◌, map, inl, inr}
 use Rattle.std.specs.Prelude.{Result, Ok, Err}
 use Rattle.std.specs.declared.option.Option.{Option}
 use Rattle.reg_core.specs.declared.refusal.Fault.{Fault}
@@ -9,13 +9,15 @@ use Rattle.reg_lines.specs.Answer.{ComesTo, OfficeAnswers, LineComesTo, LineRepl
 use Rattle.reg_lines.specs.ByCalls.{Call, ran, asked, responded}
 use Rattle.reg_lines.specs.Import.{EndsBy, ImportEnds, ImportRan, Row, RowReplies, RowsEnd, data_rows}
 use Rattle.reg_lines.specs.Meaning.{Meaning, means_command, means_query, is_ocsp_line}
-use Rattle.reg_lines.specs.Script.{ClockFails, LinesEnd, RunEnds, line_of, longest_of, pieces}
+use Rattle.reg_lines.specs.Script.{ClockFails, LinesEnd, NextEnds, RunEnds, line_of, longest_of, pieces}
 use Rattle.reg_lines.specs.Strict.{StrictEnds, StrictRan, whole_lines}
 use Rattle.reg_lines.specs.declared.answered.Answered.{Answered as LineOutcome}
 use Rattle.reg_lines.specs.declared.answered.Ended.{Ended}
 use Rattle.reg_lines.specs.declared.answered.Ended.TheVariants as ended
 use Rattle.reg_lines.specs.declared.answered.Continuation.{Continuation}
 use Rattle.reg_lines.specs.declared.answered.Continuation.TheVariants as passed
+use Rattle.reg_lines.specs.declared.lines.AfterLine.{AfterLine}
+use Rattle.reg_lines.specs.declared.lines.AfterLine.TheVariants.{Held, End}
 use Rattle.reg_office_api.specs.Leads.{Leads}
 use Rattle.reg_office_api.proofs.PublicLaws.{stays, follows, chains, runs}
 
@@ -48,6 +50,119 @@ module _ {S I R : Type 0} (is_clean : S → Type 0) (stands : I → S → R → 
       (runs is_clean stands answers kept lifts s middle (map line_of lines.done) lines.replies run)
       (lifts middle (line_of lines.piece) lines.reply t last))
   run_moves input_failed clock_failed output_failed is_strict (Err other) ends = absurd ends
+
+  -- a step of it
+  pub next_moves : (buffered : List ℕ) (input_failed clock_failed output_failed : Type 0) (is_strict : Bool) (buffer : List ℕ) (result : Result AfterLine Fault)
+      → NextEnds answers s t out out' longest input input' buffered input_failed clock_failed output_failed is_strict buffer result
+      → Leads is_clean stands (λ i before after. NextEnds (kept i) before after out out' longest input input' buffered input_failed clock_failed output_failed is_strict buffer result) s t
+  next_moves buffered input_failed clock_failed output_failed is_strict buffer (Ok (Held left)) (within, did, each) =
+      follows is_clean stands _ _ (λ i before after moved. (
+        within,
+        record {
+          took = did.took;
+          piece = did.piece;
+          reply = did.reply;
+          consumed = did.consumed;
+          cut = did.cut;
+          whole = did.whole;
+          short = did.short;
+          little = did.little;
+          replied = moved;
+          wrote = did.wrote;
+        },
+        each,
+      )) s t (lifts s (line_of did.piece) did.reply t did.replied)
+  next_moves buffered input_failed clock_failed output_failed is_strict buffer (Ok (End ended.Whole)) (did, lax) =
+      elim did.ran [
+        | inl (none, same, wrote) ↦
+            follows is_clean stands _ _ (λ i before after stayed. (
+              record {
+                took = did.took;
+                consumed = did.consumed;
+                at_end = did.at_end;
+                free = did.free;
+                short = did.short;
+                ran = inl (none, stayed, wrote);
+              },
+              lax,
+            )) s t
+            (stays is_clean stands s t same)
+        | inr (some, reply, replied, wrote) ↦
+            follows is_clean stands _ _ (λ i before after moved. (
+              record {
+                took = did.took;
+                consumed = did.consumed;
+                at_end = did.at_end;
+                free = did.free;
+                short = did.short;
+                ran = inr (some, reply, moved, wrote);
+              },
+              lax,
+            )) s t
+            (lifts s (buffered ++ did.took) reply t replied)
+      ]
+  next_moves buffered input_failed clock_failed output_failed is_strict buffer (Ok (End (ended.Refused refused))) (left, did, strict, other, why) =
+      follows is_clean stands _ _ (λ i before after moved. (
+        left,
+        record {
+          took = did.took;
+          piece = did.piece;
+          reply = did.reply;
+          consumed = did.consumed;
+          cut = did.cut;
+          whole = did.whole;
+          short = did.short;
+          little = did.little;
+          replied = moved;
+          wrote = did.wrote;
+        },
+        strict,
+        other,
+        why,
+      )) s t (lifts s (line_of did.piece) did.reply t did.replied)
+  next_moves buffered input_failed clock_failed output_failed is_strict buffer (Ok (End ended.NoLineEnd)) (did, strict, cut, at_end) =
+      follows is_clean stands _ _ (λ i before after stayed. (
+        record {
+          took = did.took;
+          consumed = did.consumed;
+          little = did.little;
+          office = stayed;
+          wrote = did.wrote;
+        },
+        strict,
+        cut,
+        at_end,
+      )) s t
+      (stays is_clean stands s t did.office)
+  next_moves buffered input_failed clock_failed output_failed is_strict buffer (Err Read) (did, why) =
+      follows is_clean stands _ _ (λ i before after stayed. (
+        record {
+          took = did.took;
+          consumed = did.consumed;
+          little = did.little;
+          office = stayed;
+          wrote = did.wrote;
+        },
+        why,
+      )) s t
+      (stays is_clean stands s t did.office)
+  next_moves buffered input_failed clock_failed output_failed is_strict buffer (Err Write) (did, fails) =
+      follows is_clean stands _ _ (λ i before after moved. (
+        record {
+          took = did.took;
+          piece = did.piece;
+          rest = did.rest;
+          reply = did.reply;
+          consumed = did.consumed;
+          cut = did.cut;
+          ends = did.ends;
+          short = did.short;
+          replied = moved;
+          wrote = did.wrote;
+        },
+        fails,
+      )) s t (lifts s (line_of did.piece) did.reply t did.replied)
+  next_moves buffered input_failed clock_failed output_failed is_strict buffer (Err other) ends = absurd ends
 
 -- a run for which there was memory
 pub lines_end : {S E W : Type 0} (answers : S → ℕ → Call → S → Type 0) (time : ℕ → Type 0) (remaining : E → Option (List ℕ)) (contents : W → Option (List ℕ))
@@ -92,7 +207,7 @@ module _ {S I R : Type 0} (is_clean : S → Type 0) (stands : I → S → R → 
   line_moves time false s line came t (inr (unread, is, same)) =
       follows is_clean stands _ _ (λ i before after stayed. inr (unread, is, stayed)) s t (stays is_clean stands s t same)
 
-  reply_moves : (time : ℕ → Type 0) (is_clocked : Bool) (s : S) (line reply : List ℕ) (t : S) → LineReplies answers time is_clocked s line reply t
+  pub reply_moves : (time : ℕ → Type 0) (is_clocked : Bool) (s : S) (line reply : List ℕ) (t : S) → LineReplies answers time is_clocked s line reply t
       → Leads is_clean stands (λ i before after. LineReplies (kept i) time is_clocked before line reply after) s t
   reply_moves time is_clocked s line reply t (came, comes, is) =
       follows is_clean stands _ _ (λ i before after made. (came, made, is)) s t (line_moves time is_clocked s line came t comes)

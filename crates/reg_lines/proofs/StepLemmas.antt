@@ -45,7 +45,7 @@ pub strip_free : (piece : List ℕ) → HasNoLf piece → strip_last 10 piece �
 strip_free piece free = rw (ends_free piece free) refl
 
 -- a whole line with its LF is one byte longer than what is before it
-whole_short : (longest : ℕ) (piece : List ℕ) → IsWholeLine piece → length piece ≤ longest + 1 → IsShort longest piece
+pub whole_short : (longest : ℕ) (piece : List ℕ) → IsWholeLine piece → length piece ≤ longest + 1 → IsShort longest piece
 whole_short longest piece (front, is, free) fits =
     let size : length piece ≡ length front + 1 = ap length is ∙ length-append front (10 ∷ []) in
     let stripped : length (strip_last 10 piece) ≡ length front = ap (λ l. length (strip_last 10 l)) is ∙ ap length (strip_push front 10) in

@@ -1,6 +1,7 @@
 pub mod Accepted
 pub mod Answer
 pub mod AuditLines
+pub mod Batches
 pub mod ByCalls
 pub mod Fields
 pub mod Import

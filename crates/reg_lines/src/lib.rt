@@ -4,6 +4,7 @@
 mod accepted;
 mod answered;
 mod audit_lines;
+mod batches;
 mod fields;
 mod host;
 pub mod laws;
@@ -29,5 +30,5 @@ pub use reply::{LONGEST_REPLY, ReplyText};
 pub use row_lines::lines_of_rows;
 pub use rows::{MOST_BYTES, import};
 pub use run::run_line;
-pub use script::{run_script, run_script_for};
+pub use script::{run_script, run_script_for, run_script_in_batches};
 pub use strict::import_strictly;

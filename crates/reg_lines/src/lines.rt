@@ -25,7 +25,7 @@ pub const LONGEST_UNTIMED_LINE: usize = LONGEST_LINE - MOMENT - 1;
 pub const MOST_LINES: u64 = 1_000_000;
 
 #[derive(Clone, Copy)]
-enum AfterLine {
+pub(crate) enum AfterLine {
     /// More lines may follow: this many of their bytes are at the start of the buffer.
     Held(usize),
     End(Ended),
@@ -103,7 +103,7 @@ fn run_all<R: Source, W: Sink, O: Office, H: Host>(
 }
 
 /// Runs the next line, moves the bytes after it to the start of `buffer`, and returns whether more lines may follow (`Held`).
-fn run_next<R: Source, W: Sink, O: Office, H: Host>(
+pub(crate) fn run_next<R: Source, W: Sink, O: Office, H: Host>(
     alloc: Global,
     reader: &mut R,
     writer: &mut W,
@@ -203,7 +203,7 @@ fn run_at_own_moment<O: Office>(alloc: Global, office: &mut O, line: &[u8]) -> A
     }
 }
 
-fn end_of_input<R: Source>(reader: &mut R, byte: &mut [u8]) -> Result<Ended, Fault>
+pub(crate) fn end_of_input<R: Source>(reader: &mut R, byte: &mut [u8]) -> Result<Ended, Fault>
     requires { length byte.old ≡ 1 }
     ensures { EndOrMore R.failed (R.remaining reader.old) (R.remaining reader.new) result }
 {

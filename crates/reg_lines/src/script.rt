@@ -2,19 +2,21 @@
 
 ghost use Rattle.std.specs.Prelude.{IsFalse};
 ghost use Rattle.reg_office_api.specs.Calls.{LeadsIn};
+ghost use Rattle.reg_lines.specs.Batches.{MayBeAhead};
 ghost use Rattle.reg_lines.specs.ByCalls.{LineCalls, Lines};
 ghost use Rattle.reg_lines.specs.Script.{ScriptEnds};
 
 use crate::answered::{Answered, done};
+use crate::batches::run_batches;
 use crate::host::Host;
-use crate::lines::run_lines;
+use crate::lines::{LONGEST_LINE, run_lines};
 use reg_core::{Fault, Moment};
 use reg_io::{Sink, Source};
 use reg_office_api::Office;
 use std::alloc::Global;
 
 /// The [`Host`] (observer and clock of a run) of a script whose lines have moments. It has no clock, so `moment` isn't called, and observes nothing.
-struct NoHost;
+pub(crate) struct NoHost;
 
 impl Host for NoHost {
     ghost use Rattle.std.specs.Prelude.{false};
@@ -76,4 +78,26 @@ pub fn run_script_for<R: Source, W: Sink, O: Office, H: Host>(
         office.old office.new reader.old reader.new writer.old writer.new result }
 {
     done(run_lines(alloc, reader, writer, office, host, false))
+}
+
+/// As [`run_script`], with the same errors and the same replies in the same order, but command lines that are in the buffer run in one transaction,
+/// before their replies are written. If a reply can't be written ([`Fault::Write`]), lines after its own may have run. So it is for an office whose
+/// records are lost at the end, as those in memory are.
+pub fn run_script_in_batches<R: Source, W: Sink, O: Office>(
+    alloc: Global,
+    reader: &mut R,
+    writer: &mut W,
+    office: &mut O,
+) -> Result<(), Fault>
+    ensures { LeadsIn O.Office
+        (λ signers before ahead. MayBeAhead
+        (λ s t. ScriptEnds (Lines O.signs signers) R.remaining W.contents R.failed W.failed s t
+        reader.old reader.new writer.old writer.new)
+        before ahead result)
+        office.old office.new }
+{
+    match vec![in alloc; 0; LONGEST_LINE + 1] {
+        Ok(mut buffer) => done(run_batches(alloc, reader, writer, office, &mut buffer)),
+        Err(_) => Err(Fault::Memory),
+    }
 }

@@ -10,7 +10,7 @@ use Rattle.reg_desk_program.proofs.memory.script_in_memory.Goals as goal
 pub returns : goal.returns
 returns g c =
     let fresh = c.in_ok-fresh.ensures in
-    let clean = always_clean (λ file. honest_always (file_below file)) c.run_script.new.office.store in
+    let clean = always_clean (λ file. honest_always (file_below file)) c.run_script_in_batches.new.office.store in
     let alone = ap (signers_of (λ placeholder. digest) digest) fresh.alone in
-    let (after, ran, stands) = c.run_script.ensures.ends.1 digest_alone sample_records (None, (alone, fresh.ok, fresh.leaves)) clean in
-    inr (c.run_script.result, c.ended.ensures, (after, ran))
+    let (ahead, may, stands) = c.run_script_in_batches.ensures.1 digest_alone sample_records (None, (alone, fresh.ok, fresh.leaves)) clean in
+    inr (c.run_script_in_batches.result, c.ended.ensures, (may.0, may.1))
