@@ -8,8 +8,9 @@ Usage: tools/edits.py CRATE ..        tries all edits of these crates with `rt m
 The exit status is 1 if an edit is not refused, does not apply or was not tried, if rt fails, or if --check finds too many edits. rt runs in
 a temporary copy of the crates as they stand in the working tree. `rt must-fail` reuses the proofs that `rt check` kept, so check the crate first.
 
-Run --some after an `rt ci` that passed on the same files: rt takes all proofs from that run. The sample has up to four edits of one crate
-that builds within 500 seconds (tools/build-times.txt): rt proves it once more, and tries each edit over that. Only you try those of others.
+--some proves the crate of the sample and those that it uses once more, or takes their proofs from an earlier `rt ci` if the toolchain keeps them.
+The sample has up to four edits of one crate that builds, with those that it uses, within 1,200 seconds (tools/build-times.txt). Only you try
+those of others.
 """
 import hashlib
 import re
@@ -24,7 +25,7 @@ RT = shutil.which("rt") or "/opt/rattle/bin/rt"
 # rt tries only the edits of the first folder.
 GATE, OTHERS = "must-fail", "edits"
 MOST, MOST_AT_GATE, MOST_CRATES_AT_GATE = 120, 16, 3
-MOST_IN_SAMPLE, SECONDS_OF_SMALL_CRATE = 4, 500
+MOST_IN_SAMPLE, MOST_SECONDS_OF_SAMPLE = 4, 1200
 NAME = re.compile(r"[a-z0-9_]+__[a-z0-9_]+\.edit")
 REFUSED = re.compile(r"rt: must-fail (\w+/\w+\.edit): refused")
 
@@ -64,24 +65,39 @@ def limits_exceeded():
         yield f"there are {len(every)} edits, and {MOST} are allowed: remove those whose mistake another edit has"
 
 
+def crates_below(names):
+    """Returns these crates and all that they use, each with its line of crates.txt."""
+    lines = re.findall(r"^((\w+):.*)$", (TOP / "crates.txt").read_text(encoding="utf-8"), re.MULTILINE)
+    uses, left, found = {name: line for line, name in lines}, [*names], {}
+    while left:
+        name = left.pop()
+        if name in uses and name not in found:
+            found[name] = uses[name]
+            left += uses[name].split()[1:]
+    return found
+
+
 def sample_of(commit):
     """Returns some edits of one small crate, which the hash of the commit selects."""
-    times = re.findall(r"^(\w+) (\d+)$", (TOP / "tools/build-times.txt").read_text(encoding="utf-8"), re.MULTILINE)
-    small = {crate for crate, seconds in times if int(seconds) <= SECONDS_OF_SMALL_CRATE}
+    times = dict(re.findall(r"^(\w+) (\d+)$", (TOP / "tools/build-times.txt").read_text(encoding="utf-8"), re.MULTILINE))
+    small = {crate for crate in times if sum(int(times[it]) for it in crates_below({crate}) if it in times) <= MOST_SECONDS_OF_SAMPLE}
     chance = lambda it: hashlib.sha256(f"{commit} {it.relative_to(TOP)}".encode()).digest()
     found = sorted((it for it in edits_in(OTHERS) if crate_of(it).name in small), key=chance)
     return [it for it in found if crate_of(it) == crate_of(found[0])][:MOST_IN_SAMPLE]
 
 
 def copy_crates(room, edits):
-    """Copies what git tracks or would add of the crates, with only these edits, all of them in must-fail/."""
-    listing = ["git", "ls-files", "--cached", "--others", "--exclude-standard", "crates", "crates.txt", "HANDLES"]
+    """Copies what git tracks or would add of the crates of these edits and those that they use, with only these edits, all of them in must-fail/."""
+    listing = ["git", "ls-files", "--cached", "--others", "--exclude-standard", "crates", "HANDLES"]
     names = subprocess.check_output(listing, cwd=TOP, text=True).split("\n")
-    targets = {TOP / it: room / it for it in names if (TOP / it).is_file() and it.split("/")[2:3] not in ([GATE], [OTHERS])}
+    crates = crates_below({crate_of(it).name for it in edits})
+    is_left_out = lambda parts: parts[0] == "crates" and (parts[1] not in crates or parts[2] in (GATE, OTHERS))
+    targets = {TOP / it: room / it for it in names if (TOP / it).is_file() and not is_left_out(it.split("/"))}
     targets.update({it: room / "crates" / crate_of(it).name / GATE / it.name for it in edits})
     for path, target in targets.items():
         target.parent.mkdir(parents=True, exist_ok=True)
         shutil.copyfile(path, target)
+    (room / "crates.txt").write_text("".join(f"{line}\n" for line in crates.values()), encoding="utf-8")
     # rt takes the folder that has .git for the top of the repository.
     (room / ".git").mkdir()
 

@@ -187,6 +187,8 @@ def as_many_edits_as_there_may_be(t, counts, wanted):
 # rt, which reports each edit of a crate as refused that its own copy of the crates has, but for those that ACCEPTED names, and ends with STATUS.
 RT = """#!/bin/sh
 echo "$*" >"$CALLS"
+sort crates.txt >"$CALLS.crates"
+ls crates >>"$CALLS.crates"
 for it in crates/*/must-fail/*.edit; do
     name=$(echo "$it" | sed 's,crates/,,; s,/must-fail,,')
     case " $ACCEPTED " in *" $(basename "$it" .edit) "*) echo "rt: must-fail $name: accepted" ;; *) echo "rt: must-fail $name: refused" ;; esac
@@ -200,8 +202,9 @@ exit "$STATUS"
 def edits_are_tried(t, accepted, status, wanted):
     """An edit that rt does not report as refused fails the trial, and so does rt."""
     need("git")
-    files = {"crates.txt": "reg_a:\nreg_b:\n", "tools/build-times.txt": "reg_a 500\nreg_b 501\n"}
-    files |= {f"crates/reg_{crate}/src/a.rt": SOURCE for crate in "ab"}
+    files = {"crates.txt": "reg_b: reg_c\nreg_a: reg_c sha1\nreg_c:\nreg_d: reg_a\n"}
+    files["tools/build-times.txt"] = "reg_a 500\nreg_b 501\nreg_c 700\nreg_d 1\n"
+    files |= {f"crates/reg_{crate}/src/a.rt": SOURCE for crate in "abcd"}
     files |= {f"crates/reg_a/edits/a__{it}.edit": edit("one(", "two(") for it in ("one", "two", "three", "four", "five")}
     files |= {f"crates/reg_b/edits/b__{it}.edit": edit("one(", "two(") for it in ("one", "two")}
     files["crates/reg_a/must-fail/a__must.edit"] = edit("one(", "two(")
@@ -218,7 +221,7 @@ def edits_are_tried(t, accepted, status, wanted):
     t.same((t.room / "calls").read_text(), "must-fail reg_a\n", "the words of rt")
     if accepted:
         return
-    # The gate's sample: up to four edits of a small crate. Each commit selects its own.
+    # The gate's sample: up to four edits of a crate that builds, with those that it uses, within 1,200 seconds. Each commit selects its own.
     samples = {}
     for commit in range(12):
         came, lines = trial("--some", str(commit))
@@ -228,6 +231,7 @@ def edits_are_tried(t, accepted, status, wanted):
     t.same((crates, {len(it) for it in samples.values()}), ({"reg_a"}, {4}), f"crates and numbers of edits in {samples}")
     t.true(len({tuple(it) for it in samples.values()}) > 3, f"few samples differ: {samples}")
     t.same((t.room / "calls").read_text(), "ci\n", "the words of rt")
+    t.same((t.room / "calls.crates").read_text().split("\n"), ["reg_a: reg_c sha1", "reg_c:", "reg_a", "reg_c", ""], "the crates that rt gets")
 
 
 PAGE = """# Names
