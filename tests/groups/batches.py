@@ -1,9 +1,11 @@
-"""Commands that have arrived together at the control socket run in one transaction. Each reply is what it is if the lines come one by one."""
+"""Commands that have arrived together at the control socket, or stand together in a script over memory, run in one transaction. Each reply is what it is
+if the lines come one by one."""
 
 import contextlib
 import os
 import random
 import signal
+import subprocess
 
 from lib import faults, program
 from lib.program import Control, parted
@@ -229,3 +231,43 @@ def a_stop_leaves_all_of_them_or_none(t):
         if not is_stopped:
             break
     t.true((0, 0) in found and (10, 10) in found, f"the stops left only {found}")
+
+
+# A script over a register in memory
+
+
+def mixed_script(count):
+    """Lines of a script: those of `mixed_lines` and requests for OCSP answers, with several moments, a CR before the LF, no moment; the last has no LF."""
+    chosen, told = random.Random(count), []
+    for at, line in enumerate(mixed_lines(count)):
+        moment = chosen.choice([DAY] * 20 + [LATER] * (at > count // 2) + ["2025-12-31T23:59:59Z", "2026-02-30T00:00:00Z"])
+        told.append(chosen.choice([f"{moment} {line}\n"] * 30 + [f"{moment} {line}\r\n", f"{line}\n", f"{moment} ocsp {faults.OCSP_REQUEST}\n"]))
+    begin = ("subscriber acme", "order 1 398", f"register 1 01 {DAY} {END}", "request 01 superseded", "revoke 1")
+    return "".join(f"{DAY} {line}\n" for line in begin) + "".join(told) + f"{LATER} counts"
+
+
+@each({"at once": None, "997 bytes at a time": 997, "a byte at a time": 1}, seconds=2)
+def a_script_over_memory_replies_as_one_over_a_file(t, size):
+    """Over a file, each line runs alone. Both registers have the same issuer and policy."""
+    t.register()
+    text = mixed_script(1_000)
+    alone = t.desk("script", "ca.db", given=text)
+    ran, _ = faults.run(t, ["script"], text, only="stdin", **({"short": size} if size else {}))
+    t.same((ran.status, ran.lines), (0, alone.lines), "the replies")
+    words = {line.split()[0] for line in alone.lines}
+    t.true({"registered", "revoked", "crl", "ocsp", "E01", "E19", "E22", "order"} <= words, f"the script has only replies with {sorted(words)}")
+
+
+@test
+def a_script_over_memory_replies_before_more_lines_come(t):
+    """The program that writes the lines may need the reply to one for the next."""
+    with subprocess.Popen([program.program(), "script"], stdin=subprocess.PIPE, stdout=subprocess.PIPE, env=program.environment()) as script:
+        t.callback(script.kill)
+        for lines in (1, 2, 3, 256, 1):
+            with t.at_once(f"{lines} replies"):
+                script.stdin.write(f"{DAY} subscriber name{lines}\n".encode() + f"{DAY} order 1 398\n".encode() * (lines - 1))
+                script.stdin.flush()
+                replies = [script.stdout.readline().split()[0] for _ in range(lines)]
+            t.same(replies[1:], [b"order"] * (lines - 1), "the first words of the replies")
+        script.stdin.close()
+        t.same((script.stdout.read(), script.wait()), (b"", 0), "what is left of the output, and the status")
