@@ -46,6 +46,8 @@ enum { FEW = 2 };
 static const long long RECENT = 1000000;
 /* For so many nanoseconds a process leaves a new client to those with fewer persistent connections. */
 static const long long LEFT_TO_OTHERS = 10000000;
+/* So many nanoseconds after the last time, a process that always has a message handles signals again. */
+static const long long SIGNALS_DUE = 1000000;
 
 static const char usage[] =
     "Usage: desk-signer [OPTION ..] KEY SOCKET        signs at a Unix socket, which it creates with mode 0600\n"
@@ -368,9 +370,14 @@ static long long wait_time(long long now, const struct connection *slow) {
     return at > now ? at - now : 0;
 }
 
-/* ppoll(2) handles no signal if a descriptor is ready, as one is all the time for a busy signer. */
+/* ppoll(2) handles no signal if a descriptor is ready, as one is all the time for a busy signer. That one handles them once in a while. */
 static void handle_signals(const sigset_t *while_waiting) {
+    static long long handled;
+    long long now = nanoseconds();
     sigset_t blocked;
+    if (now - handled < SIGNALS_DUE)
+        return;
+    handled = now;
     (void)sigprocmask(SIG_SETMASK, while_waiting, &blocked);
     (void)sigprocmask(SIG_SETMASK, &blocked, NULL);
 }
