@@ -1,5 +1,5 @@
-/* Loaded before desk-signer (LD_PRELOAD). It changes the last octet of each signature of libcrypto. If the process computes a nonce before a message
-   comes, this fails if the variable NO_NONCES is set, and else ends the process. */
+/* Loaded before desk-signer (LD_PRELOAD). It changes the last octet of each signature of libcrypto, or the first one if the variable NO_FORM is
+   set. If the process computes a nonce before a message comes, this fails if the variable NO_NONCES is set, and else ends the process. */
 #define _GNU_SOURCE
 #include <dlfcn.h>
 #include <stdlib.h>
@@ -9,7 +9,7 @@
 
 static int changed(int is_signed, unsigned char *signature, const size_t *length) {
     if (is_signed == 1 && signature)
-        signature[*length - 1] ^= 1;
+        signature[getenv("NO_FORM") ? 0 : *length - 1] ^= 1;
     return is_signed;
 }
 

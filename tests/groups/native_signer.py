@@ -117,7 +117,8 @@ def a_name_that_can_not_be_written_is_status_1(t):
 
 
 NO_KEYS = {
-    "a key of P-521": ("ec", "-pkeyopt", "ec_paramgen_curve:P-521"), "an RSA key of 1,024 bits": ("rsa:1024",), "a key of RSA-PSS": ("rsa-pss",),
+    "a key of P-521": ("ec", "-pkeyopt", "ec_paramgen_curve:P-521"), "an RSA key of 1,024 bits": ("rsa:1024",),
+    "an RSA key of 2,047 bits": ("rsa:2047",), "a key of RSA-PSS": ("rsa-pss",),
     "a key of Ed448": ("ed448",),
 }
 
@@ -168,6 +169,10 @@ def signatures_that_don_t_verify(t, algorithm):
     ran = t.tried(*with_wrong_libcrypto(), native.signer(), "--only-ours", it.pem, it.key)
     t.same((ran.returncode, ran.stdout), (1, b""), "status and output")
     t.has(ran.stderr, f"{NAME}{it.key}: its signature does not verify by the certificate".encode())
+    # Octets of another form, for which EVP_PKEY_verify(3) returns a negative number.
+    ran = t.tried(*with_wrong_libcrypto(), "NO_FORM=1", native.signer(), "--only-ours", it.pem, it.key)
+    t.same((ran.returncode, ran.stdout), (1, b""), "status and output, for octets that are no signature")
+    t.has(ran.stderr, f"{NAME}{it.key}: its signature does not verify by the certificate".encode())
     t.same(t.tool(*with_wrong_libcrypto(), native.signer(), it.key), f"{algorithm}\n".encode(), "without a certificate")
 
 
@@ -193,7 +198,8 @@ int ECDSA_sign_ex(int type, const unsigned char *digest, int size, unsigned char
 def a_signature_with_a_nonce_that_was_drawn_ahead_is_verified_too(t):
     """With --only-ours, a client gets no signature that does not verify."""
     it = Authority(t)
-    process = started(t, "--only-ours", it.pem, it.key, before=preloaded(t, "wrong", WRONG))
+    before = preloaded(t, "wrong", WRONG)
+    process = started(t, "--only-ours", it.pem, it.key, before=before)
     message = ours(filter_module().issuer_of(it.pem))[0]
 
     def is_refused():
@@ -203,7 +209,21 @@ def a_signature_with_a_nonce_that_was_drawn_ahead_is_verified_too(t):
         return not signed
 
     authority.until(is_refused, "a signature with a nonce that was drawn ahead")
-    t.same(ended(process), (0, [f"{NAME}refused to sign {len(message)} bytes: its signature does not verify by the certificate"]), "standard error")
+    told = f"{NAME}refused to sign {len(message)} bytes: its signature does not verify by the certificate"
+    t.same(ended(process), (0, [told]), "standard error")
+    # With --persistent, such a client gets no announcement, or a length of 0 for each message.
+    process = started(t, "--persistent", "--only-ours", it.pem, it.key, before=before)
+    other, client, got = ours(filter_module().issuer_of(it.pem))[1], persistent(t), []
+    authority.until(lambda: got.append(signature(t.room / "ca.sign", message)) or len(got[-1]) <= 16, "a signature with a nonce that was drawn ahead")
+    t.same(got[-1], b"", "the reply to a message that is refused")
+
+    def are_refused():
+        time.sleep(0.1)
+        client.sendall(frame(message) + frame(other))
+        return (answer(client), answer(client)) == (b"", b"")
+
+    authority.until(are_refused, "two signatures with nonces that were drawn ahead")
+    t.same({*ended(process)[1]}, {told, told.replace(str(len(message)), str(len(other)))}, "the different lines on standard error")
 
 
 @test(seconds=2)
@@ -253,11 +273,13 @@ def a_number_is_of_decimal_digits_alone(t):
         ran = t.tried(native.signer(), f"--{option}", text, it.key)
         t.same((ran.returncode, ran.stdout), (2, b""), f"--{option} {text}: status and output")
         t.has(ran.stderr.decode().splitlines()[0], f"--{option} {text}: not a number from 1 to ")
+    t.same(t.tool(native.signer(), "--rate", 1_000_000, "--processes", 256, it.key), b"ecdsa-sha256\n", "the greatest numbers")
 
 
 @test(seconds=3)
 def files_that_are_pipes_or_too_long(t):
-    """The signer reads a key and a passphrase whole that come in parts through pipes. It refuses files that are too long."""
+    """The signer reads a key and a passphrase whole that come in parts through pipes, and a certificate that comes through one. It refuses files that
+    are too long."""
     it = Authority(t)
     t.tool("openssl", "pkcs8", "-topk8", "-in", it.key, "-passout", "pass:a word", "-out", "locked.key")
     key = (t.room / "locked.key").read_bytes()
@@ -271,6 +293,8 @@ def files_that_are_pipes_or_too_long(t):
                 pipe.write(part)
                 time.sleep(0.2)
     t.same(process.communicate(timeout=program.LONGEST), (b"ecdsa-sha256\n", b""), "standard output and standard error")
+    ran = t.tried("bash", "-c", 'exec "$1" --only-ours <(cat "$2") "$3"', "-", native.signer(), it.pem, it.key)
+    t.same((ran.returncode, ran.stdout), (0, b"ecdsa-sha256\n"), f"with a certificate through a pipe: {ran.stderr!r}")
     (t.room / "long.key").write_bytes(key + bytes(65536))
     (t.room / "long").write_text("a word" + 1100 * "x")
     (t.room / "right").write_text("a word\n")
@@ -466,14 +490,15 @@ def each_value_is_changed(t, algorithm):
 
 @test(seconds=6)
 def certificates_of_other_forms(t):
-    """The key identifier of the CA certificate is not the SHA-1, is too long, or is absent. Another certificate has a long subject and a keyUsage
-    that is no BIT STRING, and is also read in DER."""
-    identifiers = {"another": "01:02:03", "of 64": ":".join(["AB"] * 64), "too long": ":".join(["AB"] * 65), "absent": "none"}
+    """The key identifier of the CA certificate is not the SHA-1, is too long, absent or critical. Another certificate has a long subject and a
+    keyUsage that is no BIT STRING, and is also read in DER."""
+    identifiers = {"another": "01:02:03", "of 64": ":".join(["AB"] * 64), "too long": ":".join(["AB"] * 65), "absent": "none",
+                   "critical": "critical,01:02:03"}
     for name, identifier in identifiers.items():
         it = Authority(t, name=name.replace(" ", "-"))
         authority.with_key_identifier(it, identifier)
         issuer = filter_module().issuer_of(it.pem)
-        t.same(len(issuer.key_identifiers), 2 if name in ("another", "of 64") else 1, f"{name}: key identifiers")
+        t.same(len(issuer.key_identifiers), 2 if name in ("another", "of 64", "critical") else 1, f"{name}: key identifiers")
         wanted = len(ours(issuer))
         t.same(compared(t, ours(issuer) + [crl_by_hand(issuer, identifier=authority_key_identifier(65))], it), wanted, f"{name}: accepted")
     (t.room / "odd.conf").write_text("[req]\ndistinguished_name=d\nx509_extensions=v\n[d]\n[v]\nsubjectKeyIdentifier=DER:0403010203\nkeyUsage=DER:0500\n")
@@ -704,22 +729,25 @@ def a_rate_goes_on_though_the_clock_is_set_back(t):
 
 @test(seconds=4)
 def clients_that_disconnect_together_take_no_other_connection(t):
-    """Eight clients wait for their turn at two signatures a second. The signer notices at once that four disconnect, and signs for the others."""
+    """24 clients wait for their turn at two signatures a second. The signer notices at once that twenty disconnect, and signs for the others, who get
+    the next four turns."""
     it = Authority(t)
     process = started(t, "--rate", 2, it.key)
     t.true(signature(t.room / "ca.sign", b"a message") != b"", "the first client gets no signature")
-    clients = [t.enter_context(connected(t.room / "ca.sign")) for _ in range(8)]
+    clients = [t.enter_context(connected(t.room / "ca.sign")) for _ in range(24)]
     for client in clients:
         client.settimeout(20)
         client.sendall(b"a message")
         client.shutdown(socket.SHUT_WR)
         authority.until(lambda: program.is_read(client), "the signer to read its message")
     process.send_signal(signal.SIGSTOP)
-    for client in clients[::2]:
-        client.close()
+    staying = range(5, 24, 6)
+    for at in {*range(24)} - {*staying}:
+        clients[at].close()
     process.send_signal(signal.SIGCONT)
-    for at in range(1, 8, 2):
-        t.true(program.read_all(clients[at]) != b"", f"client {at} gets no signature")
+    with t.at_once("the signatures of the other four"):
+        for at in staying:
+            t.true(program.read_all(clients[at]) != b"", f"client {at} gets no signature")
     t.same(ended(process)[0], 0, "its status")
 
 
@@ -1018,6 +1046,13 @@ def the_end_of_a_persistent_connection(t):
     client.close()
     verifies(t, it, b"a message", asked(persistent(t), b"a message"))
     t.same(ended(process), (0, [f"{NAME}a connection failed: its message is incomplete"] * 3), "standard error")
+    process = started(t, "--persistent", it.key)
+    client = persistent(t)
+    client.sendall(one)
+    authority.until(lambda: select.select([client], [], [], 0)[0], "the answer")
+    client.close()
+    t.true(asked(persistent(t), b"a message"), "no signature")
+    t.same(ended(process), (0, [f"{NAME}a connection failed: Connection reset by peer"]), "standard error after a client that left its answer unread")
 
 
 @test(seconds=2)
@@ -1465,13 +1500,16 @@ def a_socket_to_which_it_may_not_connect_is_not_replaced(t, name):
 
 @test(seconds=3)
 def another_signer_at_its_path(t):
-    """A signer whose socket was removed leaves a later signer's socket at the same path when it ends."""
+    """A signer whose socket was removed leaves a later signer's socket at the same path when it ends, and one whose socket was moved a link to it."""
     it = Authority(t)
     earlier = started(t, it.key)
     (t.room / "ca.sign").unlink()
-    started(t, it.key)
+    later = started(t, it.key)
     t.same(ended(earlier), (0, []), "the earlier one")
     t.true(signature(t.room / "ca.sign", b"a message") != b"", "the later signer gives no signature")
+    (t.room / "ca.sign").rename(t.room / "moved.sign")
+    (t.room / "ca.sign").symlink_to("moved.sign")
+    t.same((ended(later), os.readlink(t.room / "ca.sign")), ((0, []), "moved.sign"), "the later one, and the link")
 
 
 @test(seconds=30)
@@ -1577,12 +1615,32 @@ def no_nonce_signs_twice(t, algorithm, *words):
     t.same(len(found), 347, "different values of r")
 
 
+# Loaded before the signer (LD_PRELOAD), this appends k^-1 of each nonce that is drawn ahead to the file DRAWN.
+DRAWN = """
+#define _GNU_SOURCE
+#include <dlfcn.h>
+#include <stdio.h>
+#include <stdlib.h>
+#include <openssl/ec.h>
+
+int ECDSA_sign_setup(EC_KEY *key, BN_CTX *context, BIGNUM **inverse, BIGNUM **r) {
+    int (*real)(EC_KEY *, BN_CTX *, BIGNUM **, BIGNUM **) = dlsym(RTLD_NEXT, "ECDSA_sign_setup");
+    int is_drawn = real(key, context, inverse, r);
+    FILE *drawn = fopen(getenv("DRAWN"), "a");
+    BN_print_fp(drawn, *inverse);
+    fputc(' ', drawn);
+    fclose(drawn);
+    return is_drawn;
+}
+"""
+
+
 @test(seconds=4)
 def a_nonce_is_in_its_memory_for_a_second_at_most(t):
     """A nonce that was drawn ahead is in the signer's memory before it signs, with the r that its signature then shows. The signer erases all of them after a
     second without a client."""
     it = Authority(t)
-    process = started(t, it.key)
+    process = started(t, it.key, before=preloaded(t, "drawn", DRAWN, f"DRAWN={t.room / 'drawn'}"))
 
     def is_drawn_ahead(pause):
         """Whether the memory has the nonce of the next signature, so long after the one before."""
@@ -1593,7 +1651,17 @@ def a_nonce_is_in_its_memory_for_a_second_at_most(t):
         return any(int.from_bytes(r, "big").to_bytes(32, "little") in part for part in memory)
 
     authority.until(lambda: is_drawn_ahead(0.2), "a signature with a nonce that was drawn ahead")
-    t.same(is_drawn_ahead(2.5), False, "whether the memory has a nonce after a pause")
+    kept = lambda drawn: [it for it in drawn if any(int(it, 16).to_bytes(32, "little") in part for part in memory_of(process))]
+    drawn = lambda: (t.room / "drawn").read_text().split()[-8:]
+
+    def are_kept():
+        t.true(signature(t.room / "ca.sign", b"a message") != b"", "it gives no signature")
+        time.sleep(0.2)
+        return len(kept(drawn())) > 5
+
+    authority.until(are_kept, "several nonces in its memory")
+    time.sleep(2.5)
+    t.same(kept(drawn()), [], "the nonces in its memory after a pause")
 
 
 @test(seconds=5)
@@ -1950,6 +2018,7 @@ def a_key_in_a_token(t, algorithm, count):
     if b"no engine pkcs11" in ran.stderr:
         raise Skipped("no engine pkcs11 of OpenSSL here: apt install libengine-pkcs11-openssl")
     t.same((ran.returncode, ran.stdout), (0, f"{algorithm}\n".encode()), f"status and output; standard error is {ran.stderr!r}")
+    t.same(t.tool(named[0], f"{key}?pin-value=4711", env=token), f"{algorithm}\n".encode(), "with the PIN in the URI (RFC 7512 2.4)")
     for words, told in (((*named, "pkcs11:token=ca;object=none"), b"the token gives no such key"), ((named[0], "--passphrase-file", "wrong", key), b"the token gives no such key"),
                         ((*named, "--only-ours", other.pem, key), b"it is the certificate of another key")):
         ran = t.tried(*words, "ca.sign", env=token)
