@@ -339,7 +339,10 @@ def a_returning_leader_is_diverged(t):
     old.desk.end()
     # It was opened as a leader once more: now it has a record that the new leader lacks.
     alone = t.open("ca.db", "--control", "alone")
-    t.same(t.control("alone").ask("subscriber lost"), "subscriber 3")
+    alone_control = t.control("alone")
+    t.same(alone_control.ask("subscriber lost"), "subscriber 3")
+    number = alone_control.ask("request 08 asked").split()[1]
+    t.same(alone_control.ask(f"decline {number}"), "declined")
     alone.end()
     own.ask("subscriber new")
     taken(t, own, "next.db")
@@ -349,9 +352,26 @@ def a_returning_leader_is_diverged(t):
         "python3", EXAMPLES / "lost-rows.py", file, "--from", address(taken_over.port), "--desk", program.program(), env=program.environment()
     )  # fmt: skip
     told = lost_rows("ca.db")
-    t.same((told.returncode, told.stdout), (3, b"subscriber 3 lost\n"), "the rows that the new leader lacks")
+    rows = ["subscriber 3 lost", f"request {number} {8:040x} asked {CLOCK}", f"declined {number}"]
+    t.same((told.returncode, told.stdout.decode().splitlines()), (3, rows), "the rows that the new leader lacks")
     told = lost_rows("next.db")
     t.same((told.returncode, told.stdout), (0, b""), "the rows of a copy that the new leader lacks")
+
+
+@each({"at a port": "port", "at a Unix socket": "socket"}, seconds=2)
+def lost_rows_py_waits_a_minute_for_the_other_desk(t, where):
+    """The script's timeouts are a sixtieth of their length here."""
+    t.register(lines=LINES)
+    timeouts = "socket.socket.settimeout = lambda self, seconds, real=socket.socket.settimeout: real(self, seconds / 60)"
+    (t.room / "sitecustomize.py").write_text(f"import socket\n{timeouts}\n")
+    with socket.create_server(("127.0.0.1", 0)) if where == "port" else socket.socket(socket.AF_UNIX) as server:
+        if where == "socket":
+            server.bind(str(t.room / "leader"))
+            server.listen(8)
+        there = address(server.getsockname()[1]) if where == "port" else "leader"
+        words = ("timeout", 30, "python3", EXAMPLES / "lost-rows.py", "ca.db", "--from", there)
+        ran = t.tried("env", f"PYTHONPATH={t.room}", *words)
+    t.same((ran.returncode, ran.stdout, ran.stderr.decode()), (1, b"", f"{there}: timed out\n"), "status and output")
 
 
 @test(seconds=20)

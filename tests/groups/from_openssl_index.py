@@ -288,11 +288,13 @@ def subscribers_have_the_names_of_register_pem(t):
 
 @test
 def each_of_several_subjects_with_one_common_name_is_a_subscriber(t):
-    """Also if another subject has the name that one of them would get."""
-    subjects = ("/CN=acme", "/CN=acme.2", "/O=A/CN=acme", "/O=B/CN=acme")
+    """Also if another subject has the name that one of them would get. A name has 64 characters at most (docs/RULES.md)."""
+    longest = "x" * 64
+    subjects = ("/CN=acme", "/CN=acme.2", "/O=A/CN=acme", "/O=B/CN=acme", f"/CN={longest}", f"/O=A/CN={longest}")
     (t.room / "index.txt").write_text("".join(f"V\t260301000000Z\t\t{at:02}\tunknown\t{it}\n" for at, it in enumerate(subjects, 1)))
     script, _ = moved(t, "index.txt", "--days", "90", "--now", "2025-12-02T00:00:00Z")
-    t.same([line.split()[2] for line in script.splitlines() if " subscriber " in line], ["acme", "acme.2", "acme.3", "acme.4"])
+    wanted = ["acme", "acme.2", "acme.3", "acme.4", longest, longest[:62] + ".2"]
+    t.same([line.split()[2] for line in script.splitlines() if " subscriber " in line], wanted)
 
 
 @test
@@ -356,6 +358,8 @@ def the_limits_of_a_register(t):
     greatest = f"{2**159 - 1:X}"
     rows = {"05": ("9999-12-21T23:59:59Z", True), "06": ("9999-12-22T00:00:00Z", False), greatest: ("2026-01-01T00:00:00Z", True), f"{2**159:X}": ("2026-01-01T00:00:00Z", False)}
     index = [f"V\t{re.sub('[-:T]', '', ends)}\t\t{serial}\tunknown\t/CN=a\n" for serial, (ends, _) in rows.items()]
+    # A line with `#` is a comment. A year of two digits from 50 on is of the 20th century (RFC 5280 4.1.2.5.1), and these are before 1970.
+    index += ["# a comment\n", "V\t500101000000Z\t\t07\tunknown\t/CN=a\n", "V\t690101000000Z\t\t08\tunknown\t/CN=a\n"]
     (t.room / "index.txt").write_text("".join(index))
     script, _ = moved(t, "index.txt", "--days", "397", "--now", "9999-12-01T00:00:00Z")
     registered = [line.split() for line in script.splitlines() if " register " in line]

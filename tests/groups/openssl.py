@@ -236,6 +236,24 @@ def the_walkthrough(t, hidden):
     t.same(replies, [], "refusals and faults")
 
 
+@each({"the CRL": ("crl", "verify OK"), "the OCSP answer": ("ocsp", "Response verify OK")}, seconds=5)
+def the_walkthrough_fails_if_openssl_does_not_verify(t, command, told):
+    """Its exit status is 1 then, though that of openssl is 0. Here openssl says so of what it has verified."""
+    authority.need_cryptography(t)
+    top = authority.stood_in(t)
+    (t.room / "bin").mkdir()
+    (t.room / "bin/openssl").write_text(f"""#!/bin/sh
+[ "$1" = {command} ] || exec {shutil.which("openssl")} "$@"
+pwd > {t.room}/where
+{shutil.which("openssl")} "$@" 2>&1 | sed "s/{told}/verify failure/"
+""")
+    (t.room / "bin/openssl").chmod(0o755)
+    more = {"PATH": f"{t.room}/bin:{os.environ['PATH']}"}
+    ran = play(t, "sh", top / "examples/openssl-walkthrough.sh", str(program.free_port()), where=top, more=more, status=1)
+    t.callback(shutil.rmtree, (t.room / "where").read_text().strip(), ignore_errors=True)
+    t.same((b"\nverify failure\n" in ran.stdout, b"== Done" in ran.stdout), (True, False), f"its output, which ends with {ran.stdout[-300:]!r}")
+
+
 @test(seconds=4)
 def issue_due_crl_issues_one_where_it_is_due(t):
     script = EXAMPLES / "issue-due-crl.sh"

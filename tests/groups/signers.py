@@ -5,6 +5,7 @@ import json
 import os
 import re
 import select
+import shutil
 import signal
 import socket
 import subprocess
@@ -247,6 +248,20 @@ def examples_signer_py_leaves_the_socket_of_a_later_one(t):
     earlier.terminate()
     t.same(earlier.wait(program.LONGEST), 0, "the earlier signer's status")
     t.true(signature(t.room / "ca.sign", b"a message") != b"", "the later signer does not sign once the earlier one has ended")
+
+
+@test(seconds=2)
+def the_examples_that_sign_write_nothing_beside_them(t):
+    """Python would keep compiled modules there, which no package removes."""
+    authority.need_cryptography(t)
+    it, names = Authority(t), ["check-signer.py", "only_ours.py", "signer.py"]
+    (t.room / "programs").mkdir()
+    for name in names:
+        shutil.copy(authority.EXAMPLES / name, t.room / "programs")
+    env = {name: value for name, value in os.environ.items() if name != "PYTHONDONTWRITEBYTECODE"}
+    t.same(t.tool(sys.executable, "programs/signer.py", it.key, env=env), b"ecdsa-sha256\n", "the output of signer.py")
+    t.same(t.tool(sys.executable, "programs/check-signer.py", it.pem, env=env), b"", "the output of check-signer.py")
+    t.same(sorted(it.name for it in (t.room / "programs").iterdir()), names, "files beside them")
 
 
 @each(ALGORITHMS, seconds=4)
