@@ -558,6 +558,7 @@ CASES = {
         [f"node_filesystem_{what}_bytes{{mountpoint='/snap',fstype='squashfs'}} {value}x60" for what, value in (("avail", 0), ("size", 100))], []),
     "a clock that is behind": (["desk_clock_behind_seconds 3x60"], ["DeskClock"]),
     "a clock of its own": (["desk_clock_timestamp_seconds 90+60x60"], ["DeskClock"]),
+    "a clock that is behind that of Prometheus": (["desk_clock_timestamp_seconds -90+60x60"], ["DeskClock"]),
 }
 
 

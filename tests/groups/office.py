@@ -165,8 +165,10 @@ def gaps_and_plot(t, year, browser):
     for number, ended, came in found:
         told.append((f"No valid CRL for {span(came - ended)}", f"from {shown(ended)}, when CRL {number} ended,",
                      f"to {shown(came)}, when CRL {number + 1} was issued"))
-    browser.value("document.getElementById('window').value = '0'; document.getElementById('window').dispatchEvent(new Event('change'))")
     points = "document.querySelectorAll('#plot circle').length"
+    late = sum(at(day) >= year.now - 90 * DAY for day in year.crls)
+    t.same(browser.value(points), 2 * (late + 1), "points for the CRLs of 90 days, and for the one that was valid before")
+    browser.value("document.getElementById('window').value = '0'; document.getElementById('window').dispatchEvent(new Event('change'))")
     browser.until(f"{points} === {2 * len(year.crls)}")
     t.same([tuple(row.removeprefix("!").split("|")) for row in rows(browser, "gaprows")], told[::-1], "gaps between CRLs")
     t.same(browser.value("document.querySelectorAll('#plot rect').length"), len(found), "gaps in the plot")
@@ -188,6 +190,11 @@ def months(t, year, browser):
     got = {cells[0]: cells[2:] for cells in (row.split("|") for row in rows(browser, "monthrows"))}
     t.same(max(wanted) in got and min(wanted) == list(got)[-1], True, f"whether the months go back to the first revocation: {list(got)}")
     t.same({month: cells for month, cells in got.items() if cells[0] != "0"}, {month: [str(sum(it)), *(str(n) if n else "·" for n in it)] for month, it in wanted.items()}, "revocations by month")
+    # An hour before February, where it is February already. The months are those of UTC.
+    browser.ask("Emulation.setTimezoneOverride", timezoneId="Pacific/Kiritimati")
+    soon = "ahead = Date.UTC(2027, 1, 1) - 3600000 - Date.now(); showMonths(); ahead = was; return at('monthrows').rows[0].cells[0].innerText"
+    t.same(browser.value(f"(() => {{ const was = ahead; {soon}; }})()"), "2027-01", "the last month in another time zone")
+    browser.ask("Emulation.setTimezoneOverride", timezoneId="")
 
 
 def recent(t, desk, browser):
@@ -414,7 +421,7 @@ def more_rows_than_the_page_keeps(t):
 @test(seconds=8)
 def the_office_view_is_for_the_office_alone(t):
     need("nginx")
-    _, front = plain(t)
+    desk, front = plain(t)
     shows = lambda name: ("--cert", f"{name}.pem", "--key", f"{name}.key")
     paths = ("/office/", "/office/index.html", "/office/list/open-requests", "/office/list/ending?before=2030-01-01T00:00:00Z", "/office/health")
     for path in paths:
@@ -427,6 +434,9 @@ def the_office_view_is_for_the_office_alone(t):
     for path in ("/list/open-requests", "/health", "/metrics", "/office/metrics", "/office/counts"):
         t.same(front.ask(path, *shows("clerk"), tls=True)[0], 404, f"{path} with a clerk's certificate")
     t.same(front.ask("/office/list/nothing", *shows("clerk"), tls=True)[2], b'{"error":"E22 syntax"}', "the desk's own refusal")
+    desk.end()
+    got, fields, _ = front.ask("/office/health", *shows("clerk"), tls=True)
+    t.same((got, fields.get("Cache-Control")), (502, "no-store"), "/office/health while no desk runs")
 
 
 def plain(t):
