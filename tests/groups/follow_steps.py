@@ -224,24 +224,24 @@ def a_leader_that_is_512_pages_ahead(t):
     t.same((got["failure"], got["refused"], got["positions"]), (None, 0, after[-1].positions()), "after 512 pages")
 
 
-def megabytes(it, count):
+def megabytes(it, count, number=4):
     """A page with a CRL of so many megabytes, which is not the last one. Its rows are checked only once there is a last page."""
     counts = it.tables.positions().split(".")
     size = count * 1_000_000 + 1
-    tail = "more " + ".".join([*counts[:5], "4", *counts[6:]])
-    return 200, paged(it.tables, [f"crl 4 {LATER} {size}"], tail=tail, octets=bytes(size) + b"\n")
+    tail = "more " + ".".join([*counts[:5], str(number), *counts[6:]])
+    return 200, paged(it.tables, [f"crl {number} {LATER} {size}"], tail=tail, octets=bytes(size) + b"\n")
 
 
-@test(seconds=5)
-def a_page_of_160_megabytes(t):
-    """The same after pages of 160 MB."""
+@each({"one of 160": (160,), "two of 40 and one of 80": (40, 40, 80)}, seconds=5)
+def pages_of_160_megabytes(t, *sizes):
+    """The same after pages of 160 MB together."""
     it = Slow(t)
     it.asks(FIRST)
-    page = megabytes(it, 160)
-    it.leader.answer = lambda target: page if len(it.leader.targets) == FIRST + 1 else (500, b"")
+    pages = iter([megabytes(it, size, number) for number, size in enumerate(sizes, 4)])
+    it.leader.answer = lambda target: next(pages, (500, b""))
     it.set_forward(10)
     until(lambda: it.health()["failure"], "the failure")
-    t.same((it.health()["failure"], len(it.leader.targets)), ("too far behind", FIRST + 1), "after one page")
+    t.same((it.health()["failure"], len(it.leader.targets)), ("too far behind", FIRST + len(sizes)), "after the last one")
 
 
 @test(seconds=5)
@@ -414,6 +414,8 @@ def a_register_that_got_a_signer_later(t, by_issuer):
     for file, line in (("none.db", "crl"), ("one.db", "request 06 superseded"), ("two.db", "crl")):
         copy = Copy(t, address(leader.port), file=file, signing=words)
         copy.is_like(control)
+        # For a follower with the signer, a CRL with a signature is due at once. Without a CRL, one is due at once for each follower.
+        t.same(copy.health()[1]["crl"], "at-once" if by_issuer or file == "none.db" else None, f"what /health says of the next CRL, {file}")
         copy.desk.end()
         t.true(control.ask(line)[0] not in "EF", line)
     leader.end()
