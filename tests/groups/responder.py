@@ -503,6 +503,17 @@ def a_certificate_without_a_key_of_its_algorithm(t, change):
     t.same((ran.status, ran.err), (1, b"F2 store\n"))
 
 
+@test
+def a_certificate_that_the_system_has_no_memory_to_open(t):
+    """open(2) fails with ENOMEM. An operator who is told of the certificate looks at that."""
+    it = Authority(t)
+    responder = Responder(it)
+    for words in (responder.words(), ("--unsigned", "--embed", "responder.der")):
+        no_memory = faults.environment(only="responder.der", fail="open:1=ENOMEM")
+        ran = t.desk("open", "none.db", "--port", "1", "--control", "control", *words, faults=no_memory)
+        t.same((ran.status, ran.out, ran.err), (1, b"", b"F1 memory\n"), program.shown(words))
+
+
 def gencrl(t):
     """Writes the configuration with which openssl makes a CRL, and returns its path."""
     path = t.room / "ca.cnf"
