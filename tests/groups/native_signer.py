@@ -1102,6 +1102,15 @@ def an_idle_connection_makes_room(t):
     incomplete."""
     it = Authority(t)
     process = started(t, "--persistent", it.key)
+    idle = [persistent(t) for _ in range(256)]
+    late = connected(t.room / "ca.sign")
+    late.sendall(b"a message")
+    late.shutdown(socket.SHUT_WR)
+    t.true(select.select([late], [], [], 5)[0], "no answer while all 256 connections are idle")
+    verifies(t, it, b"a message", announced(t, program.read_all(late)))
+    t.same([at for at, client in enumerate(idle) if select.select([client], [], [], 0)[0]], [0], "idle connections that were closed")
+    for client in idle:
+        client.close()
     incomplete = persistent(t)
     incomplete.sendall(b"a")
     clients = [persistent(t) for _ in range(255)]
