@@ -344,12 +344,15 @@ LOGS = {
         ],
     ),
     "what no script has": (
-        logged((f"schedule {BEGUN}=200", "schedule set"), ("crl", "F3 signer"), ("revoke 1", "F2 store")) + "no line\n",
+        # The last line was cut off in its last number, and another one came behind it.
+        logged((f"schedule {BEGUN}=200", "schedule set"), ("crl", "F3 signer"), ("revoke 1", "F2 store")) + "no line\n"
+        + logged(("subscriber beta", "subscriber 2")).removesuffix("9\n") + logged(("subscriber gamma", "subscriber 3")),
         [],
         [
             f"ca.log:1: not in the script: set the schedule first, by desk schedule REGISTER {BEGUN}=200",
             "ca.log:3: left out: the reply to 'revoke 1' was F2 store, and it may stand or not",
             "ca.log:4: no line of a log",
+            "ca.log:5: no line of a log",
         ],
     ),
     "exchanges for which the signer failed": (
