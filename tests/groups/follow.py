@@ -581,6 +581,8 @@ def pages_that_are_none(t):
         until(lambda: copy.leader["failure"] == "leader answered 404", "404")
         leader.answer = answer
         until(lambda: copy.leader["failure"] == "leader unreachable", what)
+    told = [it for it in copy.desk.log if it.startswith("follow: leader ")]
+    t.same(told[-10:], ["follow: leader answered 404", "follow: leader unreachable"] * 5, "each failure that was another one, on standard error")
     t.same(copy.copied().lines, tables.lines, "rows after all of these")
 
 
