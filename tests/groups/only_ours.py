@@ -226,8 +226,12 @@ def forms_of_answer(answer, name):
     foreign = [tlv(SEQUENCE, hashed, bytes([*name_hash[:-1], name_hash[-1] ^ 1]), key_hash, serial),
                tlv(SEQUENCE, hashed, name_hash, bytes([*key_hash[:-1], key_hash[-1] ^ 1]), serial)]
     good, unknown = b"\x80\0", b"\x82\0"
+    extension = lambda octets: tlv(SEQUENCE, bytes.fromhex("06092B0601050507300102"), tlv(OCTETS, tlv(OCTETS, bytes(octets))))
+    nonced = lambda octets: tlv(SEQUENCE, responder, produced, answers, tlv(0xA1, tlv(SEQUENCE, extension(octets))))
     ours = {
         "with its nonce": answer, "without": put(*singles), "one of them": put(singles[-1]),
+        # A nonce has up to 128 octets (RFC 9654 2.1).
+        **{f"with a nonce of {octets} octets": nonced(octets) for octets in (1, 32, 33, 128)},
         "another issuer's is unknown": one(foreign[0], unknown, this, following), "another key's is unknown": one(foreign[1], unknown, this, following),
     }
     return ours, {
