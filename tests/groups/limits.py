@@ -1410,6 +1410,9 @@ def a_terminal_shows_that_a_large_file_is_opened(t):
                   ["key-id", "0102"], ["list", "orders"], ["audit"]):
         shown = on_a_terminal(t, words[0], "large.db", *map(str, words[1:]))
         t.same([it for it in shown if it.startswith("opening")], ["opening large.db, 67 MB"], words[0])
+    os.symlink("large.db", t.room / "link.db")
+    shown = on_a_terminal(t, "crl", "link.db")
+    t.same([it for it in shown if it.startswith("opening")], ["opening link.db, 67 MB"], "a symbolic link to it")
 
 
 @test(seconds=3)
