@@ -162,6 +162,19 @@ def a_closed_control_connection_frees_its_slot(t):
 
 
 @test
+def lines_are_run_although_their_client_closes_at_once(t):
+    """The desk finds them together with the end of their connection."""
+    desk = opened(t)
+    control, other = t.control(), t.control()
+    t.same([it.ask("status 05") for it in (control, other)], ["good"] * 2)
+    desk.process.send_signal(signal.SIGSTOP)
+    control.stream.sendall(b"request 05 superseded\nrevoke 1\n")
+    closed(control)
+    desk.process.send_signal(signal.SIGCONT)
+    authority.until(lambda: other.ask("status 05").startswith("revoked"), "the revocation", seconds=20)
+
+
+@test
 def a_control_connection_that_breaks_before_its_reply_is_sent_frees_its_slot(t):
     """The first replies can't be sent, as if the clients were gone. Later clients still find a free slot."""
     t.register()
