@@ -820,6 +820,15 @@ def clients_beyond_its_descriptors(t):
     t.true(len(told) < 100, f"too many lines: {len(told)}")
 
 
+@each({"another process had it first": "EAGAIN", "a signal came": "EINTR", "it has gone": "ECONNABORTED"})
+def a_client_that_is_not_accepted_is_no_failure(t, error):
+    """accept4(2) ends so once. Standard error gets no line, and the client has its signature as soon as it is accepted."""
+    it = Authority(t)
+    process = started(t, it.key, before=["env", f"LD_PRELOAD={os.environ['DESK_FAULTS_LIBRARY']}", f"FAULTS_FAIL=accept:1={error}"])
+    t.true(signature(t.room / "ca.sign", b"a message") != b"", "there is no signature")
+    t.same(ended(process), (0, []), "status, standard error")
+
+
 @test(seconds=2)
 def it_ends_while_a_client_always_waits(t):
     """The signer has no descriptor for a client, so its socket is readable all the time. SIGTERM ends it all the same."""
@@ -1867,10 +1876,12 @@ def status_of(number):
 
 @test(seconds=3)
 def its_memory_is_locked_and_never_dumped(t):
+    """With `--allow-swap`, too: the option is for a machine where it can't be locked."""
     it = Authority(t)
     # The shell allows core dumps, if the limits of the test permit it.
-    process = started(t, "--processes", 2, it.key, before=["bash", "-c", 'ulimit -c unlimited 2> /dev/null; exec "$@"', "-"])
-    for number in (process.pid, *native.children(process)):
+    dumps = ["bash", "-c", 'ulimit -c unlimited 2> /dev/null; exec "$@"', "-"]
+    process, lenient = started(t, "--processes", 2, it.key, before=dumps), started(t, "--allow-swap", it.key, path="other.sign", before=dumps)
+    for number in (process.pid, *native.children(process), lenient.pid):
         status = {name: int(status_of(number)[name].split()[0]) for name in ("VmLck", "VmSize", "VmSwap")}
         t.true(status["VmLck"] > 0.9 * status["VmSize"] > 0 and status["VmSwap"] == 0, f"its memory is not locked, or is swapped: {status}")
         core = next(line.split() for line in Path(f"/proc/{number}/limits").read_text().splitlines() if line.startswith("Max core"))
