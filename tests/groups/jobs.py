@@ -285,13 +285,15 @@ A_LINE = b"2026-01-01T00:00:00Z counts\n"
 
 
 @test
-def no_right_to_read(t):
+def no_right_to_read_or_to_write(t):
     t.register()
-    os.chmod(t.room / "ca.db", 0)
-    for command in ("crl", "script"):
-        for more, told in ((("--why",), b"F2 store\n  permission denied, or the file system is read-only (FILE)\n"), ((), b"F2 store\n")):
-            ran = t.as_nobody(command, "ca.db", *more, given=A_LINE)
-            t.same((ran.returncode, ran.stdout, ran.stderr), (1, b"", told), f"{command} {more}")
+    for mode in (0, 0o444):
+        for file in t.room.glob("ca.db*"):
+            os.chmod(file, mode)
+        for command in ("crl", "script"):
+            for more, told in ((("--why",), b"F2 store\n  permission denied, or the file system is read-only (FILE)\n"), ((), b"F2 store\n")):
+                ran = t.as_nobody(command, "ca.db", *more, given=A_LINE)
+                t.same((ran.returncode, ran.stdout, ran.stderr), (1, b"", told), f"{command} {more}, mode {mode:o}")
 
 
 @test
