@@ -577,28 +577,31 @@ def a_crl_of_many_entries(t):
 
 @test(seconds=14)
 def a_slow_client_blocks_nobody(t):
-    """One client sends a byte from time to time, another one nothing. The signer serves others at once, and closes both after ten seconds."""
+    """One client sends a byte from time to time, another one nothing. The signer serves others at once, and closes both after ten seconds.
+    A signer with persistent connections also closes one after ten seconds whose message comes byte by byte."""
     it = Authority(t)
-    process = started(t, it.key)
+    process, other = started(t, it.key), started(t, "--persistent", it.key, path="other.sign")
     path = t.room / "ca.sign"
-    silent, slow = connected(path), connected(path)
-    open_ones = {silent, slow}
-    with t.ten_seconds("the end of both"):
-        while open_ones:
-            if slow in open_ones:
-                try:
-                    slow.send(b"x")
-                except BrokenPipeError:
-                    open_ones.discard(slow)
+    silent, slow, persistent_one = connected(path), connected(path), connected(t.room / "other.sign")
+    open_ones = {silent, slow, persistent_one}
+    with t.ten_seconds("the end of all"):
+        # A third of a second for each octet: some thirty seconds at most.
+        for octet in frame(bytes(96)):
+            for client, sent in ((slow, b"x"), (persistent_one, bytes([octet]))):
+                if client in open_ones:
+                    try:
+                        client.send(sent)
+                    except BrokenPipeError:
+                        open_ones.discard(client)
+            if not open_ones:
+                break
             with t.at_once("the signature of another client"):
                 t.true(signature(path, b"a message") != b"", "another client has no signature")
-            silent.settimeout(0.3)
-            try:
+            if select.select(open_ones & {silent}, [], [], 0.3)[0]:
                 t.same(silent.recv(1), b"", "the bytes that the silent client gets")
                 open_ones.discard(silent)
-            except socket.timeout:
-                pass
-    t.same(ended(process), (0, [f"{NAME}a connection failed: its message took longer than ten seconds"] * 2), "standard error")
+    told = f"{NAME}a connection failed: its message took longer than ten seconds"
+    t.same((ended(process), ended(other)), ((0, [told] * 2), (0, [told])), "standard error of both signers")
 
 
 @test(seconds=3)
