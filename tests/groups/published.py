@@ -407,6 +407,14 @@ def of_two_equal_requests(t):
         t.same([it for it in replies.splitlines() if it[:1] in "EF"], [], "refusals")
 
 
+@test
+def of_a_request_like_one_that_was_declined(t):
+    """The log begins after the decline. Its request has the same serial number and ground, and another moment, so the register lacks it."""
+    t.register(lines=ENTERED + lines("request 06 asked", "decline 2"))
+    (t.room / "ca.log").write_text(logged(("request 06 asked", "request 3 due D", f"3 {S6} asked"), (f"revoke 3 {S6}", "revoked", f"3 {S6}")))
+    t.same(again(t, "--log", "ca.log")[0], [f"{NEXT} request 6 asked", f"{NEXT} revoke 3"])
+
+
 LATER = "2026-01-05T00:00:00Z"
 GROUNDS = ("asked", "unauthorized", "key-compromise", "control-lost", "affiliation", "superseded", "cessation", "misuse", "name-not-permitted", "nonconforming", "inaccurate")
 # The ground in the script of a revocation of which only the reason is known.

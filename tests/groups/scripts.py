@@ -178,6 +178,11 @@ def an_older_crl_beside_one_form_only(t, left):
     # A PEM file with a line before the same CRL still counts as that CRL.
     (t.room / "www/ca.crl.pem").write_bytes(b"published by hand\n" + t.tool("openssl", "crl", "-in", f"www/{left}"))
     t.same(publish(t, desk)[:2], (0, "crl 2 published in www\n"))
+    # A CRL that the CA did not sign does not count, whatever its number.
+    octets = (t.room / "www/ca.crl").read_bytes()
+    (t.room / "www/ca.crl").write_bytes(octets[:-1] + bytes([octets[-1] ^ 1]))
+    (t.room / "www/ca.crl.pem").unlink()
+    t.same(publish(t, desk, "/crl/1")[:2], (0, "crl 1 published in www\n"), "a CRL beside one with a greater number and another signature")
 
 
 @test(seconds=2)
