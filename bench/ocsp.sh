@@ -5,9 +5,9 @@
 # installed, requests the eight certificates from `desk open` (it counts no answer of openssl, which gives no length), with the desk and the signer on
 # one, two and four processors, and prints their processor time for each answer. Then commands a second at the control socket, and with `desk script`.
 # The desk uses a placeholder digest, which costs next to nothing. With --signed it uses the same P-256 key as openssl. The program SIGNER
-# (signer/desk-signer, with persistent connections, or examples/signer.py if that is not built) holds the key, in SIGNERS processes (2: with more of
-# them, on four cores, an idle process that polls takes time from the client). --signed also measures a signer that takes 5 ms, one answer after the
-# other and 32 at once, and how long other requests wait while a signer hangs.
+# (signer/desk-signer, with persistent connections, or examples/signer.py if that is not built) holds the key, in SIGNERS processes (1, as in the
+# package: with more of them, on four cores, an idle process that polls takes time from the client). --signed also measures a signer that takes 5 ms,
+# one answer after the other and 32 at once, and how long other requests wait while a signer hangs.
 #
 # Usage, from the repository's root: bench/ocsp.sh [--signed] [NUMBER OF CERTIFICATES [NUMBER OF REQUESTS A ROUND]]     (100000 10000)
 # It needs openssl and python3; with --signed and examples/signer.py also python3's package cryptography.
@@ -51,7 +51,7 @@ if [ -n "$signed" ]; then
     persistent=
     [ "$(basename "$signer")" != desk-signer ] || persistent=--persistent
     # shellcheck disable=SC2086 # an empty one adds no word
-    "$signer" $persistent --processes "${SIGNERS:-2}" ca.key ca.sign >/dev/null &
+    "$signer" $persistent --processes "${SIGNERS:-1}" ca.key ca.sign >/dev/null &
     holder=$!
     sleep 2
     set -- "$@" --signer ca.sign --algorithm ecdsa-sha256
