@@ -17,6 +17,10 @@ pub(crate) const PAUSE_MILLIS: u64 = 10;
 /// after the other. A wake-up, which blocking adds, takes as long as signing.
 const POLLS: u32 = 300;
 
+/// The most pending signatures for which the loop polls without blocking. With more of them, a wake-up serves several clients, and other programs need
+/// the processor.
+const MOST_POLLED: usize = 2;
+
 /// An HTTP connection that waits for a signature: its slot, and its number, which no other connection has.
 #[derive(Clone, Copy)]
 pub(crate) struct Requester {
@@ -79,9 +83,10 @@ impl SignatureRequests {
             .is_ok()
     }
 
-    /// How long the loop may block: not at all while `polls` are left, of which this call uses one; `PAUSE_MILLIS` in a pause; else without limit.
+    /// How long the loop may block: not at all while `polls` are left, of which this call uses one, and at most `MOST_POLLED` signatures are pending;
+    /// `PAUSE_MILLIS` in a pause; else without limit.
     pub(crate) fn longest_wait(&mut self) -> Duration {
-        if self.polls > 0 {
+        if self.polls > 0 && self.pending_count() <= MOST_POLLED {
             self.polls = self.polls.saturating_sub(1);
             return Duration::ZERO;
         }
@@ -114,6 +119,10 @@ impl SignatureRequests {
             Some(first) if first.deadline <= now => self.queue.pop_front(),
             _ => None,
         }
+    }
+
+    fn pending_count(&self) -> usize {
+        self.places.iter().filter(|it| it.pending.is_some()).count()
     }
 
     fn free_place(&self) -> Option<usize> {
