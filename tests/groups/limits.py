@@ -854,25 +854,29 @@ def desk_serve_seldom_wakes_up_while_its_last_client_is_silent(t):
     seldom_wakes_up(t, 8)
 
 
-@test(seconds=2)
-def a_desk_polls_at_most_a_thousand_times_for_a_signature_before_it_waits(t):
-    """The signer hangs. Polls without waiting take processor time."""
+@test(seconds=3)
+def a_desk_polls_for_one_or_two_signatures_before_it_sleeps_and_not_for_more(t):
+    """The signer hangs. Polls without waiting take processor time, at most a thousand of them for a signature."""
     polls = lambda: faults.counted(t.room / "count")["poll"]
     ends = threading.Event()
     t.callback(ends.set)
     t.register(key=P256_KEY)
     signers = t.enter_context(Signers(t.room / "ca.sign", lambda message: ends.wait(60) and ANY_SIGNATURE))
     desk = t.open("ca.db", *SIGNING, faults=faults.environment(count=t.room / "count"))
-    with ThreadPoolExecutor(1) as pool:
-        before = polls()
-        answer = pool.submit(desk.ask, "POST", "/ocsp", asks(1))
-        t.true(signers.until(1), "no signature is requested")
-        # Time in which the desk could poll much more often.
-        time.sleep(0.5)
-        count = polls() - before
+    with ThreadPoolExecutor(4) as pool:
+        answers, counts = [], []
+        for count in range(1, 5):
+            before = polls()
+            answers.append(pool.submit(desk.ask, "POST", "/ocsp", asks(1)))
+            t.true(signers.until(count), f"signature {count} is not requested")
+            # Time in which the desk could poll much more often.
+            time.sleep(0.5)
+            counts.append(polls() - before)
         ends.set()
-        t.true(ANY_SIGNATURE in answer.result(), "the answer has no signature")
-    t.true(count <= 1_000, f"{count} polls")
+        for answer in answers:
+            t.true(ANY_SIGNATURE in answer.result(), "the answer has no signature")
+    t.true(all(50 <= count <= 1_000 for count in counts[:2]), f"{counts[:2]} polls for the first two")
+    t.true(all(count <= 30 for count in counts[2:]), f"{counts[2:]} polls for the next two")
 
 
 @test(seconds=3)
