@@ -19,6 +19,7 @@
    FAULTS_SLOW_OPEN=PATH   open(2) of a path that FAULTS_ONLY names creates the file PATH.waits, and then waits in the same way.
    FAULTS_SLOW_UNLINK=PATH So does unlink(2).
    FAULTS_AWAKE=1          The process never sleeps: nanosleep(2) returns at once.
+   FAULTS_HURRY=N          epoll_wait(2) waits only an Nth of its time.
    FAULTS_SAME=1           The system's random numbers are the same in each run, and so are the bytes of files.
    FAULTS_QUICK=1          A sync reports success without waiting for the disk.
    FAULTS_COUNT=PATH       The file PATH receives how many calls of each kind there were, in the order of `names`, the number of steps that FAULTS_STOP
@@ -61,7 +62,7 @@ void *__libc_memalign(size_t, size_t);
 static int ready, begun;
 static uint64_t counted_here[COUNTS], *counts = counted_here, *passed;
 static struct { uint64_t from, to; int error; } fails[KINDS];
-static uint64_t stop_at, most, lose, tick, ticks;
+static uint64_t stop_at, most, lose, tick, ticks, hurry;
 static int torn, lose_files, same, quick, awake;
 static const char *only, *slow_chmod, *slow_open, *slow_unlink;
 
@@ -129,7 +130,7 @@ __attribute__((constructor)) static void at_first(void) {
     read_fails(getenv("FAULTS_FAIL"));
     stop_at = number("FAULTS_STOP"), most = number("FAULTS_SHORT"), lose = number("FAULTS_LOSE");
     slow_chmod = getenv("FAULTS_SLOW_CHMOD"), slow_open = getenv("FAULTS_SLOW_OPEN"), slow_unlink = getenv("FAULTS_SLOW_UNLINK");
-    tick = number("FAULTS_TICK");
+    tick = number("FAULTS_TICK"), hurry = number("FAULTS_HURRY");
     torn = number("FAULTS_TORN") != 0, lose_files = number("FAULTS_LOSE_FILES") != 0, same = number("FAULTS_SAME") != 0;
     quick = number("FAULTS_QUICK") != 0, awake = number("FAULTS_AWAKE") != 0;
     only = getenv("FAULTS_ONLY");
@@ -555,6 +556,8 @@ int accept4(int file, struct sockaddr *restrict from, socklen_t *restrict size, 
 }
 
 int epoll_wait(int file, struct epoll_event *events, int many, int milliseconds) {
+    if (ready && hurry && milliseconds > 0)
+        milliseconds = milliseconds / (int)hurry;
     return ready && fails_now(POLL) ? -1 : syscall(SYS_epoll_wait, file, events, many, milliseconds);
 }
 

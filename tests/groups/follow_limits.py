@@ -1,8 +1,10 @@
 """Limits of a follower and of its leader: many rows, pages and waiting requests, long positions, full queues, out of memory, and system calls."""
 
+import os
 import socket
 import subprocess
 import time
+from concurrent.futures import ThreadPoolExecutor
 
 from groups.changes import LINES, Tables, asked, taken
 from groups.follow import CLOCK, LATER, OPEN, Copy, Forward, address, faked, led, paged, timed
@@ -53,6 +55,35 @@ def a_new_copy_of_more_than_512_pages(t):
     leader = t.open()
     copy = Copy(t, address(leader.port))
     copy.is_like(t.control())
+
+
+@test(seconds=3)
+def a_new_copy_of_a_page_that_comes_octet_by_octet(t):
+    """Its leader is at a socket, and sends each octet of the first page once the copy has read the one before."""
+    t.register(lines=LINES)
+    t.sql("ca.db", f"INSERT INTO subscriber {MORE_ROWS}", 400)
+    t.clock(CLOCK)
+    leader, control = t.open(), t.control()
+
+    def sends(server):
+        client, _ = server.accept()
+        with client:
+            octets = leader.send(client.recv(65536))
+            # The next pages come from the leader itself.
+            os.rename(t.room / "rest", t.room / "leader")
+            t.true(len(octets) > 6_000, f"a response of {len(octets)} octets")
+            for at in range(len(octets)):
+                client.sendall(octets[at : at + 1])
+                while not program.is_read(client):
+                    time.sleep(0)
+
+    with socket.socket(socket.AF_UNIX) as server, ThreadPoolExecutor(1) as pool, Forward(t.room / "rest", leader.port):
+        server.bind(str(t.room / "leader"))
+        server.listen(8)
+        sent = pool.submit(sends, server)
+        copy = Copy(t, "leader")
+        sent.result()
+        copy.is_like(control)
 
 
 @test(seconds=8)
@@ -191,6 +222,16 @@ def a_new_copy_asks_again_after_a_second(t):
     copy = Copy(t, address(server.port))
     t.true(0.9 < times[1] - times[0] < 8, f"it asked again after {times[1] - times[0]:.1f} seconds")
     t.same(copy.desk.log[:2], ["follow: leader answered 503", "follow: leader answered 404"], "what it says")
+
+
+@test(seconds=3)
+def a_new_copy_asks_however_often_its_leader_fails(t):
+    """Each pause has the same length, here a hundredth of a second: pauses that grow would soon take hours."""
+    failures = iter([(503, b"")] * 100)
+    leader, server = fills(t, lambda target, status, body: next(failures, None) or (status, body))
+    copy = Copy(t, address(server.port), faults=faults.environment(hurry=100))
+    t.same(server.targets[:101], ["/changes"] * 101, "what it asked for")
+    copy.is_like(t.control())
 
 
 @test(seconds=3)
