@@ -528,6 +528,29 @@ def rows_in_the_wal_are_found_and_stay_there(t):
 
 
 @test
+def a_log_counts_however_long_and_old_it_is(t):
+    """An interrupted checkpoint or a restored copy may leave a -wal that is older than its file; one large transaction leaves a long one."""
+    told = left_behind(t)
+    log = t.room / "ca.db-wal"
+    os.truncate(log, 70_000_000)
+    os.utime(log, (0, 0))
+    t.same(audited(t), (0, told, ""), "audit")
+    t.has(t.done("copy", "ca.db", "copy.db"), "copied ")
+    t.same(audited(t, "copy.db"), (0, told, ""), "audit of the copy")
+    t.same(t.done("script", "ca.db", given="2026-01-03T00:00:00Z counts\n"), "good 0 revoked 2 expired 0\n")
+
+
+@test
+def a_log_that_may_not_be_read_is_no_missing_one(t):
+    left_behind(t)
+    os.chmod(t.room / "ca.db", 0o644)
+    os.chmod(t.room / "ca.db-wal", 0)
+    for words in (("audit", "ca.db"), ("copy", "ca.db", "copy.db"), ("list", "ca.db", "revoked")):
+        ran = t.as_nobody(*words)
+        t.same((ran.returncode, ran.stdout, ran.stderr), (1, b"", b"F2 store\n"), words[0])
+
+
+@test
 def no_call_writes(t):
     told = left_behind(t)
     ran, count = faults.run(t, ["audit", "ca.db"])
