@@ -281,13 +281,13 @@ def a_call_that_fails_leaves_nothing(t, kind, cause):
     copied(t, t.done("copy", "ca.db", "copy.db"))
 
 
-@test
-def a_copy_whose_folder_can_not_be_synced_is_not_left(t):
+@each({"the sync fails": "sync:1", "it can't be opened": "open:1"})
+def a_copy_whose_folder_can_not_be_synced_is_not_left(t, fault):
     """After a power failure, the copy could be missing, though the desk had reported it."""
     t.register(lines=ENTERED)
     (t.room / "copies").mkdir()
-    ran, count = faults.run(t, ["copy", "ca.db", "copies/copy.db"], fail="sync:1", only="copies")
-    t.same((ran.status, ran.out, ran.err, count["met"]), (1, b"", b"F2 store\n", 1), "status, output, standard error and syncs that failed")
+    ran, count = faults.run(t, ["copy", "ca.db", "copies/copy.db"], fail=fault, only="copies")
+    t.same((ran.status, ran.out, ran.err, count["met"]), (1, b"", b"F2 store\n", 1), "status, output, standard error and calls that failed")
     t.same(list((t.room / "copies").iterdir()), [], "files that are left")
 
 
