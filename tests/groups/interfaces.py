@@ -81,6 +81,24 @@ def a_log_in_the_place_of_that_of_a_register_behind_a_link(t):
 
 
 @test
+def a_log_at_another_path_to_the_folder_of_a_register(t):
+    """A folder is mounted at a second place, as in a container: its files have two paths, and one name each."""
+    if os.geteuid():
+        raise Skipped("a mounted folder wants root")
+    need("mount")
+    t.register(lines=ENTERED)
+    before = (t.room / "ca.db").read_bytes()
+    (t.room / "mounted").mkdir()
+    if subprocess.run(["mount", "--bind", t.room, t.room / "mounted"], capture_output=True).returncode:
+        raise Skipped("no folder can be mounted here")
+    t.callback(subprocess.run, ["umount", t.room / "mounted"], check=True)
+    for log in ("mounted/ca.db", "mounted/ca.db-wal", "mounted/ca.db-journal"):
+        ran = t.desk("open", "ca.db", "--unsigned", "--control", "control", "--port", free_port(), "--log-file", log, "--why", timeout=60)
+        t.same((ran.status, ran.out, ran.err), (1, b"", b"F5 write\n  the path already exists: give another one (--log-file)\n"), log)
+    t.same((t.room / "ca.db").read_bytes(), before, "the register")
+
+
+@test
 def a_log_on_another_file_system_is_no_file_of_the_register(t):
     """The desk opens a log that has the register's inode number, but on another file system."""
     if os.geteuid():

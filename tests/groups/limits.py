@@ -192,6 +192,17 @@ def why_a_control_socket_is_not_created(t, path, cause):
     t.same((ran.status, ran.out, ran.err), (1, b"", f"F4 read\n{cause}".encode()))
 
 
+@test
+def a_stale_control_socket_that_may_not_be_removed_is_the_cause(t):
+    t.register()
+    with socket.socket(socket.AF_UNIX) as left:
+        left.bind(str(t.room / "control"))
+    words = ["open", "ca.db", "--port", free_port(), "--control", "control", "--unsigned", "--why"]
+    ran, count = faults.run(t, words, fail="unlink:1", only="control")
+    t.same((ran.status, ran.out, count["met"]), (1, b"", 1))
+    t.same(ran.err, b"F4 read\n  permission denied, or the file system is read-only (--control)\n")
+
+
 @test(seconds=3)
 def a_crl_whose_line_ends_in_cr_lf_holds_up_nobody(t):
     ends = threading.Event()
@@ -418,10 +429,10 @@ def a_crl_of_more_than_16_mib_is_written(t):
     t.same((ran.status, ran.err, len(ran.out)), (0, b"", 17_000_000), "status, standard error, and bytes of the CRL")
 
 
-@test(seconds=2)
-def a_log_of_more_than_a_thousand_requests(t):
+@test(seconds=4)
+def a_log_of_more_than_four_thousand_requests(t):
     """The desk numbers them anew. The last line revokes by the last request, and its number is that of the desk."""
-    count, first = 1_001, 5_001
+    count, first = 4_200, 5_001
     t.register(lines=f"{DAY} subscriber acme\n{DAY} order 1 398\n{DAY} register 1 05 {DAY} 2026-12-31T00:00:00Z\n")
     t.clock(DAY)
     t.open(faults=faults.environment())

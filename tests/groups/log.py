@@ -1,5 +1,6 @@
 """The log has one line for each exchange, byte for byte, whatever a client sends."""
 
+import fcntl
 import re
 import socket
 
@@ -189,6 +190,21 @@ def each_line_is_one_write(t):
     text = (t.room / "ca.log").read_text()
     t.true(len(text.splitlines()[-1]) > 1_024, f"the last line is short: {text}")
     t.same((text.count("\n"), faults.counted(t.room / "count")["write"]), (5, 5), "lines, and writes")
+
+
+@test
+def a_log_that_another_program_has_locked_holds_up_no_client(t):
+    """A program that ships logs may lock them, or be stopped while it does."""
+    t.register()
+    desk = t.open("ca.db", "--log-file", "ca.log")
+    with open(t.room / "ca.log", "a") as locked:
+        fcntl.flock(locked, fcntl.LOCK_EX)
+        fcntl.lockf(locked, fcntl.LOCK_EX)
+        with t.at_once("an answer and a reply"):
+            desk.send(b"GET /counts HTTP/1.1\r\n\r\n")
+            t.same(t.control().ask("counts"), "good 0 revoked 0 expired 0")
+    desk.end()
+    t.same([it.split('"')[1] for it in (t.room / "ca.log").read_text().splitlines()], ["GET /counts HTTP/1.1", "counts"], "the log")
 
 
 @test
