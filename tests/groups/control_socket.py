@@ -90,6 +90,22 @@ def why_names_a_moment_after_2050(t):
         t.same(control.ask("why"), "why notAfter at most 2050-01-30T23:59:59Z")
 
 
+@test(seconds=2)
+def a_line_that_is_not_refused_leaves_the_reason(t):
+    """`why` tells why the last refused line was refused, whatever was accepted or answered since."""
+    opened(t)
+    with t.control() as control:
+        t.same((control.ask("order 9 1"), control.ask("why")), ("E06 no-subscriber", "why E06 no-subscriber"))
+        for line in (
+            "subscriber other", "order 1 30", f"register 2 06 {DAY} 2026-01-10T00:00:00Z", "request 05 asked", "request 06 superseded",
+            "request 05 asked", "decline 1", "decline 3 05", "revoke 2 06", "crl", "status 05", "counts", "listing 06", "overdue", "next-crl",
+            f"ocsp {faults.OCSP_REQUEST}", "show 05", "show request 1", "show subscriber acme", "help", f"accept-clock {DAY}",
+            "schedule 1970-01-01T00:00:00Z=398", "copy copy.db", "why",
+        ):  # fmt: skip
+            t.true((reply := control.ask(line))[0] not in "EFb", f"the reply {reply} to {line}")
+            t.same(control.ask("why"), "why E06 no-subscriber", f"`why` after {line}")
+
+
 @test
 def an_end_of_line_with_a_cr_is_the_same(t):
     opened(t)
