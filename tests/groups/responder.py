@@ -215,7 +215,11 @@ def when_the_responder_s_certificate_ends(t):
         desk = t.open("ca.db", *responder.words())
         t.has(desk.ask("GET", "/metrics").decode(), f"\n{series} {program.seconds_of(ends.replace(' ', 'T'))}\n")
         desk.end()
-    t.same(series in t.open("ca.db").ask("GET", "/metrics").decode(), False, "whether the metric exists without a responder")
+    der_of(t, "ca")
+    for words in ((), ("--embed", "ca.der")):
+        desk = t.open("ca.db", *words)
+        t.same(series in desk.ask("GET", "/metrics").decode(), False, f"whether the metric exists without a responder, and with {words}")
+        desk.end()
 
 
 @test(seconds=3)
