@@ -13,6 +13,7 @@ from groups.monitoring import metrics
 from groups.waiting import SIGNING, Held, asked_for
 from lib import faults, program
 from lib.authority import until
+from lib.passing import Passing
 from lib.program import P256_KEY, is_read, parted
 from lib.trial import test
 
@@ -157,6 +158,45 @@ def a_crl_that_a_signer_signs_waits(t):
     confirm(t, leader, other, 7)
     sender.join(10 * program.PATIENCE)
     t.same(sender.reply, "crl 4 entries 2", "the reply with a follower")
+
+
+@test(seconds=2)
+def a_leader_whose_connection_the_kernel_does_not_poll_is_asked_again_after_a_second(t):
+    """epoll_ctl(2) fails for the first connection to the leader. The follower gives that up at once: in this test no time passes for it."""
+    leader, control, copy = led(t)
+    copy.is_like(control)
+    copy.desk.end()
+    passed, now = t.room / "passed", 1_000_000
+    passed.write_bytes(struct.pack("=Q", now))
+    # The first of these calls is for the port. The follower has no control socket.
+    told = faults.environment(count=t.room / "count", passed=passed, fail="watch:2")
+    desk = t.open("copy.db", "--from", address(leader.port), "--unsigned", command="follow", faults=told)
+    until(lambda: desk.log, "a line on standard error", seconds=15)
+    t.same((desk.log, faults.counted(t.room / "count")["met"]), (["follow: leader unreachable"], 1), "standard error, and injected faults")
+    # The follower has mapped the file, so it must never be empty.
+    with open(passed, "r+b") as it:
+        it.write(struct.pack("=Q", now + 1_000))
+    until(lambda: json.loads(parted(desk.ask("GET", "/health"))[2])["leader"]["current"], "the leader")
+
+
+@test(seconds=2)
+def a_crl_that_nobody_signs_waits_from_the_moment_at_which_it_ran(t):
+    """Its line came ten seconds before, but the signer is silent."""
+    held = Held(t)
+    t.register(key=P256_KEY, lines=LINES)
+    t.clock(CLOCK)
+    desk = Passing(t, "--confirm-by", "1", *SIGNING)
+    sender = Sender(t, "crl")
+    t.true(held.signers.until(1), "no signature is requested")
+    t.same(unconfirmed(desk.desk), None, "unconfirmed, while the signer is silent")
+    t.clock(ran := "2026-01-03T00:00:10Z")
+    desk.advance(10_000)
+    until(lambda: unconfirmed(desk.desk), "the command")
+    before = unconfirmed(desk.desk), sender.reply
+    confirm(t, desk.desk, t.control(), 7)
+    sender.join(10 * program.PATIENCE)
+    t.same(before, (ran, None), "unconfirmed, and the reply without a follower")
+    t.same((unconfirmed(desk.desk), sender.reply), (None, "F3 signer"), "unconfirmed, and the reply with a follower")
 
 
 class Slow:
