@@ -231,6 +231,25 @@ def the_last_descriptor_is_for_the_later_of_two_clients_that_come_together(t):
     desk.loses(first, why="crowded")
 
 
+@test(seconds=2)
+def the_last_descriptor_is_for_the_later_client_though_the_port_can_t_be_polled_again(t):
+    """The desk asks epoll_ctl(2) whether another client waits, and that fails. So it takes it that one does, and evicts the first one."""
+    entered(t)
+    usual = t.open(faults=faults.environment(count=t.room / "usual"))
+    before, files = faults.counted(t.room / "usual")["watch"], len(os.listdir(f"/proc/{usual.process.pid}/fd"))
+    usual.end()
+    os.remove(t.room / "control")
+    # The first of these calls is for the first client.
+    desk = t.open(faults=faults.environment(count=t.room / "count", fail=f"watch:{before + 2}"))
+    t.tool("prlimit", "--pid", desk.process.pid, f"--nofile={files + 1}:{files + 1}")
+    desk.process.send_signal(signal.SIGSTOP)
+    first, second = client(t, desk, COUNTS[:9]), client(t, desk, COUNTS)
+    desk.process.send_signal(signal.SIGCONT)
+    second.settimeout(20)
+    t.same(parted(read_all(second))[0], 200, "the second client")
+    t.same((read_all(first), faults.counted(t.room / "count")["met"]), (b"", 1), "the response to the first client, and injected faults")
+
+
 @test(seconds=3)
 def a_large_answer_is_sent_as_its_client_reads_it(t):
     desk = opened(t)
