@@ -366,6 +366,7 @@ def commands_of_all_kinds_before_each_page(t):
     "a row that can't be read": (b"subscriber 2 ", b"subscriber two ", "malformed page"),
     "a row that breaks a rule": (b"subscriber 2 ", b"subscriber 3 ", "broken page: subscriber 3 other-row"),
     "an issuer whose name is none": (b"issuer 30", b"issuer 31", None),
+    "a page that leads nowhere": (b"\nend ", b"\nmore ", None),
 }, seconds=2)  # fmt: skip
 def a_new_copy_of_a_page_that_is_wrong(t, part, other, failure):
     leader, server = fills(t, lambda target, status, body: (status, body.replace(part, other)))
