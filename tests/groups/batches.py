@@ -20,7 +20,7 @@ def send_together(desk, control, lines):
     """Sends lines to a desk that is stopped meanwhile, so that it finds all of them at once. Returns a reply for each, up to the end of the connection."""
     # A desk that leaves out a reply would keep the test waiting.
     control.stream.settimeout(20 * program.PATIENCE)
-    os.kill(desk.process.pid, signal.SIGSTOP)
+    program.hold(desk.process)
     try:
         control.stream.sendall("".join(f"{line}\n" for line in lines).encode())
     finally:

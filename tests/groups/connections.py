@@ -12,7 +12,7 @@ from concurrent.futures import ThreadPoolExecutor
 from lib import faults
 from lib.authority import until
 from lib.passing import Passing
-from lib.program import LONGEST, Control, is_read, parted, read_all
+from lib.program import LONGEST, Control, hold, is_read, parted, read_all
 from lib.trial import Skipped, each, test
 
 DAY = "2026-01-01T00:00:00Z"
@@ -176,7 +176,7 @@ def the_control_socket_has_the_next_descriptor(t):
     for at in range(3):
         client(t, desk)
         until(lambda: files() == before + at + 1, f"connection {at + 1}")
-    desk.process.send_signal(signal.SIGSTOP)
+    hold(desk.process)
     for _ in range(100):
         client(t, desk)
     control = t.enter_context(Control(t.room / "control", timeout=20))
@@ -222,7 +222,7 @@ def the_last_descriptor_is_for_the_later_of_two_clients_that_come_together(t):
     entered(t)
     desk = Passing(t)
     t.tool("prlimit", "--pid", desk.desk.process.pid, f"--nofile={desk.before + 1}:{desk.before + 1}")
-    desk.desk.process.send_signal(signal.SIGSTOP)
+    hold(desk.desk.process)
     first, second = client(t, desk.desk, COUNTS[:9]), client(t, desk.desk, COUNTS)
     desk.desk.process.send_signal(signal.SIGCONT)
     second.settimeout(20)
@@ -242,7 +242,7 @@ def the_last_descriptor_is_for_the_later_client_though_the_port_can_t_be_polled_
     # The first of these calls is for the first client.
     desk = t.open(faults=faults.environment(count=t.room / "count", fail=f"watch:{before + 2}"))
     t.tool("prlimit", "--pid", desk.process.pid, f"--nofile={files + 1}:{files + 1}")
-    desk.process.send_signal(signal.SIGSTOP)
+    hold(desk.process)
     first, second = client(t, desk, COUNTS[:9]), client(t, desk, COUNTS)
     desk.process.send_signal(signal.SIGCONT)
     second.settimeout(20)
@@ -573,7 +573,7 @@ def lines_of_control_connections_are_answered_in_turn(t):
     desk = t.open("ca.db", "--log")
     before, busy, after = (t.control() for _ in range(3))
     t.same([it.ask("counts") for it in (before, busy, after)], ["good 1 revoked 0 expired 0"] * 3)
-    desk.process.send_signal(signal.SIGSTOP)
+    hold(desk.process)
     busy.stream.sendall(b"status 7b\n" * 1_000)
     for it in (before, after):
         it.stream.sendall(b"status 05\n")
@@ -591,7 +591,7 @@ def clients_that_come_together_are_accepted_64_at_a_time(t):
     desk = t.open(faults=faults.environment(count=t.room / "count"))
     calls = lambda kind: faults.counted(t.room / "count")[kind]
     accepts, polls = calls("accept"), calls("poll")
-    desk.process.send_signal(signal.SIGSTOP)
+    hold(desk.process)
     for _ in range(600):
         client(t, desk)
     desk.process.send_signal(signal.SIGCONT)
@@ -604,7 +604,7 @@ def clients_that_come_together_are_all_answered_though_nothing_else_happens(t):
     """All have sent their requests. The desk answers 64 at once and closes their connections. No event then reports those who still wait."""
     t.register()
     desk = t.open()
-    desk.process.send_signal(signal.SIGSTOP)
+    hold(desk.process)
     clients = [client(t, desk, COUNTS) for _ in range(200)]
     desk.process.send_signal(signal.SIGCONT)
     for it in clients:
@@ -622,7 +622,7 @@ def the_events_of_many_connections_are_taken_together(t):
     clients = [client(t, desk, b"GET /counts") for _ in range(100)]
     until(lambda: calls("accept") >= accepts + 100, "the desk to accept a hundred clients")
     before = calls("poll")
-    desk.process.send_signal(signal.SIGSTOP)
+    hold(desk.process)
     for it in clients:
         it.sendall(b" HTTP/1.1\r\n\r\n")
     desk.process.send_signal(signal.SIGCONT)

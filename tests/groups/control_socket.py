@@ -7,7 +7,7 @@ import subprocess
 import time
 
 from lib import authority, faults
-from lib.program import LONGEST, Control, environment, free_port, is_read, parted, program, read_all
+from lib.program import LONGEST, Control, environment, free_port, hold, is_read, parted, program, read_all
 from lib.trial import each, test
 
 DAY = "2026-01-01T00:00:00Z"
@@ -121,7 +121,7 @@ def long_lines_that_come_at_once_are_all_answered(t):
     control = t.control()
     t.same(control.ask("counts"), "good 1 revoked 0 expired 0")
     count, line = 200, b"x" * 999 + b"\n"
-    desk.process.send_signal(signal.SIGSTOP)
+    hold(desk.process)
     sent = control.stream.send(count * line, socket.MSG_DONTWAIT)
     desk.process.send_signal(signal.SIGCONT)
     control.stream.sendall((count * line)[sent:])
@@ -151,7 +151,7 @@ def a_line_is_answered_before_requests_that_came_with_it(t):
         control.ask("counts")
         client.sendall(b"GET /counts")
         authority.until(lambda: is_read(client), "the desk to accept the client")
-        desk.process.send_signal(signal.SIGSTOP)
+        hold(desk.process)
         client.sendall(b" HTTP/1.1\r\n\r\n")
         control.stream.sendall(b"subscriber acme\n")
         desk.process.send_signal(signal.SIGCONT)
@@ -183,7 +183,7 @@ def lines_are_run_although_their_client_closes_at_once(t):
     desk = opened(t)
     control, other = t.control(), t.control()
     t.same([it.ask("status 05") for it in (control, other)], ["good"] * 2)
-    desk.process.send_signal(signal.SIGSTOP)
+    hold(desk.process)
     control.stream.sendall(b"request 05 superseded\nrevoke 1\n")
     closed(control)
     desk.process.send_signal(signal.SIGCONT)
@@ -229,7 +229,7 @@ def a_waiting_control_connection_is_accepted_once_another_had_its_last_reply(t):
     t.same([it.ask("counts") for it in first], ["good 1 revoked 0 expired 0"] * PLACES)
     waiting = t.control()
     waiting.stream.sendall(b"status 05\n")
-    desk.process.send_signal(signal.SIGSTOP)
+    hold(desk.process)
     first[0].stream.sendall(b"status 06\n")
     first[0].stream.shutdown(socket.SHUT_WR)
     desk.process.send_signal(signal.SIGCONT)

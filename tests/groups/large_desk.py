@@ -768,7 +768,7 @@ def nine_hundred_answers_wait_for_their_signatures_together(t):
     desk = Passing(t, *SIGNING).desk
     clients = [t.enter_context(desk.connect()) for _ in range(count)]
     authority.until(lambda: all(map(program.is_read, clients[::100])), "the desk to accept the clients")
-    desk.process.send_signal(signal.SIGSTOP)
+    program.hold(desk.process)
     for at, client in enumerate(clients):
         client.sendall(post(asked_for(0x1100 + at)))
     desk.process.send_signal(signal.SIGCONT)
@@ -919,7 +919,7 @@ def exchanges_that_take_days(t):
 
     def sends(request):
         """Sends a request before the desk accepts the client, as its time would be up by the next reading."""
-        desk.process.send_signal(signal.SIGSTOP)
+        program.hold(desk.process)
         with desk.connect() as client:
             client.sendall(request)
             desk.process.send_signal(signal.SIGCONT)

@@ -1546,7 +1546,7 @@ def a_connection_that_the_kernel_does_not_poll_holds_up_nobody(t, place, sent, i
     have_passed(t, 0)
     desk = t.open("ca.db", *SIGNING, faults=faults.environment(count=t.room / "count", passed=t.room / "passed", fail=f"watch:{before + 1}"))
     # All that the client sends is there when the desk accepts its connection.
-    desk.process.send_signal(signal.SIGSTOP)
+    program.hold(desk.process)
     client = desk.connect() if place == "port" else t.control().stream
     client.settimeout(20)
     with client:
@@ -1567,7 +1567,7 @@ def a_client_whose_answer_makes_room_is_not_lost(t):
     with desk.desk.connect() as first:
         first.sendall(COUNTS[:9])
         authority.until(lambda: program.is_read(first), "the desk to read it")
-        desk.desk.process.send_signal(signal.SIGSTOP)
+        program.hold(desk.desk.process)
         first.sendall(COUNTS[9:])
         with desk.desk.connect() as second:
             second.sendall(COUNTS)

@@ -240,7 +240,7 @@ def lines_connections_and_seconds(t):
 def the_connection_of_a_scrape_is_counted(t):
     """The connection and its request come together, while the desk is stopped."""
     desk = opened(t)
-    desk.process.send_signal(signal.SIGSTOP)
+    program.hold(desk.process)
     with desk.connect() as client:
         client.sendall(b"GET /metrics HTTP/1.1\r\n\r\n")
         desk.process.send_signal(signal.SIGCONT)

@@ -743,7 +743,7 @@ def clients_that_disconnect_together_take_no_other_connection(t):
         client.sendall(b"a message")
         client.shutdown(socket.SHUT_WR)
         authority.until(lambda: program.is_read(client), "the signer to read its message")
-    process.send_signal(signal.SIGSTOP)
+    program.hold(process)
     staying = range(5, 24, 6)
     for at in {*range(24)} - {*staying}:
         clients[at].close()
@@ -1205,7 +1205,7 @@ def two_hundred_messages_of_one_client_hold_up_nobody(t):
     process = started(t, "--persistent", it.key, before=preloaded(t, "turns", TURNS, f"TURNS={t.room / 'turns'}"))
     many = persistent(t)
     t.true(asked(many, b""), "no signature")
-    process.send_signal(signal.SIGSTOP)
+    program.hold(process)
     many.sendall(200 * frame(b""))
     others = [t.enter_context(connected(t.room / "ca.sign")) for _ in range(2)]
     for client in others:
@@ -1232,7 +1232,7 @@ def a_long_message_takes_turns_with_others(t):
     for client in (other, long):
         client.sendall(b"a")
         authority.until(lambda: program.is_read(client), "the signer to read the beginning")
-    process.send_signal(signal.SIGSTOP)
+    program.hold(process)
     before = turns(t, "r")
     other.sendall(b" message")
     other.shutdown(socket.SHUT_WR)
@@ -1831,7 +1831,7 @@ def it_notices_the_end_of_its_process_beside_that_of_another_child(t):
     process = started(t, "--processes", 2, it.key, before=before)
     others = native.children(process)
     t.same(len(others), 2, "its children")
-    process.send_signal(signal.SIGSTOP)
+    program.hold(process)
     for other in others:
         os.kill(other, signal.SIGKILL)
     authority.until(lambda: not any(map(native.is_there, others)), "the end of both")

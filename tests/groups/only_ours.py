@@ -393,7 +393,7 @@ def a_client_that_has_gone_takes_no_signature_of_another(t):
     it = Authority(t)
     path, process = guard(t, it)
     message = to_be_signed(t, it)[0]
-    process.send_signal(signal.SIGSTOP)
+    program.hold(process)
     with socket.socket(socket.AF_UNIX) as client:
         client.connect(str(path))
         client.sendall(message)

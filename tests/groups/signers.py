@@ -858,7 +858,7 @@ def a_back_off_begins_though_the_line_began_a_little_later_than_its_ten_seconds(
     desk = t.open("ca.db", *P256, faults=faults.environment(passed=passed, tick=1))
     control, other = t.control(), t.control()
     t.same([it.ask("counts") for it in (control, other)], ["good 0 revoked 0 expired 0"] * 2)
-    desk.process.send_signal(signal.SIGSTOP)
+    program.hold(desk.process)
     control.stream.sendall(f"ocsp {OCSP.hex()}\n".encode())
     other.stream.sendall(b"counts\n")
     desk.process.send_signal(signal.SIGCONT)

@@ -615,7 +615,7 @@ def lines_that_come_at_once_with_a_crl_are_answered(t):
     desk = t.open("ca.db", *SIGNING)
     clients = [t.control() for _ in range(3)]
     t.same([it.ask("counts") for it in clients], ["good 0 revoked 0 expired 0"] * 3)
-    desk.process.send_signal(signal.SIGSTOP)
+    program.hold(desk.process)
     for it, line in zip(clients, (b"counts\n", b"crl\n", b"counts\n")):
         it.stream.settimeout(20)
         it.stream.sendall(line)

@@ -294,7 +294,7 @@ def started(t, words, made):
 def unserved_behind(t, process, path, count):
     """How many of these clients get no signature, if they connect and send a message while the signer is stopped."""
     t.callback(process.send_signal, signal.SIGCONT)
-    process.send_signal(signal.SIGSTOP)
+    program.hold(process)
     clients = []
     for at in range(count):
         client = t.enter_context(socket.socket(socket.AF_UNIX))

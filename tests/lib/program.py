@@ -222,6 +222,16 @@ def is_read(client):
     return bool(sent and received) and sent[4].startswith("00000000:") and received[4].endswith(":00000000") and received[9] != "0"
 
 
+def hold(process):
+    """Stops a process, and returns once it has stopped. SIGCONT continues it."""
+    process.send_signal(signal.SIGSTOP)
+    while process.poll() is None:
+        with open(f"/proc/{process.pid}/stat") as status:
+            if status.read().rpartition(")")[2].split()[0] == "T":
+                return
+        time.sleep(0.001)
+
+
 def socket_name(address):
     """An address of IPv4 and its port, as /proc/net/tcp writes them."""
     return "%08X:%04X" % (struct.unpack("=I", socket.inet_aton(address[0]))[0], address[1])
