@@ -294,11 +294,17 @@ def no_right_to_read_or_to_write(t):
             for more, told in ((("--why",), b"F2 store\n  permission denied, or the file system is read-only (FILE)\n"), ((), b"F2 store\n")):
                 ran = t.as_nobody(command, "ca.db", *more, given=A_LINE)
                 t.same((ran.returncode, ran.stdout, ran.stderr), (1, b"", told), f"{command} {more}, mode {mode:o}")
+    # Lines for a log that may only be read would be lost, so the desk does not start.
+    (t.room / "ca.log").write_text("before\n")
+    os.chmod(t.room / "ca.log", 0o444)
+    ran = t.as_nobody("serve", "ca.db", "--port", program.free_port(), "--requests", 1, "--log-file", "ca.log", "--why")
+    told = b"F5 write\n  permission denied, or the file system is read-only (--log-file)\n"
+    t.same((ran.returncode, ran.stdout, ran.stderr, (t.room / "ca.log").read_text()), (1, b"", told, "before\n"), "a log")
 
 
 @test
 def no_right_to_make(t):
-    """Neither a register nor a control socket."""
+    """Neither a register nor a control socket nor a log."""
     t.register()
     for file in t.room.iterdir():
         os.chmod(file, 0o666)
@@ -306,7 +312,8 @@ def no_right_to_make(t):
     folder.mkdir(mode=0o555)
     init = ("init", "closed/ca.db", "--name", program.NAME, "--key", program.KEY)
     opens = ("open", "ca.db", "--port", program.free_port(), "--control", "closed/control", "--unsigned")
-    for words, line, place in ((init, b"F2 store", b"FILE"), (opens, b"F4 read", b"--control")):
+    logs = ("serve", "ca.db", "--port", program.free_port(), "--requests", 1, "--log-file", "closed/ca.log")
+    for words, line, place in ((init, b"F2 store", b"FILE"), (opens, b"F4 read", b"--control"), (logs, b"F5 write", b"--log-file")):
         ran = t.as_nobody(*words, "--why")
         told = b"%s\n  permission denied, or the file system is read-only (%s)\n" % (line, place)
         t.same((ran.returncode, ran.stdout, ran.stderr), (1, b"", told), words[0])
