@@ -282,7 +282,7 @@ def a_page_of_megabytes_takes_few_reads_and_a_request_few_writes(t):
 
 @test(seconds=3)
 def a_refused_line_has_its_time_in_the_log(t):
-    """Each reading of the elapsed time is seven milliseconds later than the one before."""
+    """The metrics have it, too. Each reading of the elapsed time is seven milliseconds later than the one before."""
     leader, control, copy = led(t)
     copy.is_like(control)
     copy.desk.end()
@@ -291,6 +291,8 @@ def a_refused_line_has_its_time_in_the_log(t):
         t.same(copy.lines.ask(line), "follower", line)
     micros = [it.rsplit(" ", 1)[1] for it in copy.desk.log if '" "follower" ' in it]
     t.same(micros, ["7000"] * 2, "microseconds in the log")
+    told = dict(it.rsplit(" ", 1) for it in program.parted(copy.desk.ask("GET", "/metrics"))[2].decode().splitlines())
+    t.same([told[f"desk_exchange_seconds_{it}"] for it in ("sum", "count")], ["0.014000", "2"], "seconds and lines in the metrics")
 
 
 @test(seconds=3)
