@@ -432,16 +432,19 @@ def the_first_answer_stays_first_though_the_signer_has_no_room(t):
     server.listen(0)
     filled.connect(str(t.room / "ca.sign"))
     desk = Passing(t, *SIGNING)
-    for serial in (0x1100, 0x2200):
+    serials = (0x1100, 0x2200, 0x3300, 0x4400)
+    for serial in serials:
         body = asked_for(serial)
         desk.comes(b"POST /ocsp HTTP/1.1\r\nContent-Length: %d\r\n\r\n" % len(body) + body)
     # The desk again tries to connect for the first answer, in vain.
     desk.advance(10)
     server.accept()[0].close()
-    desk.advance(10)
-    client, _ = server.accept()
-    with client:
-        t.true(names(program.read_all(client), 0x1100), "the first signature is requested for another answer")
+    # Then the signer has room for one request after the other. They come in the order of the answers.
+    for serial in serials:
+        desk.advance(10)
+        client, _ = server.accept()
+        with client:
+            t.true(names(program.read_all(client), serial), f"a signature is requested for another answer than that of {serial:x}")
 
 
 @test(seconds=2)
