@@ -202,6 +202,9 @@ def no_copy_at_the_control_socket(t):
     t.register(lines=ENTERED)
     t.open()
     refused(t, "control", "nowhere/copy.db", "no such file")
+    # No other file of the folder is one of the empty path.
+    for name in ("-wal", "-journal", ".part"):
+        (t.room / name).write_text("mine")
     refused(t, "control", "", "no such file")
     with Control(t.room / "control") as it:
         it.stream.sendall(b"copy \xff\nwhy\ncopy\n")
