@@ -2378,12 +2378,14 @@ def a_register_to_which_sqlite_writes_is_not_read(t):
 
 @each({"an audit": ["audit", "ca.db"], "a copy": ["copy", "ca.db", "copy.db"], "a list": ["list", "ca.db", "orders"]}, seconds=2)
 def a_disk_that_fails_is_no_damage_and_no_other_program(t, words):
-    """No cause is told, since none is known. An operator who is told of damage restores a backup."""
+    """No cause is told, since none is known. An operator who is told of damage restores a backup. What a journal has can't be known either."""
     t.register(lines=f"{DAY} subscriber acme\n")
+    (t.room / "ca.db-journal").write_bytes(bytes(512))
+    files = "ca.db,ca.db-wal,ca.db-journal"
     for kind in ("lock", "read"):
-        for at in faults.places(faults.total(t, words, kind, only="ca.db,ca.db-wal"), 8, 9):
+        for at in faults.places(faults.total(t, words, kind, only=files), 8, 9):
             (t.room / "copy.db").unlink(missing_ok=True)
-            ran, count = faults.run(t, [*words, "--why"], fail=f"{kind}:{at}=EIO", only="ca.db,ca.db-wal")
+            ran, count = faults.run(t, [*words, "--why"], fail=f"{kind}:{at}=EIO", only=files)
             t.same((ran.status, ran.out, ran.err, count["met"]), (1, b"", b"F2 store\n", 1), f"{kind} {at}")
 
 
