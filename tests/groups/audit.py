@@ -128,6 +128,7 @@ BACKWARDS, LONGER = "its notBefore is after its notAfter", "a longer validity th
 EARLIER, ENDED = "its moment is before that of the row before it", "its moment is after the end of the certificate"
 REVOKED, DECLINED = "its moment is after the revocation of its serial number", "its request was declined"
 REASON, NEVER = "another reason than that of its request's ground", "a last accepted moment that no command set"
+MORE = "more rows than the policy's cap"
 SWAPPED = "; ".join(f"UPDATE revocation SET rowid = {new} WHERE rowid = {old}" for old, new in ((1, 9), (2, 1), (9, 2)))
 
 
@@ -161,6 +162,7 @@ UNREACHED = [
     (AGREED, "UPDATE request SET received = 0 WHERE id = 4", f"request 4: {EARLIER}"),
     (AGREED, "UPDATE request SET received = 1767441601 WHERE id = 2", f"request 3: {EARLIER}"),
     (AGREED, "UPDATE request SET received = 1767657600 WHERE id = 1", f"request 2: {EARLIER}"),
+    (AGREED, "UPDATE request SET id = 5 WHERE id = 4; UPDATE revocation SET request = 5 WHERE request = 4", f"request 4: {MOVED}"),
     (AGREED, asked(3, 1767657600), f"request 5: {ENDED}"),
     (AGREED, "UPDATE cert SET not_after = 1767311999 WHERE order_id = 1", f"request 1: {ENDED}"),
     (AGREED, "UPDATE cert SET not_after = 1767398399 WHERE order_id = 2", f"request 2: {ENDED}"),
@@ -181,6 +183,8 @@ UNREACHED = [
     (AGREED, "UPDATE revocation SET request = 3 WHERE request = 1", f"revocation 1: {REASON}"),
     (AGREED, SWAPPED, f"revocation 2: {EARLIER}"),
     (ONE_SECOND, SWAPPED, "revocation 2: its first CRL is before that of the row before it"),
+    (AGREED, "UPDATE office SET cap = 1", f"subscriber 2: {MORE}"),
+    (AGREED, "UPDATE office SET cap = 3", f"request 4: {MORE}"),
     (A_CRL, "UPDATE office SET last_at = last_at + 1", f"office 1: {NEVER}"),
     ("", "UPDATE office SET last_at = 5", f"office 1: {NEVER}"),
     (AGREED, "UPDATE office SET days = 0", f"office 1: {ALLOWED}"),
