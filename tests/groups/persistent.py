@@ -519,7 +519,6 @@ def a_kept_connection_is_closed_for_a_client_at_the_port(t):
     t.same(program.parted(desk.ask("GET", "/counts", timeout=20))[0], 200, "the status of the client's answer")
     authority.until(lambda: files(desk) < full, "the desk to close the client's connection")
     t.same(files(desk), full - 1, "descriptors: only one of the kept connections was closed")
-    t.tool("prlimit", "--pid", desk.process.pid, f"--nofile={full + 2}:4096")
     for serial in (0x2200, 0x3300):
         with t.at_once("an answer after that"):
             t.true(is_own(ocsp_answer(desk, serial), serial), f"the answer for {serial:x}")

@@ -125,13 +125,13 @@ impl SignatureRequests {
         self.places.iter().filter(|it| it.pending.is_some()).count()
     }
 
+    /// A free place, if there is one: one that keeps a connection to the signer if there is such a one, because a new connection needs a descriptor.
     fn free_place(&self) -> Option<usize> {
-        for index in 0..self.places.len() {
-            if self.pending(index).is_none() {
-                return Some(index);
-            }
-        }
-        None
+        let keeps = self
+            .places
+            .iter()
+            .position(|it| it.pending.is_none() && it.request.is_some());
+        keeps.or(self.places.iter().position(|it| it.pending.is_none()))
     }
 
     pub(crate) fn pending(&self, index: usize) -> Option<PendingSignature> {
