@@ -365,13 +365,13 @@ def commands_of_all_kinds_before_each_page(t):
     "another version": (b"changes 1\n", b"changes 2\n", "page of another version"),
     "a row that can't be read": (b"subscriber 2 ", b"subscriber two ", "malformed page"),
     "a row that breaks a rule": (b"subscriber 2 ", b"subscriber 3 ", "broken page: subscriber 3 other-row"),
-    "an issuer whose name is none": (b"issuer 30", b"issuer 31", None),
-    "a page that leads nowhere": (b"\nend ", b"\nmore ", None),
+    "an issuer whose name is none": (b"issuer 30", b"issuer 31", "malformed page"),
+    "a page that leads nowhere": (b"\nend ", b"\nmore ", "broken page: positions other-positions"),
 }, seconds=2)  # fmt: skip
 def a_new_copy_of_a_page_that_is_wrong(t, part, other, failure):
     leader, server = fills(t, lambda target, status, body: (status, body.replace(part, other)))
     ran = t.desk("follow", "copy.db", "--from", address(server.port), "--port", program.free_port(), "--unsigned", timeout=20)
-    t.same((ran.status, ran.err_lines), (1, [*([f"follow: {failure}"] if failure else []), "broken-feed"]), "its end")
+    t.same((ran.status, ran.err_lines), (1, [f"follow: {failure}", "broken-feed"]), "its end")
     t.same([it.name for it in t.room.iterdir() if it.name.startswith("copy.db")], [], "files that it left")
 
 

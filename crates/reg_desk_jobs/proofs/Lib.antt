@@ -6,6 +6,7 @@ pub mod NextLines
 pub mod Replaying
 pub mod EachRow
 pub mod ConversationLemmas
+pub mod Fetching
 pub mod FollowRuns
 pub mod KeptByLines
 pub mod KeptByRequests

@@ -18,6 +18,7 @@ use Rattle.reg_io.specs.RunsOfAnswers.{Answered}
 use Rattle.reg_office_api.specs.Calls.{KeepsIn, LooksIn}
 use Rattle.reg_office_api.specs.Follows.{ArePositionsOf, FollowStep, FormsSign}
 use Rattle.reg_office_api.specs.declared.office.Office.{Ghosts as Office}
+use Rattle.reg_desk_jobs.specs.Fetches.{IsWholeFeed}
 use Rattle.reg_desk_jobs.specs.Serving.{IsBoundOn, Served}
 use Rattle.reg_desk_service.specs.Admission.{first_admission}
 use Rattle.reg_desk_service.specs.Following.{FollowerAnswers, FollowerAnswersLines, FollowerDefers, FollowerWorks}
@@ -88,12 +89,13 @@ module _ {M O D S R : Type 0} (machines : Machine M O D S R) (offices : Office O
       ⊎ ((why : Failure) × machines.copy_failed machine path to why machine' × (result ≡ Err why))
   CopiesFilled path to (Err why) result machine machine' = (machine' ≡ machine) × (result ≡ Err why)
 
-  -- The file at a path is filled from the leader: no page came, and nothing changed; or the file beside it is filled, copied to the path, and
-  -- removed.
+  -- The file at a path is filled from the leader: no whole feed came, and nothing changed; or the file beside it is filled with one, copied to the
+  -- path, and removed.
   abbrev pub Fills : List ℕ → Result (Unit {0}) Failure → M → M → Type 0
   Fills path result machine machine' =
       ((machine' ≡ machine) × JobFails result)
       ⊎ ((pages : List ReceivedPage) × (entered : Result (Unit {0}) Failure) × (filled copied : M)
+      × IsWholeFeed pages
       × (FormsSign offices.signs offices.forms → FillsFile (fill_path path) pages entered machine filled)
       × CopiesFilled (fill_path path) path entered result filled copied
       × machines.removed copied (fill_path path) machine')

@@ -1,6 +1,7 @@
 pub mod Conversations
 pub mod Digest
 pub mod Ends
+pub mod Fetches
 pub mod FollowJobs
 pub mod FollowedRuns
 pub mod LogEntries

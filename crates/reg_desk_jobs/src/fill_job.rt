@@ -1,9 +1,10 @@
 //! Fills a new file with the register of another desk: first another file beside it, which is then copied.
 
-ghost use Rattle.std.specs.Prelude.{◌≡◌, ◌++◌, string_bytes, IfErr, IfOk, OnErr, OnOk};
+ghost use Rattle.std.specs.Prelude.{◌≡◌, ◌↔◌, ◌+◌, ◌++◌, ℕ, Some, string_bytes, IfErr, IfOk, IfSome, IsFalse, IsTrue, OnErr, OnOk};
 ghost use Rattle.reg_core.specs.Records.{no_records};
 ghost use Rattle.reg_core.specs.declared.refusal.Fault.TheVariants as fault;
 ghost use Rattle.reg_desk_cli.specs.declared.failure.Failure.TheVariants as failure;
+ghost use Rattle.reg_desk_jobs.specs.Fetches.{Comes, ComesOnce, FailsBySystem, FailsToFetch, IsWholeFeed};
 ghost use Rattle.reg_desk_jobs.specs.FollowJobs.{CopiesFilled, CreatesEmpty, EntersFeed, Fills, FillsFile, RemovesLeftovers};
 ghost use Rattle.reg_office_api.specs.Calls.{LeadsIn};
 ghost use Rattle.reg_office_api.specs.Follows.{FormsSign};
@@ -16,7 +17,7 @@ use reg_desk_cli::{Failure, FollowJob, LeaderAddress};
 use reg_desk_metrics::FeedFailure;
 use reg_desk_server::{FeedExchange, FeedProgress, LeaderStream};
 use reg_desk_service::{
-    Machine, algorithm_in, changes_request, create_register, open_to_fill, report,
+    Machine, algorithm_in, changes_request, create_register, no_progress, open_to_fill, report,
 };
 use reg_office_api::{FollowFault, Office};
 use std::alloc::Global;
@@ -147,7 +148,10 @@ fn create_empty<M: Machine>(
     let issuer = match Issuer::of_stored(alloc, &page.head.stored_name, &page.head.key) {
         Ok(issuer) => issuer,
         Err(IssuerFault::Memory) => return Err(Failure::Fault(Fault::Memory)),
-        Err(_) => return Err(Failure::BrokenFeed),
+        Err(_) => {
+            report::<M>(alloc, &*machine, &FeedFailure::Malformed);
+            return Err(Failure::BrokenFeed);
+        }
     };
     match machine.claim(path) {
         Ok(_) => {}
@@ -213,30 +217,47 @@ impl Fetcher {
         alloc: Global,
         machine: &M,
         leader: &LeaderAddress<'_>,
-    ) -> Result<Vec<ReceivedPage>, Failure> {
+    ) -> Result<Vec<ReceivedPage>, Failure>
+        ensures ok { IfOk result (λ pages. IsWholeFeed pages.items) }
+        ensures err { IfErr result (FailsToFetch M.failed M.waited) }
+    {
+        for _ in 0..u64::MAX {
+            if let Some(pages) = self.fetch_pages::<M>(alloc, machine, leader)? {
+                return Ok(pages);
+            }
+            self.pause::<M>(machine, RETRY_MILLIS)?;
+        }
+        Err(Failure::Fault(Fault::Read))
+    }
+
+    /// The same; `None` if the leader does not know the positions of a page that it sent. A page that does not end the feed must lead on.
+    fn fetch_pages<M: Machine>(
+        &mut self,
+        alloc: Global,
+        machine: &M,
+        leader: &LeaderAddress<'_>,
+    ) -> Result<Option<Vec<ReceivedPage>>, Failure>
+        ensures ok { IfOk result (λ found. IfSome found (λ pages. IsWholeFeed pages.items)) }
+        ensures err { IfErr result (FailsToFetch M.failed M.waited) }
+    {
         let mut pages = Vec::new(alloc);
         let mut after: Option<Positions> = None;
         for _ in 0..u64::MAX {
-            match self.fetch::<M>(alloc, machine, leader, &after)? {
-                Some(page) => {
-                    let ends = page.ends;
-                    let reached = Some(page.positions);
-                    if !ends && reached == after {
-                        return Err(Failure::BrokenFeed);
-                    }
-                    after = reached;
-                    if pages.push(page).is_err() {
-                        return Err(Failure::Fault(Fault::Memory));
-                    }
-                    if ends {
-                        return Ok(pages);
-                    }
-                }
-                None => {
-                    pages.clear();
-                    after = None;
-                    self.pause::<M>(machine, RETRY_MILLIS)?;
-                }
+            let Some(page) = self.fetch::<M>(alloc, machine, leader, &after)? else {
+                return Ok(None);
+            };
+            if leads_nowhere(&after, &page) {
+                report::<M>(alloc, machine, &FeedFailure::Broken(no_progress()));
+                return Err(Failure::BrokenFeed);
+            }
+            let ends = page.ends;
+            after = Some(page.positions);
+            match pages.push(page) {
+                Ok(()) => {}
+                Err(_) => return Err(Failure::Fault(Fault::Memory)),
+            }
+            if ends {
+                return Ok(Some(pages));
             }
         }
         Err(Failure::Fault(Fault::Read))
@@ -250,7 +271,10 @@ impl Fetcher {
         machine: &M,
         leader: &LeaderAddress<'_>,
         after: &Option<Positions>,
-    ) -> Result<Option<ReceivedPage>, Failure> {
+    ) -> Result<Option<ReceivedPage>, Failure>
+        ensures ok { IfOk result (Comes after.now) }
+        ensures err { IfErr result (FailsToFetch M.failed M.waited) }
+    {
         for _ in 0..u64::MAX {
             let failure = match self.fetch_once::<M>(alloc, machine, leader, after)? {
                 Ok(page) => return Ok(Some(page)),
@@ -275,13 +299,17 @@ impl Fetcher {
         Err(Failure::Fault(Fault::Read))
     }
 
+    /// The page after some positions, or why none came. The leader is asked once.
     fn fetch_once<M: Machine>(
         &mut self,
         alloc: Global,
         machine: &M,
         leader: &LeaderAddress<'_>,
         after: &Option<Positions>,
-    ) -> Result<Result<ReceivedPage, FeedFailure>, Failure> {
+    ) -> Result<Result<ReceivedPage, FeedFailure>, Failure>
+        ensures ok { IfOk result (ComesOnce after.now) }
+        ensures err { IfErr result (FailsBySystem M.failed M.waited) }
+    {
         let Ok(mut stream) = machine.connect_to_leader(leader) else {
             return Ok(Err(FeedFailure::Unreachable));
         };
@@ -318,7 +346,10 @@ impl Fetcher {
     }
 
     /// Waits until the connection is ready, at most so many milliseconds.
-    fn pause<M: Machine>(&mut self, machine: &M, millis: u64) -> Result<(), Failure> {
+    fn pause<M: Machine>(&mut self, machine: &M, millis: u64) -> Result<(), Failure>
+        ensures ok { OnOk result ((count : ℕ) → M.waited count → M.waited (count + 1)) }
+        ensures err { IfErr result (FailsBySystem M.failed M.waited) }
+    {
         match machine.wait(
             &mut self.poll,
             &mut self.events,
@@ -330,7 +361,19 @@ impl Fetcher {
     }
 }
 
-fn millis<M: Machine>(machine: &M) -> Result<u64, Failure> {
+/// Whether a page, which came after some positions, neither ends the feed nor leads on.
+fn leads_nowhere(after: &Option<Positions>, page: &ReceivedPage) -> bool
+    ensures { IsTrue result ↔ (IsFalse page.now.ends × (after.now ≡ Some page.now.positions)) }
+{
+    match after {
+        Some(after) => !page.ends && *after == page.positions,
+        None => false,
+    }
+}
+
+fn millis<M: Machine>(machine: &M) -> Result<u64, Failure>
+    ensures { IfErr result (FailsBySystem M.failed M.waited) }
+{
     match machine.millis() {
         Ok(millis) => Ok(millis),
         Err(_) => Err(Failure::Fault(Fault::Read)),

@@ -15,6 +15,9 @@ use Rattle.reg_desk_server.specs.Exchange.{Outcome}
 use Rattle.reg_desk_server.specs.LineEnds.{IsLine}
 use Rattle.reg_office_api.specs.Calls.{KeepsIn, LeadsIn}
 use Rattle.reg_office_api.specs.Follows.{FollowStep, FormsSign, IsLastOf}
+use Rattle.reg_office_api.specs.declared.follow.BrokenFeed.{BrokenFeed}
+use Rattle.reg_office_api.specs.declared.follow.FeedPart.TheVariants.{Positions}
+use Rattle.reg_office_api.specs.declared.follow.FeedRule.TheVariants.{OtherPositions}
 use Rattle.reg_office_api.specs.declared.office.Office.{Ghosts as Office}
 use Rattle.reg_desk_service.specs.ChangesRequests.{changes_text}
 use Rattle.reg_desk_service.specs.ExpectedCrls.{ExpectsCrls, LeadsWithCrls}
@@ -100,6 +103,10 @@ abbrev pub SendsRequest : ℕ → Follower → Follower → Type 0
 SendsRequest now old new =
     (new ≡ old) ⊎ (new ≡ record old { asked_at = new.asked_at; exchange = new.exchange } × (new.asked_at ≡ now)
     × IfSome new.exchange (λ exchange. unsent_of exchange.request ≡ next_request old))
+
+-- the fault of a page that neither ends the feed nor leads on
+abbrev pub no_progress : BrokenFeed
+no_progress = record { part = Positions; row = 0; why = OtherPositions }
 
 -- the last of these pages ends the feed
 abbrev pub LastEnds : List ReceivedPage → Type 0

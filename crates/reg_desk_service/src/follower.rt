@@ -6,7 +6,7 @@ ghost use Rattle.reg_desk_server.specs.Buffers.{unsent_of};
 ghost use Rattle.reg_office_api.specs.Follows.{FollowStep, FormsSign};
 ghost use Rattle.reg_desk_service.specs.ExpectedCrls.{ExpectsCrls, LeadsWithCrls};
 ghost use Rattle.reg_desk_service.specs.PageSchedules.{HasLastSteps};
-ghost use Rattle.reg_desk_service.specs.Following.{NotesFailure, IsTooFarBehind, SendsRequest, FollowsAt, KeepsProgress, KeepsRecords, LastEnds, Reaches, TakesResponse, has_diverged, is_current_at, may_wait, next_request, reached_within, progress_at};
+ghost use Rattle.reg_desk_service.specs.Following.{NotesFailure, IsTooFarBehind, SendsRequest, FollowsAt, KeepsProgress, KeepsRecords, LastEnds, Reaches, TakesResponse, has_diverged, is_current_at, may_wait, next_request, no_progress, reached_within, progress_at};
 
 use crate::confirmation::schedule_in;
 use crate::feed_request::changes_request;
@@ -474,8 +474,10 @@ fn is_diverged(stop: Option<Failure>) -> bool
     }
 }
 
-/// A page that does not end the feed and does not lead on either.
-fn no_progress() -> BrokenFeed {
+/// The fault of a page that does not end the feed and does not lead on either.
+pub fn no_progress() -> BrokenFeed
+    ensures { result ≡ no_progress }
+{
     BrokenFeed {
         part: FeedPart::Positions,
         row: 0,

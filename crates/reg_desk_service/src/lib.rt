@@ -44,7 +44,7 @@ pub use failure_cause::{FailureCause, Location};
 pub use feed_end::FeedEnd;
 pub use feed_request::changes_request;
 pub use follow_desk::FollowDesk;
-pub use follower::{Follower, algorithm_in, report};
+pub use follower::{Follower, algorithm_in, no_progress, report};
 pub use health_routes::{responder_not_after, signing_of};
 pub use log_lines::{MOST_QUOTED, put_number, put_word};
 pub use machine::Machine;

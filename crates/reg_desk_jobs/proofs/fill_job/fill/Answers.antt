@@ -1,6 +1,7 @@
-use Rattle.std.proofs.Common.{ap, inl, inr, refl, subst, ◌++◌, ◌∙◌}
+use Rattle.std.proofs.Common.{ap, inl, inr, refl, subst, sym, ◌++◌, ◌∙◌}
 use Rattle.std.specs.Prelude.{ℕ, List, codes}
 use Rattle.reg_desk_jobs.proofs.FollowRuns.{copies_at, fills_at, is_err}
+use Rattle.reg_desk_jobs.specs.Fetches.{IsWholeFeed}
 use Rattle.reg_desk_jobs.proofs.fill_job.fill.Goals as goal
 
 pub returns-in_err-path : goal.returns-in_err-path
@@ -22,6 +23,7 @@ returns g c =
       c.fill_file-entered.result,
       c.fill_file-entered.new.machine,
       c.copy_filled-copied.new.machine,
+      subst IsWholeFeed (sym c.deref.ensures.value) c.in_ok-pages.ensures.ok,
       (λ forms. fills_at g.M.Machine g.M.Office.Office _ _ _ _ _ _ path (c.fill_file-entered.ensures forms)),
       copies_at g.M.Machine g.M.Office.Office _ _ _ _ _ _ _ _ path c.as_str-file.ensures c.copy_filled-copied.ensures,
       subst (λ (it : List ℕ). g.M.Machine.removed c.copy_filled-copied.new.machine it c.remove.new.self) path c.remove.ensures,
