@@ -97,6 +97,25 @@ def at_most_32_signatures_are_requested_at_once(t):
 
 
 @test(seconds=2)
+def signatures_of_clients_that_come_together_are_requested_together(t):
+    """The desk requests the signatures of 32 answers after a few calls of epoll_wait(2), and not after one for each."""
+    held = Held(t)
+    t.register(key=P256_KEY)
+    desk = t.open("ca.db", *SIGNING, faults=faults.environment(count=t.room / "count"))
+    calls = lambda: faults.counted(t.room / "count")["poll"]
+    authority.until(lambda: calls() >= 2, "the desk to wait for clients")
+    program.hold(desk.process)
+    for at in range(AT_ONCE):
+        body = asked_for(0x1100 + at)
+        t.enter_context(desk.connect()).sendall(b"POST /ocsp HTTP/1.1\r\nHost: localhost\r\nContent-Length: %d\r\n\r\n" % len(body) + body)
+    before = calls()
+    desk.process.send_signal(signal.SIGCONT)
+    t.true(held.signers.until(AT_ONCE), "a signature is not requested")
+    # While nothing happens, the desk makes four calls a second.
+    t.true(calls() - before < AT_ONCE // 2, f"calls of epoll_wait(2) until {AT_ONCE} signatures were requested: {calls() - before}")
+
+
+@test(seconds=2)
 def a_signature_is_requested_without_a_wait_for_another_event(t):
     """The event loop waits up to a quarter of a second if nothing happens. The signature is requested before that, so the fastest of ten answers takes
     less time."""
