@@ -444,6 +444,23 @@ def answers_that_wait_hold_64_mib_together(t):
     desk.loses(first, second, third, why="crowded")
 
 
+@test(seconds=8)
+def a_client_that_has_sent_half_a_request_makes_no_room_for_answers_that_wait(t):
+    """Its connection is the oldest one. Three clients do not take their answers of 33 MB: the desk evicts the first of these. The oldest client then
+    sends the rest of its request."""
+    entered(t, 33_000_000)
+    desk = Passing(t)
+    oldest = desk.comes(COUNTS[:9])
+    asked = [client(t, desk.desk, CRL)]
+    for _ in range(2):
+        t.same(asked[-1].recv(1), b"H", "the first byte of its answer")
+        asked.append(client(t, desk.desk, CRL))
+    t.same(asked[-1].recv(1), b"H", "the first byte of the last answer")
+    desk.loses(asked[0], why="crowded")
+    oldest.sendall(COUNTS[9:])
+    t.same(parted(read_all(oldest))[0], 200, "its answer")
+
+
 @test(seconds=6)
 def what_a_lost_client_did_not_take_waits_no_more(t):
     """Two clients time out, each with most of its 33 MB answer unsent. The answers of two others then fit."""
