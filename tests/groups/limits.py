@@ -1400,6 +1400,9 @@ def a_terminal_shows_the_rows_and_crls_of_an_audit(t):
     few = len(on_a_terminal(t, "audit", "ca.db", tick=100))
     t.true(0 < few <= len(shown) // 10 + 1, f"{len(shown)} lines in so many seconds, but {few} in a tenth of these")
     t.same(t.desk("audit", "ca.db", faults=faults.environment(tick=1_000)).err, b"", "standard error that is no terminal")
+    # The result is one line, so progress is shown also if that line goes to the terminal.
+    both = on_a_terminal(t, "audit", "ca.db", replies=pty, tick=1_000)
+    t.same((both[:-1], both[-1][:7]), (shown, "sound, "), "what a terminal shows that is also standard output")
     (t.room / "passed").write_bytes(bytes(8))
     t.same(on_a_terminal(t, "audit", "ca.db", passed=t.room / "passed"), [], "what the terminal shows in less than a second")
 
