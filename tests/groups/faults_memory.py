@@ -117,6 +117,17 @@ def a_job_that_is_refused_is_done_the_next_time(t, words, given, base):
         t.same(faults.tables(t.room / "ca.db"), after, f"{where}: the tables at the end")
 
 
+@test(seconds=6)
+def an_audit_that_has_no_memory_for_what_it_read_says_so(t):
+    """From some allocation on there is none. An auditor who is told of the store would look at the disk."""
+    t.register(lines=script(REGISTERED) + f"{DAY} order 1 398\n{DAY} crl\n")
+    last = faults.total(t, ["audit", "ca.db"], "alloc")
+    # It has read all rows by then, and compares them.
+    for at in range(last - 800, last + 1, 3):
+        ran, count = faults.run(t, ["audit", "ca.db"], fail=f"alloc:{at}+")
+        t.same((ran.status, ran.out, ran.err), (1, b"", b"F1 memory\n"), f"allocation {at} of {last}")
+
+
 @each({name: JOBS[name] for name in ("import", "list", "audit")})
 def a_file_that_the_system_has_no_memory_to_open(t, words, given, base):
     """open(2) fails with ENOMEM. An operator who is told of the store looks at the disk."""
