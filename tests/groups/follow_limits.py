@@ -186,6 +186,21 @@ def rows_of_several_tables_come_in_the_order_of_their_commands(t):
     copy.is_sound()
 
 
+@test(seconds=3)
+def a_decline_of_a_request_that_a_follower_has_comes_before_a_later_revocation(t):
+    """While the follower is away, the request is declined, a revocation by another request of the same certificate follows, and then a third request."""
+    leader, control, copy = led(t)
+    t.true(control.ask("request 08 asked").startswith("request 5 "), "the request that the follower has")
+    copy.is_like(control)
+    copy.desk.end()
+    lines = {CLOCK: ("decline 5", "request 08 misuse", "revoke 6"), "2026-01-03T01:00:00Z": (f"request {OPEN} misuse",)}
+    for moment, asked_then in lines.items():
+        t.clock(moment)
+        for line in asked_then:
+            t.true(control.ask(line)[:1] not in "EF", line)
+    Copy(t, address(leader.port)).is_like(control)
+
+
 @test(seconds=8)
 def a_new_copy_that_has_no_memory_says_so(t):
     """An operator who is told of the store would look at the disk. At the end of its last page the feed has positions that it does not reach."""
