@@ -284,6 +284,22 @@ def a_call_that_fails_leaves_nothing(t, kind, cause):
     copied(t, t.done("copy", "ca.db", "copy.db"))
 
 
+@test(seconds=5)
+def a_copy_that_has_no_memory_says_so(t):
+    """From some allocation on there is none. An operator who is told of damage would look for a backup."""
+    t.register(lines=ENTERED)
+    words = ("copy", "ca.db", "copy.db", "--why")
+    last = faults.total(t, words, "alloc")
+    os.remove(t.room / "copy.db")
+    for at in faults.places(last, 250, 37):
+        ran, count = faults.run(t, words, fail=f"alloc:{at}+")
+        t.same((ran.status, ran.out, ran.err), (1, b"", b"F1 memory\n"), f"allocation {at}")
+        # Without memory for its reply only, the copy is whole.
+        for name in left(t):
+            t.same((name, t.done("audit", name)), ("copy.db", SOUND), f"what is left of allocation {at}")
+            os.remove(t.room / name)
+
+
 @each({"the sync fails": "sync:1", "it can't be opened": "open:1"})
 def a_copy_whose_folder_can_not_be_synced_is_not_left(t, fault):
     """After a power failure, the copy could be missing, though the desk had reported it."""
