@@ -211,7 +211,7 @@ def a_new_copy_that_has_no_memory_says_so(t):
     t.same((whole.status, whole.err_lines[-1]), (1, "broken-feed"), "its end without a fault")
     last = count["alloc"]
     ends, left = set(), set()
-    for at in range(last, max(last - 1_200, 1), -80):
+    for at in range(last, max(last - 1_200, 1), -15):
         ran, count = faults.run(t, words, fail=f"alloc:{at}+")
         ends.add((ran.status, ran.err_lines[-1] if ran.err_lines else ""))
         left |= {it.name for it in t.room.glob("copy.db*")}
