@@ -15,7 +15,8 @@ from groups.signers import LONGEST_RSA_KEY
 from lib import faults, program
 from lib.authority import end, until
 from lib.passing import Passing
-from lib.trial import test
+from lib.program import parted
+from lib.trial import each, test
 
 MORE_ROWS = "WITH RECURSIVE row (id) AS (SELECT 3 UNION ALL SELECT id + 1 FROM row WHERE id < ?) SELECT id, 's' || id FROM row"
 
@@ -201,12 +202,20 @@ def a_decline_of_a_request_that_a_follower_has_comes_before_a_later_revocation(t
     Copy(t, address(leader.port)).is_like(control)
 
 
-@test(seconds=8)
-def a_new_copy_that_has_no_memory_says_so(t):
+@each({"with digests only": False, "with two digests and a signature": True}, seconds=8)
+def a_new_copy_that_has_no_memory_says_so(t, has_signer):
     """An operator who is told of the store would look at the disk. At the end of its last page the feed has positions that it does not reach."""
     other = lambda body: body[:-2] + (b"1" if body[-2:-1] == b"0" else b"0") + b"\n" if b"\nend " in body[-200:] else body
-    leader, server = fills(t, lambda target, status, body: (status, other(body)))
-    words = ["follow", "copy.db", "--from", address(server.port), "--port", program.free_port(), "--unsigned"]
+    signing = ["--unsigned"]
+    if has_signer:
+        ca, signing = sets_out(t, True)
+        t.done("script", "ca.db", given=f"{now_text(-3_600)} subscriber acme\n" + f"{now_text(-3_600)} crl\n" * 2)
+        leader = t.open("ca.db", *ca.signing())
+        t.same(t.control().ask("crl"), "crl 3 entries 0")
+        server = t.enter_context(Server(lambda target: (200, other(parted(leader.ask("GET", target))[2]))))
+    else:
+        leader, server = fills(t, lambda target, status, body: (status, other(body)))
+    words = ["follow", "copy.db", "--from", address(server.port), "--port", program.free_port(), *signing]
     whole, count = faults.run(t, words)
     t.same((whole.status, whole.err_lines[-1]), (1, "broken-feed"), "its end without a fault")
     last = count["alloc"]
@@ -220,7 +229,7 @@ def a_new_copy_that_has_no_memory_says_so(t):
     # A stop may leave two more. The next `desk follow` removes them.
     for it in (".fill", ".fill-wal", ".part"):
         (t.room / f"copy.db{it}").write_bytes(b"left")
-    Copy(t, address(leader.port)).is_like(t.control())
+    Copy(t, address(leader.port), signing=signing).is_like(t.control())
     t.same(sorted(it.name for it in t.room.glob("copy.db*")), ["copy.db", "copy.db-wal"], "files of the copy")
 
 
