@@ -233,6 +233,24 @@ def a_new_copy_that_has_no_memory_says_so(t, has_signer):
     t.same(sorted(it.name for it in t.room.glob("copy.db*")), ["copy.db", "copy.db-wal"], "files of the copy")
 
 
+@test(seconds=15)
+def a_new_copy_of_no_rows_that_has_no_memory_says_so(t):
+    """An operator who is told of another issuer would look for another CA at the leader's address. The page has its issuer and no row, so two of these
+    allocations are the issuer's name and key."""
+    t.register()
+    t.clock(CLOCK)
+    leader = t.open()
+    other = lambda body: body[:-2] + (b"1" if body[-2:-1] == b"0" else b"0") + b"\n"
+    server = t.enter_context(Server(lambda target: (200, other(parted(leader.ask("GET", target))[2]))))
+    words = ["follow", "copy.db", "--from", address(server.port), "--port", program.free_port(), "--unsigned"]
+    whole, count = faults.run(t, words)
+    t.same((whole.status, whole.err_lines), (1, ["follow: broken page: positions other-positions", "broken-feed"]), "its end without a fault")
+    last = count["alloc"]
+    for at in range(last - 640, last - 320, 2):
+        ran, count = faults.run(t, words, fail=f"alloc:{at}+")
+        t.same((ran.status, ran.err), (1, b"F1 memory\n"), f"allocation {at} of {last}")
+
+
 @test(seconds=3)
 def a_new_copy_asks_again_after_a_second(t):
     """It says each failure that differs from the one before."""
