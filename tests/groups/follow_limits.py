@@ -1,5 +1,6 @@
 """Limits of a follower and of its leader: many rows, pages and waiting requests, long positions, full queues, out of memory, and system calls."""
 
+import contextlib
 import os
 import socket
 import subprocess
@@ -419,3 +420,35 @@ def a_leader_whose_queue_at_a_port_was_full_is_asked_as_soon_as_it_is_connected(
             if took[-1] < 1:
                 break
     t.true(min(took) < 1, f"seconds from the connection to the request: {took}")
+
+
+class Held(Server):
+    """A leader of the test whose connections stay open after its answers."""
+
+    def serve(self):
+        with contextlib.suppress(OSError):
+            while True:
+                client, _ = self.server.accept()
+                self.silent.append(client)
+                status, body = self.answer(client.recv(65536).decode("latin-1").partition(" HTTP")[0].partition(" ")[2])
+                client.sendall(f"HTTP/1.1 {status} X\r\nContent-Length: {len(body)}\r\n\r\n".encode() + body)
+                self.answered += 1
+
+
+@test(seconds=11)
+def a_signal_while_it_reads_an_answer_of_its_leader_costs_no_time(t):
+    """Each of the first reads is interrupted in a run. The leader has sent its whole answer by then, and nothing else wakes the follower: after five
+    seconds it would look again."""
+    leader, _ = fills(t, lambda target, status, body: (status, body))
+    server = t.enter_context(Held(lambda target: parted(leader.ask("GET", target))[::2]))
+
+    def starts(at):
+        told = faults.environment(count=t.room / "count", only="socket", fail=f"read:{at}=EINTR")
+        copy = Copy(t, address(server.port), file=f"copy{at}.db", faults=told)
+        until(lambda: copy.leader["current"], f"the leader, if read {at} is interrupted")
+        copy.desk.end()
+
+    for at in range(1, 9):
+        took, _ = timed(lambda: starts(at))
+        t.same(faults.counted(t.room / "count")["met"], 1, f"read {at}: injected faults")
+        t.true(took < 4 * program.PATIENCE, f"{took} seconds until it has the leader's records, if read {at} is interrupted")
