@@ -124,6 +124,22 @@ def early_clients_that_cannot_be_disconnected_keep_the_desk_from_opening(t, erro
         t.same(control.ask("subscriber owner"), "subscriber 1", "a line to the next desk")
 
 
+@test(seconds=2)
+def a_control_socket_whose_mode_cannot_be_set_keeps_the_desk_from_opening(t):
+    """Until the mode is set, the umask alone says who may connect. Here the socket is gone by then, so that chmod(2) fails."""
+    t.register()
+    words = ["open", "ca.db", "--port", free_port(), "--control", "control", "--unsigned", "--why"]
+    with ThreadPoolExecutor(1) as pool:
+        opening = pool.submit(program.Opened, words, cwd=t.room, faults=faults.environment(slow_chmod=t.room / "gone"))
+        authority.until(lambda: (t.room / "control").is_socket(), "the socket")
+        (t.room / "control").unlink()
+        (t.room / "gone").touch()
+        desk = t.enter_context(opening.result())
+        t.same(desk.listens, False, "whether the desk listens")
+        ended = desk.wait()
+    t.same((ended.status, ended.err), (1, b"F4 read\n  no such file (--control)\n"))
+
+
 @test
 def a_desk_that_gets_no_port_leaves_the_path_of_its_control_socket_as_it_is(t):
     t.register()
