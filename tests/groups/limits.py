@@ -306,8 +306,8 @@ def a_desk_tries_to_lock_the_folder_of_its_control_socket_for_ten_seconds(t):
     folder = os.open(t.room, os.O_RDONLY)
     t.callback(os.close, folder)
     fcntl.flock(folder, fcntl.LOCK_EX)
-    ran, count = faults.run(t, ["open", "ca.db", "--port", free_port(), "--control", "control", "--unsigned"], only=t.room.name, awake=1)
-    t.same((ran.status, ran.out, ran.err), (1, b"", b"F4 read\n"))
+    ran, count = faults.run(t, ["open", "ca.db", "--port", free_port(), "--control", "control", "--unsigned", "--why"], only=t.room.name, awake=1)
+    t.same((ran.status, ran.out, ran.err), (1, b"", b"F4 read\n  in use by another program (--control)\n"))
     t.same(count["lock"], 2_000, "attempts")
 
 
