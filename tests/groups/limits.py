@@ -2197,8 +2197,8 @@ def a_log_that_may_not_be_read_is_not_passed_over(t, words):
     t.same((t.room / "copy.db").exists(), False, "whether there is a copy")
 
 
-@each({"an audit": ["audit", "ca.db"], "a copy": ["copy", "ca.db", "copy.db"]})
-def a_journal_that_may_not_be_read_is_not_passed_over(t, words):
+@each({"an audit": (["audit", "ca.db"], " (FILE)"), "a copy": (["copy", "ca.db", "copy.db"], "")})
+def a_journal_that_may_not_be_read_is_not_passed_over(t, words, location):
     """The register may have half of a transaction, which only SQLite can undo by its journal."""
     t.register()
     t.sql("ca.db", "PRAGMA wal_checkpoint(TRUNCATE)")
@@ -2207,8 +2207,9 @@ def a_journal_that_may_not_be_read_is_not_passed_over(t, words):
     os.chmod(t.room / "ca.db-journal", 0)
     t.as_nobody("--version")
     os.chmod(t.room, 0o777)
-    ran = t.as_nobody(*words)
-    t.same((ran.returncode, ran.stdout, ran.stderr), (1, b"", b"F2 store\n"))
+    ran = t.as_nobody(*words, "--why")
+    told = f"F2 store\n  permission denied, or the file system is read-only{location}\n"
+    t.same((ran.returncode, ran.stdout, ran.stderr), (1, b"", told.encode()))
     t.same((t.room / "copy.db").exists(), False, "whether there is a copy")
 
 
