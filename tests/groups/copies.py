@@ -235,6 +235,18 @@ def no_right(t):
     t.same((ran.returncode, ran.stdout, ran.stderr), (1, b"", b"F2 store\n  permission denied, or the file system is read-only\n"))
 
 
+@test
+def into_a_folder_that_may_not_be_searched(t):
+    """Nobody can tell whether there is a file at the path."""
+    t.register(lines=ENTERED)
+    for name in {"ca.db", "ca.db-wal"} & {it.name for it in t.room.iterdir()}:
+        os.chmod(t.room / name, 0o644)
+    (t.room / "private").mkdir(mode=0)
+    t.callback(os.chmod, t.room / "private", 0o755)
+    ran = t.as_nobody("copy", "ca.db", "private/copy.db", "--why")
+    t.same((ran.returncode, ran.stdout, ran.stderr), (1, b"", b"F2 store\n  permission denied, or the file system is read-only\n"))
+
+
 @each({"512 bytes": 512, "2,048 bytes": 2_048})
 def a_register_whose_pages_have_another_size(t, size):
     """SQLite changed it. The desk's own registers have pages of 4,096 bytes."""
