@@ -53,6 +53,9 @@ def the_ipv6_loopback_address_in_place_of_127_0_0_1(t):
             t.same(parted(read_all(client))[0], 200)
         with socket.socket() as other:
             t.true(other.connect_ex(("127.0.0.1", opened.port)) != 0, "it accepts connections at 127.0.0.1")
+    t.register("second.db")
+    ran = t.desk("serve", "second.db", "--port", opened.port, "--listen", "[::1]", "--requests", 1, "--why")
+    t.same((ran.status, ran.out, ran.err), (1, b"", b"F4 read\n  port in use (--port)\n"), "a second desk at the same port")
     t.same((t.room / "log").read_text().split()[1].rpartition(":")[0], "[::1]", "the client in the log")
 
 
