@@ -128,13 +128,15 @@ def an_audit_that_has_no_memory_for_what_it_read_says_so(t):
         t.same((ran.status, ran.out, ran.err), (1, b"", b"F1 memory\n"), f"allocation {at} of {last}")
 
 
-@each({name: JOBS[name] for name in ("import", "list", "audit")})
+@each({"copy": (["copy", "ca.db", "copy.db"], "", None), **{name: JOBS[name] for name in ("import", "list", "audit")}})
 def a_file_that_the_system_has_no_memory_to_open(t, words, given, base):
     """open(2) fails with ENOMEM. An operator who is told of the store looks at the disk."""
     t.register(lines=script(REGISTERED))
-    last = faults.total(t, words, "open", given, only="ca.db,ca.db-wal")
+    files = "ca.db,ca.db-wal,copy.db.part"
+    last = faults.total(t, words, "open", given, only=files)
+    (t.room / "copy.db").unlink(missing_ok=True)
     for at in range(1, last + 1):
-        ran, count = faults.run(t, words, given, only="ca.db,ca.db-wal", fail=f"open:{at}=ENOMEM")
+        ran, count = faults.run(t, words, given, only=files, fail=f"open:{at}=ENOMEM")
         t.same((ran.status, ran.out, ran.err, count["met"]), (1, b"", b"F1 memory\n", 1), f"open {at}")
 
 
