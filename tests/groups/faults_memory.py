@@ -140,6 +140,18 @@ def a_file_that_the_system_has_no_memory_to_open(t, words, given, base):
         t.same((ran.status, ran.out, ran.err, count["met"]), (1, b"", b"F1 memory\n", 1), f"open {at}")
 
 
+@test(seconds=6)
+def a_script_without_a_file_that_has_no_memory_says_so(t):
+    """Its register is in memory. A line that runs out of memory has that reply, and an operator who is told of the store would look for a file."""
+    given = script(LIFE)
+    last = faults.total(t, ["script"], "alloc", given)
+    # A run without a register ends where this one creates its own.
+    first = faults.run(t, ["script", "no.db"])[1]["alloc"]
+    for at in sorted({*range(first - 30, first + 60), *range(first, last, 197)}):
+        ran, count = faults.run(t, ["script"], given, fail=f"alloc:{at}")
+        t.true((ran.status, ran.err) in ((0, b""), (1, b"F1 memory\n")) and "F2 store" not in ran.lines, f"allocation {at} of {last}: {ran}")
+
+
 # HTTP requests to an open desk, with the status and the body of each response. Two lines at the control socket follow them (asked_of).
 ASKED = [
     ("GET", "/counts", None, 200, b'{"expired":0,"good":1,"revoked":0}'),
