@@ -152,6 +152,17 @@ def a_script_without_a_file_that_has_no_memory_says_so(t):
         t.true((ran.status, ran.err) in ((0, b""), (1, b"F1 memory\n")) and "F2 store" not in ran.lines, f"allocation {at} of {last}: {ran}")
 
 
+@test(seconds=3)
+def a_script_with_a_signer_that_has_no_memory_says_so(t):
+    """An operator who is told of the signer would look at its key. The last allocations before the first line are those for the signer."""
+    t.register(key=program.P256_KEY)
+    words = ["script", "ca.db", "--signer", "ca.sign", "--algorithm", "ecdsa-sha256"]
+    last = faults.total(t, words, "alloc")
+    for at in range(last - 40, last + 1):
+        ran, count = faults.run(t, words, fail=f"alloc:{at}")
+        t.true((ran.status, ran.err) in ((0, b""), (1, b"F1 memory\n")), f"allocation {at} of {last}: {ran}")
+
+
 # HTTP requests to an open desk, with the status and the body of each response. Two lines at the control socket follow them (asked_of).
 ASKED = [
     ("GET", "/counts", None, 200, b'{"expired":0,"good":1,"revoked":0}'),
