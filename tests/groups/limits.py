@@ -1384,6 +1384,7 @@ LONG_JOBS = {
     "script --clock": (["script", "ca.db", "--clock"], "counts\n"),
     "import": (["import", "ca.db", "--now", DAY], "1,2\n"),
     "at --import": (["at", "control", "--import", "rows"], "1,2\n"),
+    "at --import --orders": (["at", "control", "--import", "rows", "--orders", "1", "398"], "1,2\n"),
     "at --revoke": (["at", "control", "--revoke", "rows"], "1,2\n"),
     "replay": (["replay", "control", "rows"], f'{DAY} control "crl" "crl {{}} entries 0" 16 9\n'),
 }
