@@ -2214,6 +2214,17 @@ def a_journal_that_may_not_be_read_is_not_passed_over(t, words, location):
     t.same((t.room / "copy.db").exists(), False, "whether there is a copy")
 
 
+@each({"an audit": (["audit", "private/ca.db"], " (FILE)"), "a copy": (["copy", "private/ca.db", "copy.db"], "")})
+def a_register_in_a_folder_that_may_not_be_searched(t, words, location):
+    (t.room / "private").mkdir()
+    t.register("private/ca.db")
+    os.chmod(t.room / "private", 0)
+    t.callback(os.chmod, t.room / "private", 0o755)
+    ran = t.as_nobody(*words, "--why")
+    told = f"F2 store\n  permission denied, or the file system is read-only{location}\n"
+    t.same((ran.returncode, ran.stdout, ran.stderr), (1, b"", told.encode()))
+
+
 @test
 def each_log_has_salts_of_its_own(t):
     """Without them, frames that an earlier log left behind could pass for those of a later one (SQLite's file format, 4.1)."""
