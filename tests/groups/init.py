@@ -65,6 +65,14 @@ def a_read_only_file_system(t):
 
 
 @test
+def in_a_folder_that_may_not_be_searched(t):
+    (t.room / "private").mkdir(mode=0)
+    t.callback(os.chmod, t.room / "private", 0o755)
+    ran = t.as_nobody("init", "private/ca.db", *WORDS, "--why")
+    t.same((ran.returncode, ran.stdout, ran.stderr), (1, b"", b"F2 store\n  permission denied, or the file system is read-only (FILE)\n"))
+
+
+@test
 def a_log_that_may_be_there_is_left_alone(t):
     """`desk init` can't find out whether a log lies beside the path, so it creates nothing."""
     ran = t.desk("init", "ca.db", *WORDS, faults=faults.environment(fail="stat:1", only="ca.db-wal"))
