@@ -312,6 +312,36 @@ def a_copy_that_has_no_memory_says_so(t):
             os.remove(t.room / name)
 
 
+@test(seconds=4)
+def a_copy_at_the_control_socket_that_has_no_memory_says_so(t):
+    """One allocation fails while the copy is made. An operator who is told of the store would look at the disk."""
+    base = t.register("base.db", lines=ENTERED)
+    t.clock(NEXT)
+
+    def ask(fail):
+        """The reply, and the counts of allocations before it and at its end."""
+        faults.copy(base, t.room / "ca.db")
+        for name in ("control", "copy.db"):
+            (t.room / name).unlink(missing_ok=True)
+        env = faults.environment(count=t.room / "count", same=1, fail=fail)
+        with program.Opened(["open", "ca.db", "--control", "control", "--unsigned"], cwd=t.room, clock=t.room / "clock", faults=env) as desk:
+            with Control(t.room / "control") as it:
+                t.same(it.ask("counts"), "good 2 revoked 0 expired 0")
+                first = faults.counted(t.room / "count")["alloc"]
+                reply = it.ask("copy copy.db")
+            desk.end()
+        return reply, first, faults.counted(t.room / "count")["alloc"]
+
+    reply, first, last = ask(None)
+    copied(t, reply)
+    told = 0
+    for at in sorted({*range(first + 1, first + 30), *range(first + 1, last, 197)}):
+        reply = ask(f"alloc:{at}")[0]
+        t.true(reply in ("", "F1 memory") or reply.startswith("copied "), f"allocation {at}, from {first} on: {reply!r}")
+        told += reply == "F1 memory"
+    t.true(told > 3, f"`F1 memory` was reported {told} times")
+
+
 @each({"the sync fails": "sync:1", "it can't be opened": "open:1"})
 def a_copy_whose_folder_can_not_be_synced_is_not_left(t, fault):
     """After a power failure, the copy could be missing, though the desk had reported it."""
