@@ -4,6 +4,7 @@ import contextlib
 import os
 import re
 import shutil
+import signal
 import sqlite3
 import struct
 import threading
@@ -340,6 +341,39 @@ def a_copy_at_the_control_socket_that_has_no_memory_says_so(t):
         t.true(reply in ("", "F1 memory") or reply.startswith("copied "), f"allocation {at}, from {first} on: {reply!r}")
         told += reply == "F1 memory"
     t.true(told > 3, f"`F1 memory` was reported {told} times")
+
+
+def a_log_with_the_last_command(t):
+    t.clock(NEXT)
+    desk = t.open()
+    t.same(t.control().ask("subscriber beta"), "subscriber 2")
+    desk.end(signal.SIGKILL)
+
+
+BESIDE = {
+    "its log": (a_log_with_the_last_command, 0),
+    "its journal": (lambda t: (t.room / "ca.db-journal").write_bytes(b"x"), 1),
+    "a log at the copy's path": (lambda t: (t.room / "copy.db-wal").write_text("mine"), 1),
+}
+
+
+@each(BESIDE, seconds=2)
+def no_copy_passes_over_a_file_for_whose_name_there_is_no_memory(t, create, status):
+    """One allocation fails. Each copy has all records, and none is made that a journal or a log would change."""
+    t.register(lines=ENTERED)
+    create(t)
+    words = ["copy", "ca.db", "copy.db"]
+    ran, count = faults.run(t, words)
+    t.same(ran.status, status, "the status without a fault")
+    # A run without a register ends where this one looks for the files beside its register. The last allocations are those of the copy's files.
+    first, last = faults.run(t, ["copy", "no.db", "copy.db"])[1]["alloc"], count["alloc"]
+    for at in sorted({*range(first - 3, first + 12), *range(last - 8, last + 1)}):
+        (t.room / "copy.db").unlink(missing_ok=True)
+        ran, _ = faults.run(t, words, fail=f"alloc:{at}")
+        if status or ran.status:
+            t.same((ran.status, ran.out), (1, b""), f"allocation {at}")
+        else:
+            t.same(t.sql("copy.db", "SELECT count(*) FROM subscriber"), [(2,)], f"subscribers of the copy, although allocation {at} failed")
 
 
 @each({"the sync fails": "sync:1", "it can't be opened": "open:1"})
