@@ -34,6 +34,17 @@ def a_new_copy_of_sixty_six_thousand_rows(t):
     t.same(copy.leader["positions"].split(".")[0], "66000", "subscribers of the copy")
 
 
+@test
+def a_new_copy_has_a_log(t):
+    """A log can't be in the place of a register that isn't there yet."""
+    t.register(lines=LINES)
+    t.clock(CLOCK)
+    copy = Copy(t, address(t.open().port), "--log-file", "copy.log")
+    reply = copy.lines.ask("positions")
+    copy.desk.end()
+    t.has((t.room / "copy.log").read_text(), f'"positions" "{reply}"')
+
+
 @test(seconds=4)
 def a_request_without_news_reads_few_rows_of_its_leader(t):
     """A follower asks each second, also a leader with 60,000 subscribers."""
