@@ -330,6 +330,19 @@ def help_is_printed_with_status_0(t, words, parts):
         t.has(told, it)
 
 
+# The options of an open desk that the help of another command names.
+OTHERS_OPTIONS = {"at": {"--control"}, "replay": {"--control", "--log", "--log-file"}, "follow": {"--confirm-by"}}
+COMMANDS = ("init", "script", "import", "crl", "serve", "open", "follow", "at", "replay", "schedule", "key-id", "list", "copy", "audit")
+
+
+@each({it: it for it in COMMANDS})
+def help_names_no_option_of_another_command(t, command):
+    told = t.done(command, "--help")
+    own = set(re.findall(r"^ +(?:-\w, )?(--[a-z-]+)", told, re.MULTILINE))
+    named = set(re.findall(r"--[a-z][a-z-]*", told))
+    t.same(sorted(named - own - OTHERS_OPTIONS.get(command, set())), [], f"options that only other commands have, in {told}")
+
+
 # The options of `init` for which its help names a range and a default, and their columns.
 RANGED = {"--days": "days", "--crl-life": "crl_life", "--ocsp-life": "ocsp_life", "--cap": "cap"}
 
