@@ -367,11 +367,13 @@ def no_copy_passes_over_a_file_for_whose_name_there_is_no_memory(t, create, stat
     t.same(ran.status, status, "the status without a fault")
     # A run without a register ends where this one looks for the files beside its register. The last allocations are those of the copy's files.
     first, last = faults.run(t, ["copy", "no.db", "copy.db"])[1]["alloc"], count["alloc"]
-    for at in sorted({*range(first - 3, first + 12), *range(last - 8, last + 1)}):
+    for at in sorted({*range(first - 3, first + 12), *range(last - 12, last + 1)}):
         (t.room / "copy.db").unlink(missing_ok=True)
         ran, _ = faults.run(t, words, fail=f"alloc:{at}")
-        if status or ran.status:
+        if status:
             t.same((ran.status, ran.out), (1, b""), f"allocation {at}")
+        elif ran.status:
+            t.same((ran.status, ran.out, ran.err), (1, b"", b"F1 memory\n"), f"allocation {at}")
         else:
             t.same(t.sql("copy.db", "SELECT count(*) FROM subscriber"), [(2,)], f"subscribers of the copy, although allocation {at} failed")
 
