@@ -518,6 +518,18 @@ def a_certificate_that_the_system_has_no_memory_to_open(t):
         t.same((ran.status, ran.out, ran.err), (1, b"", b"F1 memory\n"), program.shown(words))
 
 
+@test(seconds=2)
+def a_certificate_or_a_signer_for_which_there_is_no_memory(t):
+    """One allocation fails. The last ones are those for the certificate and the responder's signer: there is no such register."""
+    responder = Responder(Authority(t))
+    words = ["open", "none.db", "--port", "1", "--control", "control", *responder.words()]
+    ran, count = faults.run(t, words)
+    t.same((ran.status, ran.out, ran.err), (1, b"", b"F2 store\n"))
+    for at in range(count["alloc"] - 40, count["alloc"] + 1):
+        ran, _ = faults.run(t, words, fail=f"alloc:{at}")
+        t.true((ran.status, ran.out) == (1, b"") and ran.err in (b"F1 memory\n", b"F2 store\n"), f"allocation {at} of {count['alloc']}: {ran}")
+
+
 def gencrl(t):
     """Writes the configuration with which openssl makes a CRL, and returns its path."""
     path = t.room / "ca.cnf"
