@@ -181,7 +181,13 @@ def its_own_register_is_in_the_way(t):
     t.same((t.room / "ca.db").read_bytes(), before)
 
 
+def cut_off(t):
+    a_log_with_the_last_command(t)
+    os.truncate(t.room / "ca.db", 4_096)
+
+
 REFUSED = {
+    "one whose file was cut off, with its log": (cut_off, "ca.db", DAMAGED),
     "no register there": (lambda t: None, "nowhere.db", b"F2 store\n  no such file\n"),
     "nothing begun": (lambda t: (t.room / "nowhere.db").write_bytes(b""), "nowhere.db", b"not-a-register\n"),
     "no database": (lambda t: (t.room / "nowhere.db").write_bytes(b"x" * 9_000), "nowhere.db", DAMAGED),
