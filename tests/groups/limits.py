@@ -823,7 +823,8 @@ def a_signer_that_had_no_room(t, desk):
         t.true(ANY_SIGNATURE in answer.result(), "the answer has no signature")
 
 
-def descriptors_that_ran_out_for_a_time(t, desk):
+def without_a_descriptor(t, desk):
+    """A client for which the desk has no descriptor, and a function that ends this lack."""
     pid, counted = desk.process.pid, lambda kind: faults.counted(t.room / "count")[kind]
     # The desk polls for the second time after its calls of accept(2) at the start.
     authority.until(lambda: counted("poll") >= 2, "the desk to wait for clients")
@@ -832,8 +833,17 @@ def descriptors_that_ran_out_for_a_time(t, desk):
     client = t.enter_context(desk.connect())
     client.sendall(COUNTS)
     authority.until(lambda: counted("accept") >= before + 2, "accept(2) to fail")
-    resource.prlimit(pid, resource.RLIMIT_NOFILE, usual)
+    return client, lambda: resource.prlimit(pid, resource.RLIMIT_NOFILE, usual)
+
+
+def descriptors_that_ran_out_for_a_time(t, desk):
+    client, ends = without_a_descriptor(t, desk)
+    ends()
     t.same(parted(read_all(client))[0], 200, "the answer, once there is a descriptor")
+
+
+def a_client_that_waits_for_a_descriptor(t, desk):
+    t.callback(without_a_descriptor(t, desk)[1])
 
 
 # How often the desk may wake up in a second.
@@ -842,7 +852,8 @@ IDLE = {"nobody": (lambda t, desk: None, 1), "eight control connections": (eight
         "a client that closed its side": (a_client_that_closed_its_side, 8),
         "a line that waits for its signature": (a_line_that_waits_for_its_signature, 8),
         "a signer that had no room": (a_signer_that_had_no_room, 1),
-        "descriptors that ran out for a time": (descriptors_that_ran_out_for_a_time, 1)}
+        "descriptors that ran out for a time": (descriptors_that_ran_out_for_a_time, 1),
+        "a client that waits for a descriptor": (a_client_that_waits_for_a_descriptor, 8)}
 
 
 @each(IDLE, seconds=3)
