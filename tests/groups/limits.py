@@ -1102,6 +1102,34 @@ def a_late_request_that_is_whole_when_the_desk_looks_is_not_lost(t):
     t.same([it for it in desk.end().err_lines if " lost " in it], [], "lost connections in the log")
 
 
+@each({"an answer": "answer", "a line": "line"}, seconds=2)
+def a_signature_that_came_while_the_desk_was_busy_for_ten_seconds_is_used(t, what):
+    """The desk opens its log for as long. Then it finds the signature, and after that it looks whether the time is up."""
+    ends, goes_on, waits = threading.Event(), t.room / "goes-on", t.room / "goes-on.waits"
+    t.callback(ends.set)
+    t.register(key=P256_KEY)
+    signers = t.enter_context(Signers(t.room / "ca.sign", lambda message: ends.wait(60) and ANY_SIGNATURE))
+    have_passed(t, 0)
+    goes_on.touch()
+    told = faults.environment(passed=t.room / "passed", slow_open=goes_on, only="desk.log")
+    desk = t.open("ca.db", *SIGNING, "--log-file", "desk.log", faults=told)
+    with ThreadPoolExecutor(2) as pool, t.control() as control:
+        signed = pool.submit(desk.ask, "POST", "/ocsp", asks(1)) if what == "answer" else pool.submit(control.ask, "crl")
+        t.true(signers.until(1), "the signature is not requested")
+        goes_on.unlink()
+        waits.unlink()
+        pool.submit(desk.ask, "GET", "/counts")
+        authority.until(waits.exists, "the desk to open its log")
+        have_passed(t, 10_000)
+        ends.set()
+        authority.until(lambda: signers.clients[0].fileno() < 0, "the signer to answer")
+        goes_on.touch()
+        if what == "answer":
+            t.true(ANY_SIGNATURE in signed.result(), "the answer has no signature")
+        else:
+            t.same(signed.result(), "crl 1 entries 0")
+
+
 @test
 def a_connection_ends_with_its_answer(t):
     """If nothing follows a request, the desk closes the connection right after the answer. The elapsed time does not change."""
