@@ -1529,6 +1529,22 @@ def a_connection_without_memory_is_logged_as_that(t, is_control):
     t.same(lost_by(desk), {"broken": 0, "late": 0, "crowded": 0, "memory": 1}, "the metrics")
 
 
+# At the control socket the next allocation is for the next client, which is lost, too.
+@each({"an HTTP connection": (False, 1), "a control connection": (True, 2)}, seconds=2)
+def a_connection_without_memory_is_counted_though_the_next_allocation_fails_too(t, is_control, lost):
+    t.register()
+    usual = t.open(faults=faults.environment(count=t.room / "usual"))
+    first = faults.counted(t.room / "usual")["alloc"]
+    usual.end()
+    os.remove(t.room / "control")
+    desk = t.open(faults=faults.environment(fail=f"alloc:{first + 1}-{first + 2}"))
+    with t.control().stream if is_control else desk.connect() as client:
+        client.sendall(b"counts\n" if is_control else COUNTS)
+        t.same(read_all(client), b"", "the response")
+    desk.ask("GET", "/counts")
+    t.same(lost_by(desk), {"broken": 0, "late": 0, "crowded": 0, "memory": lost}, "the metrics")
+
+
 # What is counted
 
 
