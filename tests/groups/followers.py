@@ -77,6 +77,20 @@ def replies_of_several_connections_wait(t):
 
 
 @test(seconds=2)
+def a_line_that_comes_while_a_reply_waits_is_answered_after_it(t):
+    """Nothing else happens after the confirmation."""
+    t.register(lines=LINES)
+    t.clock(CLOCK)
+    leader, other = t.open("ca.db", "--confirm-by", "1"), t.control()
+    with program.Control(t.room / "control", timeout=10) as lines:
+        lines.stream.sendall(b"subscriber third\n")
+        until(lambda: unconfirmed(leader), "the command")
+        lines.stream.sendall(b"counts\n")
+        confirm(t, leader, other, 7)
+        t.same([lines.file.readline() for _ in range(2)], [b"subscriber 3\n", b"good 2 revoked 2 expired 0\n"], "the replies")
+
+
+@test(seconds=2)
 def eight_followers_confirm(t):
     """--confirm-by 8: the same follower counts once."""
     t.register(lines=LINES)
