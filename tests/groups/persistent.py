@@ -505,21 +505,37 @@ def no_connection_with_a_message_is_closed_for_the_operator(t):
         t.true(is_own(waits.result(), 0x2222), "the answer of the message")
 
 
-@test(seconds=3)
-def a_kept_connection_is_closed_for_a_client_at_the_port(t):
-    """The desk keeps two connections to its signer, and has no descriptor for a client. No other client has a connection."""
-    t.enter_context(Together(t.room / "ca.sign", 2))
+class EndsOne(Together):
+    """Ends a persistent connection after its first message, once the test has the answer (`taken`)."""
+
+    taken = threading.Event()
+
+    def keep(self, client):
+        if (head := native.exactly(client, 4)) is not None:
+            client.sendall(self.reply(native.exactly(client, struct.unpack(">I", head)[0])))
+            self.taken.wait(60)
+
+
+@each({"the first of two": (Together, 2), "the second of two": (EndsOne, 1)}, seconds=3)
+def a_kept_connection_is_closed_for_a_client_at_the_port(t, signer, kept):
+    """The desk keeps two connections to its signer, or only the second one, and has no descriptor for a client. No other client has a connection."""
+    signers = t.enter_context(signer(t.room / "ca.sign", 2))
     desk = opened(t)
     before = files(desk)
     with ThreadPoolExecutor(2) as pool:
         list(pool.map(lambda at: ocsp_answer(desk, 0x1100 + at), range(2)))
     authority.until(lambda: files(desk) == before + 2, "two kept connections")
+    if kept == 1:
+        t.true(is_own(ocsp_answer(desk, 0x1200), 0x1200), "the answer on the first connection")
+        signers.taken.set()
+        authority.until(lambda: files(desk) == before + 1, "the end of the first connection")
     take_descriptors(t, desk)
     full = files(desk)
     t.same(program.parted(desk.ask("GET", "/counts", timeout=20))[0], 200, "the status of the client's answer")
     authority.until(lambda: files(desk) < full, "the desk to close the client's connection")
     t.same(files(desk), full - 1, "descriptors: only one of the kept connections was closed")
-    for serial in (0x2200, 0x3300):
+    # Without a kept connection there is no descriptor for a signature beside a client.
+    for serial in (0x2200, 0x3300) if kept == 2 else ():
         with t.at_once("an answer after that"):
             t.true(is_own(ocsp_answer(desk, serial), serial), f"the answer for {serial:x}")
 
