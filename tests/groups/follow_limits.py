@@ -405,10 +405,10 @@ def a_request_waits_at_a_desk_whose_numbers_are_long(t):
     t.true(0.9 < took < 4 * program.PATIENCE, f"{took} seconds without news")
 
 
-@test(seconds=4)
-def a_leader_whose_queue_at_a_port_was_full_is_asked_as_soon_as_it_is_connected(t):
-    """At the latest in the third of three tries. The system connects again after a second."""
-    took = []
+@each({"usually": None, "though a signal comes": "write:2=EINTR"}, seconds=4)
+def a_leader_whose_queue_at_a_port_was_full_is_asked_as_soon_as_it_is_connected(t, fail):
+    """At the latest in the third of three tries. The system connects again after a second. The first write(2) is that before the connection."""
+    took, told = [], faults.environment(only="socket", fail=fail)
     with socket.socket() as server:
         server.bind(("127.0.0.1", 0))
         # There is room for one connection.
@@ -417,7 +417,7 @@ def a_leader_whose_queue_at_a_port_was_full_is_asked_as_soon_as_it_is_connected(
         for turn in range(3):
             filled = socket.create_connection(("127.0.0.1", port))
             words = ("follow", f"{turn}.db", "--from", address(port), "--port", str(program.free_port()), "--control", "copy", "--unsigned")
-            process = subprocess.Popen([program.program(), *words], cwd=t.room, stderr=subprocess.PIPE, env=program.environment())
+            process = subprocess.Popen([program.program(), *words], cwd=t.room, stderr=subprocess.PIPE, env=program.environment(faults=told))
             t.callback(end, process)
             # State 02: the connection is requested.
             until(lambda: f":{port:04X} 02 " in open("/proc/net/tcp").read(), "a new copy to connect")
