@@ -1,6 +1,9 @@
 """In each run one allocation fails. The command that needed it reports `F1 memory` and changes nothing, or succeeds. Later commands have their
 usual replies. The tests try each of the first allocations, and then only every Nth, because a repeated statement allocates the same."""
 
+import socket
+import threading
+
 from lib import faults, program
 from lib.faults import CHANGES, LIFE, MEMORY, REGISTERED, Course
 from lib.program import parted
@@ -161,6 +164,49 @@ def a_script_with_a_signer_that_has_no_memory_says_so(t):
     for at in range(last - 40, last + 1):
         ran, count = faults.run(t, words, fail=f"alloc:{at}")
         t.true((ran.status, ran.err) in ((0, b""), (1, b"F1 memory\n")), f"allocation {at} of {last}: {ran}")
+def standing_in(path, replies):
+    """Answers each line at a socket with the next of these texts."""
+    path.unlink(missing_ok=True)
+    listener = socket.socket(socket.AF_UNIX)
+    listener.bind(str(path))
+    listener.listen()
+
+    def serve():
+        with listener, listener.accept()[0] as client, client.makefile("rb") as lines:
+            for reply in replies:
+                if lines.readline():
+                    client.sendall(reply.encode())
+
+    threading.Thread(target=serve, daemon=True).start()
+
+
+LOG = f'{DAY} control "request 07 asked" "request 4 due x" 16 9 request 4 {7:040x} asked\n'
+ROW = f"07,{DAY},2026-01-10T00:00:00Z\n"
+# The words of a job at a control socket, its input, and the replies that it gets.
+AT = {
+    "lines": (["at", "control"], "counts\n", ["good 0 revoked 0 expired 0\n"]),
+    "an import": (["at", "control", "--import", "rows"], f"1,{ROW}", ["registered\n"]),
+    "an import with its orders": (["at", "control", "--import", "rows", "--orders", "1", "398"], ROW, ["unknown\n", "order 1\n", "registered\n"]),
+    "revocations": (["at", "control", "--revoke", "rows"], "07,asked\n", ["request 1 due x\n", "revoked\n"]),
+    "a log": (["replay", "control", "rows"], LOG, ["request 9 due x\n"]),
+}
+
+
+@each(AT, seconds=2)
+def a_job_at_a_control_socket_that_has_no_memory_says_so(t, words, given, replies):
+    """From some allocation on there is none. An operator who is told of a read would look at the socket. Only a line or a reply itself, for each of
+    which there is one allocation, then counts as not read."""
+    (t.room / "rows").write_text(given)
+
+    def run(fail):
+        standing_in(t.room / "control", replies)
+        ran, count = faults.run(t, words, given, fail=fail)
+        return (ran.status, ran.err.decode().strip()), count["alloc"]
+
+    whole, last = run(None)
+    t.same(whole, (0, ""), "its end without a fault")
+    ends = [run(f"alloc:{at}+")[0] for at in range(last - 30, last + 1)]
+    t.same([it for it in ends if it != (1, "F1 memory")], [(1, "F4 read")] * (1 + len(replies)), "other ends than `F1 memory`")
 
 
 # HTTP requests to an open desk, with the status and the body of each response. Two lines at the control socket follow them (asked_of).
