@@ -164,6 +164,27 @@ def a_script_with_a_signer_that_has_no_memory_says_so(t):
     for at in range(last - 40, last + 1):
         ran, count = faults.run(t, words, fail=f"alloc:{at}")
         t.true((ran.status, ran.err) in ((0, b""), (1, b"F1 memory\n")), f"allocation {at} of {last}: {ran}")
+# The words of a job that prints what it found, and SQL that changes the register before.
+FOUND = {
+    "a broken row": (["audit", "ca.db"], "UPDATE subscriber SET name = ''"),
+    "a number that a published CRL has": (["serve", "ca.db", "--port", "9", "--requests", "1", "--published", "other.crl"], ""),
+}
+
+
+@each(FOUND, seconds=3)
+def a_job_that_has_no_memory_for_what_it_found_says_so(t, words, change):
+    """From one of its last allocations on there is none."""
+    t.register(lines=script(REGISTERED))
+    t.register("other.db", lines=f"{DAY} crl\n")
+    (t.room / "other.crl").write_bytes(t.desk("crl", "other.db").out)
+    t.sql("ca.db", change)
+    whole, count = faults.run(t, words)
+    t.true(whole.out, f"it found nothing: {whole}")
+    for at in range(count["alloc"] - 30, count["alloc"] + 1):
+        ran, _ = faults.run(t, words, fail=f"alloc:{at}+")
+        t.same((ran.status, ran.out, ran.err), (1, b"", b"F1 memory\n"), f"allocation {at} of {count['alloc']}")
+
+
 def standing_in(path, replies):
     """Answers each line at a socket with the next of these texts."""
     path.unlink(missing_ok=True)
