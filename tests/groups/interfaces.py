@@ -163,6 +163,18 @@ def a_stale_socket_is_taken_over_and_a_file_is_not(t):
     t.same((t.room / "file").read_text(), "no socket", "the file")
 
 
+@test
+def a_stale_socket_that_can_t_be_looked_at_is_no_file(t):
+    """An operator who is told of a file would look for one."""
+    t.register(lines=ENTERED)
+    with socket.socket(socket.AF_UNIX) as stale:
+        stale.bind(str(t.room / "control"))
+    words = ["open", "ca.db", "--port", free_port(), "--control", "control", "--unsigned", "--why"]
+    ran, count = faults.run(t, words, only="control", fail="stat:1=EACCES")
+    told = b"F4 read\n  permission denied, or the file system is read-only (--control)\n"
+    t.same((ran.status, ran.err, count["met"]), (1, told, 1))
+
+
 @test(seconds=30)
 def eight_desks_that_open_at_one_stale_socket(t):
     """Forty times, eight desks open at one stale socket at once: one serves at it, and seven fail."""
