@@ -75,3 +75,26 @@ def a_route_goes_on_after_a_refusal(t, part):
     # Of the allocations before the desk listens, every 61st fails in a run; of the later ones, each.
     for at in [*faults.places(first, 0, 61), *faults.places(last, last, 1, first + 1)][part::PARTS]:
         served(t, base, at)
+
+
+@each({"a GET": b"GET", "a method of another name": b"AS-LONG-AS-THAT-OF-NO-METHOD"}, seconds=5)
+def a_request_that_came_is_answered_without_memory(t, method):
+    """A client that gets no answer can't tell what failed. There is none only without the first two allocations: for the connection, and for the text
+    of an answer."""
+    base = t.register("base.db", LINES)
+    (t.room / "clock").write_text(str(program.seconds_of(PAST_END)))
+
+    def run(at):
+        """The counts of allocations when the desk listens, and after its answer; and the answer."""
+        faults.copy(base, t.room / "ca.db")
+        env = faults.environment(count=t.room / "count", same=1, fail=f"alloc:{at}" if at else None)
+        with program.Opened(["serve", "ca.db", "--requests", "1000"], cwd=t.room, clock=t.room / "clock", faults=env) as desk:
+            first = faults.counted(t.room / "count")["alloc"]
+            got = desk.send(method + b" /nowhere HTTP/1.1\r\n\r\n")
+            last = faults.counted(t.room / "count")["alloc"]
+            desk.end()
+        return first, last, got
+
+    first, last, _ = run(0)
+    for at in faults.places(last - first, 12, 12):
+        t.same(run(first + at)[2], b"" if at <= 2 else NO_MEMORY, f"the answer without allocation {at} of {last - first}")
