@@ -419,9 +419,13 @@ def without_memory_nobody_waits_for_a_signature_that_is_not_requested(t):
 
     first, last, response = run(None)
     t.true(is_signed(program.parted(response)[2]), "the answer without a fault is not signed")
+    silent = []
     for at in range(first + 1, last + 1):
         status, _, body = program.parted(run(f"alloc:{at}")[2])
         t.true(status in (0, 500) or is_signed(body) or body == INTERNAL, f"allocation {at} of {first + 1} to {last}: {status} {body!r}")
+        silent += [at] * (status == 0)
+    # There is none without memory for the connection or for a first text, nor at the end for the text and the body of the response.
+    t.same(silent, [first + 1, first + 2, last - 1, last], "the allocations without which there is no answer")
 
 
 @test(seconds=2)
