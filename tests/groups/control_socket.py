@@ -104,6 +104,7 @@ def a_line_that_is_not_refused_leaves_the_reason(t):
         ):  # fmt: skip
             t.true((reply := control.ask(line))[0] not in "EFb", f"the reply {reply} to {line}")
             t.same(control.ask("why"), "why E06 no-subscriber", f"`why` after {line}")
+        t.same((control.ask("listing 99"), control.ask("why")), ("E14 unknown-serial", "why E14 unknown-serial"), "a query that is refused")
 
 
 @test
