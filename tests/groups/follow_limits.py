@@ -263,6 +263,21 @@ def a_new_copy_of_no_rows_that_has_no_memory_says_so(t):
         t.same((ran.status, ran.err), (1, b"F1 memory\n"), f"allocation {at} of {last}")
 
 
+@test(seconds=10)
+def a_new_copy_that_has_no_memory_to_fetch_a_page_says_so(t):
+    """One that asks again, says that its leader is out of reach, or names the page, the store or a read would be looked for at the wrong place."""
+    t.register()
+    t.clock(CLOCK)
+    leader = t.open()
+    server = t.enter_context(Server(lambda target: (200, parted(leader.ask("GET", target))[2][:-2] + b"9\n")))
+    words = ["follow", "copy.db", "--from", address(server.port), "--port", program.free_port(), "--unsigned"]
+    # The program's own start takes the first 165, and its register has more than 300.
+    for at in range(180, 300):
+        ran, count = faults.run(t, words, fail=f"alloc:{at}+")
+        t.same((ran.status, ran.err), (1, b"F1 memory\n"), f"allocation {at}")
+    t.true(server.answered > 50, f"only {server.answered} of them got the page")
+
+
 @test(seconds=3)
 def a_new_copy_asks_again_after_a_second(t):
     """It says each failure that differs from the one before."""
