@@ -278,6 +278,37 @@ def a_new_copy_that_has_no_memory_to_fetch_a_page_says_so(t):
     t.true(server.answered > 50, f"only {server.answered} of them got the page")
 
 
+@test(seconds=8)
+def a_follower_that_has_no_memory_for_a_page_says_so(t):
+    """One allocation fails. An operator who is told of a malformed page would look at the leader."""
+    base = t.register("base.db", lines=LINES)
+    t.done("schedule", "base.db", "1970-01-01T00:00:00Z=398", "2026-03-15T00:00:00Z=200")
+    faults.copy(base, t.room / "ca.db")
+    t.clock(CLOCK)
+    leader = t.open()
+    silent = t.enter_context(Server(None))
+    server = t.enter_context(Server(lambda target: (200, parted(leader.ask("GET", target))[2])))
+
+    def run(it, is_over, fail=None):
+        """The count of allocations when this is over, and standard error."""
+        faults.copy(base, t.room / "copy.db")
+        env = faults.environment(count=t.room / "count", same=1, fail=fail)
+        with program.Opened(["follow", "copy.db", "--from", address(it.port), "--unsigned"], cwd=t.room, faults=env) as desk:
+            until(is_over, f"the end of {fail}")
+            count = faults.counted(t.room / "count")["alloc"]
+            desk.ask("GET", "/health")
+            return count, desk.end().err
+
+    first, _ = run(silent, lambda: silent.targets)
+    ends = []
+    for at in range(first + 1, first + 81):
+        _, told = run(server, lambda: faults.counted(t.room / "count")["met"], f"alloc:{at}")
+        ends.append(told.decode().strip())
+    # Without memory to receive it, the leader counts as out of reach.
+    received = [it for it in ends if it != "follow: leader unreachable"]
+    t.same((set(received), len(received) > 40), ({"follow: F1 memory"}, True), f"what it reports: {ends}")
+
+
 @test(seconds=3)
 def a_new_copy_asks_again_after_a_second(t):
     """It says each failure that differs from the one before."""
