@@ -278,6 +278,26 @@ def a_new_copy_that_has_no_memory_to_fetch_a_page_says_so(t):
     t.true(server.answered > 50, f"only {server.answered} of them got the page")
 
 
+@test(seconds=3)
+def a_follower_that_has_no_memory_to_begin_says_so(t):
+    """It has a register. An operator who is told of the store would look at the disk."""
+    base = t.register("base.db")
+    words = ["follow", "copy.db", "--from", address(program.free_port()), "--unsigned"]
+
+    def run(fail=None):
+        """The count of allocations when it listens, or None; and how it ends."""
+        faults.copy(base, t.room / "copy.db")
+        env = faults.environment(count=t.room / "count", same=1, fail=fail)
+        with program.Opened(words, cwd=t.room, faults=env) as desk:
+            count = faults.counted(t.room / "count")["alloc"] if desk.listens else None
+            ended = desk.end() if desk.listens else desk.wait()
+            return count, (ended.status, ended.err)
+
+    last, _ = run()
+    for at in range(last - 100, last - 20, 4):
+        t.same(run(f"alloc:{at}+"), (None, (1, b"F1 memory\n")), f"allocation {at} of {last}")
+
+
 @test(seconds=8)
 def a_follower_that_has_no_memory_for_a_page_says_so(t):
     """One allocation fails. An operator who is told of a malformed page would look at the leader."""
