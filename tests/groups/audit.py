@@ -185,6 +185,7 @@ UNREACHED = [
     (ONE_SECOND, SWAPPED, "revocation 2: its first CRL is before that of the row before it"),
     (AGREED, "UPDATE office SET cap = 1", f"subscriber 2: {MORE}"),
     (AGREED, "UPDATE office SET cap = 3", f"request 4: {MORE}"),
+    (A_CRL * 3, "UPDATE office SET cap = 1", f"crl 3: {MORE}"),
     (A_CRL, "UPDATE office SET last_at = last_at + 1", f"office 1: {NEVER}"),
     ("", "UPDATE office SET last_at = 5", f"office 1: {NEVER}"),
     (AGREED, "UPDATE office SET days = 0", f"office 1: {ALLOWED}"),
