@@ -446,6 +446,7 @@ RULES = {
     "a request after the last moment": ("request 5 08 asked 2026-01-02T14:00:01Z", "head E01 clock-back 2026-01-02T14:00:01Z"),
     "a request before the last moment": (f"request 5 08 asked {DAY}", "request 5 E01 clock-back 2026-01-02T13:00:00Z"),
     "a gap in requests": (f"request 6 08 asked {LATER}", "request 6 other-row"),
+    "a request at the end of the clock": ("request 5 08 asked 9999-12-22T00:00:00Z", "request 5 E02 clock-end"),
     "requests backwards": (
         "request 5 08 asked 2026-01-02T13:30:00Z\nrequest 6 08 asked 2026-01-02T13:29:59Z", "request 6 E01 clock-back 2026-01-02T13:30:00Z",
     ),
