@@ -525,6 +525,7 @@ def crls_that_the_records_do_not_give(t):
         "another number": (line(octets, 5), octets, "crl 5 other-row"),
         "another moment": (line(octets, at="2026-01-02T13:59:59Z"), octets, "crl 4 other-crl"),
         "an earlier moment": (line(octets, at="2026-01-02T12:00:00Z"), octets, "crl 4 E01 clock-back 2026-01-02T13:00:00Z"),
+        "the end of the clock": (line(octets, at="9999-12-22T00:00:00Z"), octets, "crl 4 E02 clock-end"),
         "a later moment than the last": (line(octets, at="2026-01-02T14:00:01Z"), octets, "crl 4 other-crl"),
         "an earlier CRL": (line(tables.crls[3]), tables.crls[3], "crl 4 other-crl"),
         "another serial number": (line(octets), octets[: entry + 2] + b"\x04" + octets[entry + 3 :], "crl 4 other-crl"),
