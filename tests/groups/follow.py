@@ -568,6 +568,7 @@ def pages_that_are_none(t):
         "another key": (page.replace(b" 616263\n", b" 616264\n"), "broken page: head other-issuer"),
         "another cap": (page.replace(b" 1000000\n", b" 999999\n"), "broken page: head other-policy"),
         "a last moment before": (paged(tables, ["subscriber 3 x"], last=DAY), "broken page: head E01 clock-back 2026-01-02T13:00:00Z"),
+        "a last moment at the end of the clock": (paged(tables, ["subscriber 3 x"], last="9999-12-22T00:00:00Z"), "broken page: head E02 clock-end"),
         "a page that leads nowhere": (paged(tables, [], tail="more " + tables.positions()), "broken page: positions other-positions"),
         "a row that the positions do not count": (page, "broken page: positions other-positions"),
     }  # fmt: skip
