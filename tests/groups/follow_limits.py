@@ -214,6 +214,25 @@ def a_decline_of_a_request_that_a_follower_has_comes_before_a_later_revocation(t
     Copy(t, address(leader.port)).is_like(control)
 
 
+@test(seconds=3)
+def a_decline_of_the_newest_request_that_a_follower_has_comes_before_a_later_revocation(t):
+    """While the follower is away, the request is declined, and the certificate is revoked by an earlier request. A third request comes after that."""
+    leader, control, copy = led(t)
+    for word, number in (("asked", 5), ("misuse", 6)):
+        t.true(control.ask(f"request 08 {word}").startswith(f"request {number} "), f"request {number}, which the follower has")
+    copy.is_like(control)
+    copy.desk.end()
+    lines = {CLOCK: ("decline 6", "revoke 5"), "2026-01-03T01:00:00Z": (f"request {OPEN} misuse",)}
+    for moment, asked_then in lines.items():
+        t.clock(moment)
+        for line in asked_then:
+            t.true(control.ask(line)[:1] not in "EF", line)
+    copy = Copy(t, address(leader.port))
+    until(lambda: copy.leader["current"] or copy.leader["failure"], "the page of the leader")
+    t.same(copy.leader["failure"], None, "what it says of the page")
+    copy.is_like(control)
+
+
 @each({"with digests only": False, "with two digests and a signature": True}, seconds=8)
 def a_new_copy_that_has_no_memory_says_so(t, has_signer):
     """An operator who is told of the store would look at the disk. At the end of its last page the feed has positions that it does not reach."""
