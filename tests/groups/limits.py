@@ -1463,6 +1463,14 @@ def a_terminal_shows_the_rows_and_crls_of_an_audit(t):
     t.same(on_a_terminal(t, "audit", "ca.db", passed=t.room / "passed"), [], "what the terminal shows in less than a second")
 
 
+@test
+def a_terminal_shows_no_crl_as_compared_that_is_broken(t):
+    registers.make(t.room / "ca.db", registers.Records(50, 4), 3)
+    t.sql("ca.db", "UPDATE crl SET der = x'00' WHERE number = 3")
+    shown = on_a_terminal(t, "audit", "ca.db", tick=1_000)
+    t.same((shown[-2].split(", ")[1], shown[-1]), ("2 CRLs compared", "broken"), f"the end of what the terminal shows: {shown}")
+
+
 @each({"a script": (["script", "ca.db"], f"{DAY} counts\n"), "an audit": (["audit", "ca.db"], "")})
 def a_terminal_shows_nothing_in_the_first_second(t, words, given):
     """The elapsed time of the machine before the job does not count."""
