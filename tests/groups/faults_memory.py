@@ -228,6 +228,41 @@ def a_job_at_a_control_socket_that_has_no_memory_says_so(t, words, given, replie
     t.same(whole, (0, ""), "its end without a fault")
     ends = [run(f"alloc:{at}+")[0] for at in range(last - 30, last + 1)]
     t.same([it for it in ends if it != (1, "F1 memory")], [(1, "F4 read")] * (1 + len(replies)), "other ends than `F1 memory`")
+KEPT = "".join(
+    f"{DAY} {it}\n" for it in ("subscriber acme", "order 1 398", f"register 1 05 {DAY} 2026-12-01T00:00:00Z", "request 05 asked", "request 05 misuse")
+)
+
+
+def of_requests(desk):
+    """The lines of /metrics about requests."""
+    lines = parted(desk.ask("GET", "/metrics"))[2].decode().splitlines()
+    return [it for it in lines if it.startswith(("desk_requests_open ", "desk_requests_overdue "))]
+
+
+@each({"overdue": "overdue 2 first 1", "metrics": ["desk_requests_open 2", "desk_requests_overdue 2"]}, seconds=10)
+def requests_are_counted_without_memory_to_keep_them(t, wanted):
+    """One allocation fails while a desk reads the requests that it would keep. Then it counts them in the register."""
+    base = t.register("base.db", lines=KEPT)
+    t.clock("2026-06-01T00:00:00Z")
+
+    def run(fail):
+        """The counts of allocations before and after the query, and its answer."""
+        faults.copy(base, t.room / "ca.db")
+        (t.room / "control").unlink(missing_ok=True)
+        desk = t.open("ca.db", faults=faults.environment(count=t.room / "count", same=1, fail=fail))
+        with program.Control(t.room / "control") as control:
+            control.ask("counts")
+            first = faults.counted(t.room / "count")["alloc"]
+            answer = control.ask("overdue") if wanted[0] == "o" else of_requests(desk)
+            last = faults.counted(t.room / "count")["alloc"]
+        desk.end()
+        return first, last, answer
+
+    first, last, answer = run(None)
+    t.true(last > first + 300, f"{last - first} allocations for a query")
+    # The first ones are for the line or the request itself. In /metrics, all of these are for the requests.
+    for at in range(first + 10, min(last, first + 500), 11):
+        t.same(run(f"alloc:{at}")[2], wanted, f"the answer if allocation {at - first} of it fails")
 
 
 # HTTP requests to an open desk, with the status and the body of each response. Two lines at the control socket follow them (asked_of).
