@@ -1,5 +1,6 @@
-"""A client requests each route of `desk serve` while one allocation fails. The response is the usual one, or reports that the desk is out of memory
-(to an OCSP request by internalError), or is missing. In these two cases nothing is entered, and the same request then succeeds."""
+"""A client requests each route of `desk serve` while one allocation fails. The response is the usual one, or reports that the desk is out of memory,
+or is missing. In these two cases nothing is entered, and the same request then succeeds. To an OCSP request the desk doesn't answer internalError:
+that would say that the store or the signer failed."""
 
 from lib import faults, program
 from lib.faults import DAY_1, DAY_2, OCSP_REQUEST, PAST_END
@@ -40,7 +41,7 @@ def is_answer(got, status, held):
 def is_refused(got):
     """Whether a response reports that the desk is out of memory, or is empty. If there is no memory even for the Date field, it is NO_MEMORY."""
     told = b"\r\n\r\n" + b'{"error":"F1 memory"}'
-    return got in (b"", NO_MEMORY) or (got.startswith(b"HTTP/1.1 500 ") and got.endswith(told)) or got.endswith(b"0\x03\n\x01\x02")
+    return got in (b"", NO_MEMORY) or (got.startswith(b"HTTP/1.1 500 ") and got.endswith(told))
 
 
 def served(t, base, at):
