@@ -131,6 +131,21 @@ def an_audit_that_has_no_memory_for_what_it_read_says_so(t):
         t.same((ran.status, ran.out, ran.err), (1, b"", b"F1 memory\n"), f"allocation {at} of {last}")
 
 
+@each({"a list": ("list", 12, 1), "a new key identifier": ("key-id", 120, 3)}, seconds=4)
+def a_job_that_has_no_memory_at_its_end_says_so(t, name, many, step):
+    """From some allocation on there is none: of the last `many`, each `step`th is tried."""
+    words, given, base = JOBS[name]
+    base = t.register(base, script(REGISTERED) + f"{DAY} crl\n")
+    faults.copy(base, t.room / "ca.db")
+    usual, count = faults.run(t, words, given)
+    t.same(usual.status, 0, "the status without a fault")
+    last = count["alloc"]
+    for at in range(last - many, last + 1, step):
+        faults.copy(base, t.room / "ca.db")
+        ran, _ = faults.run(t, words, given, fail=f"alloc:{at}+")
+        t.true((ran.status, ran.out, ran.err) in ((1, b"", b"F1 memory\n"), (0, usual.out, b"")), f"allocation {at} of {last}: {ran}")
+
+
 @each({"copy": (["copy", "ca.db", "copy.db"], "", None), **{name: JOBS[name] for name in ("import", "list", "audit")}})
 def a_file_that_the_system_has_no_memory_to_open(t, words, given, base):
     """open(2) fails with ENOMEM. An operator who is told of the store looks at the disk."""
@@ -164,6 +179,8 @@ def a_script_with_a_signer_that_has_no_memory_says_so(t):
     for at in range(last - 40, last + 1):
         ran, count = faults.run(t, words, fail=f"alloc:{at}")
         t.true((ran.status, ran.err) in ((0, b""), (1, b"F1 memory\n")), f"allocation {at} of {last}: {ran}")
+
+
 # The words of a job that prints what it found, and SQL that changes the register before.
 FOUND = {
     "a broken row": (["audit", "ca.db"], "UPDATE subscriber SET name = ''"),
