@@ -607,7 +607,8 @@ def a_page_without_memory(t):
     t.same(parted(page)[2], parted(again)[2], "the page twice")
     t.true(parted(page)[2].startswith(b"changes 1\n"), f"{page!r}")
     t.true(last["alloc"] > first["alloc"] + 20, f"{last['alloc'] - first['alloc']} allocations for a page")
-    for at in range(first["alloc"] + 1, last["alloc"] + 1, 7):
+    # The last ones are for the text of the page's rows.
+    for at in (*range(first["alloc"] + 1, last["alloc"] - 20, 7), *range(last["alloc"] - 20, last["alloc"] + 1)):
         _, _, got, again = run(f"alloc:{at}", f"allocation {at}")
         status, _, body = parted(got)
         t.true(got in (b"", page) or status == 500 and body in (b'{"error":"F1 memory"}', b""), f"allocation {at}: {got!r}")
