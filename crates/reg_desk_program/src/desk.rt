@@ -19,8 +19,13 @@ use std::{fs, io};
 pub fn run_desk(rt: &HostRuntime, invocation: &Invocation<'_>) -> u8 {
     let log_file = log_path(invocation);
     if let Err(error) = check_log(rt, invocation) {
+        let fault = if error.kind() == ErrorKind::OutOfMemory {
+            Fault::Memory
+        } else {
+            Fault::Write
+        };
         let cause = FailureCause::at(Some(Location::LogFile), create_cause_of(error.kind()));
-        return report_fault(rt, invocation, Fault::Write, cause);
+        return report_fault(rt, invocation, fault, cause);
     }
     show_large_opening(rt, &invocation.job);
     let (location, path) = input_path(&invocation.job).unzip();
@@ -68,17 +73,21 @@ fn check_log(rt: &HostRuntime, invocation: &Invocation<'_>) -> io::Result<()> {
     };
     let log = open_log(rt, path)?.metadata()?;
     // SQLite names `-wal` and `-journal` after the file to which a symbolic link leads. If there is no register yet, a log line can't damage it.
-    let Ok(register) = fs::canonicalize(rt, register) else {
-        return Ok(());
+    let register = match fs::canonicalize(rt, register) {
+        Ok(register) => register,
+        Err(error) if error.kind() == ErrorKind::NotFound => return Ok(()),
+        Err(error) => return Err(error),
     };
     for suffix in ["", "-wal", "-journal"] {
         let mut part = String::new(rt.alloc());
         part.push_str(register.as_str())?;
         part.push_str(suffix)?;
-        if let Ok(found) = fs::metadata(rt, part.as_str()) {
-            if found.dev() == log.dev() && found.ino() == log.ino() {
+        match fs::metadata(rt, part.as_str()) {
+            Ok(found) if found.dev() == log.dev() && found.ino() == log.ino() => {
                 return Err(ErrorKind::AlreadyExists.into());
             }
+            Err(error) if error.kind() != ErrorKind::NotFound => return Err(error),
+            _ => {}
         }
     }
     Ok(())
