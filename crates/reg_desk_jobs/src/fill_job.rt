@@ -348,7 +348,7 @@ impl Fetcher {
     /// Waits until the connection is ready, at most so many milliseconds.
     fn pause<M: Machine>(&mut self, machine: &M, millis: u64) -> Result<(), Failure>
         ensures ok { OnOk result ((count : ℕ) → M.waited count → M.waited (count + 1)) }
-        ensures err { IfErr result (FailsBySystem M.failed M.waited) }
+        ensures err { IfErr result (λ why. (why ≡ failure.Fault fault.Read) × M.failed) }
     {
         match machine.wait(
             &mut self.poll,
@@ -372,7 +372,7 @@ fn leads_nowhere(after: &Option<Positions>, page: &ReceivedPage) -> bool
 }
 
 fn millis<M: Machine>(machine: &M) -> Result<u64, Failure>
-    ensures { IfErr result (FailsBySystem M.failed M.waited) }
+    ensures { IfErr result (λ why. (why ≡ failure.Fault fault.Read) × M.failed) }
 {
     match machine.millis() {
         Ok(millis) => Ok(millis),
