@@ -123,12 +123,24 @@ ONE_SECOND = "".join(
     )
 )  # fmt: skip
 A_CRL = "2026-01-01T00:00:00Z crl\n"
+# APART has no row whose number is that of an order, certificate, request or CRL that it refers to, or its place by serial number: the rows of `cert`
+# have the orders 4, 6 and 5, the requests have the rows 3, 1, 2 and 3 of `cert`, the revocations the requests 3 and 1, and the CRLs 4 and 5.
+APART = "".join(
+    f"2026-01-0{it}\n"
+    for it in (
+        "1T00:00:00Z subscriber acme", "1T00:00:00Z subscriber globex", *[f"1T00:00:00Z order {it} 10" for it in (2, 1, 1, 2, 1, 2)],
+        *[f"1T00:00:00Z register {it} 2026-01-01T00:00:00Z 2026-01-10T23:59:59Z" for it in ("4 0b", "6 0c", "5 0a")], *["1T00:00:00Z crl"] * 3,
+        *[f"2T00:00:00Z request {it} asked" for it in ("0a", "0b", "0c", "0a")],
+        "3T00:00:00Z revoke 3", "3T00:00:00Z crl", "3T00:00:00Z revoke 1", "4T00:00:00Z crl",
+    )
+)  # fmt: skip
 NAMED, ALLOWED = "a name that no command takes", "days that no schedule allows"
 BACKWARDS, LONGER = "its notBefore is after its notAfter", "a longer validity than its order allows"
 EARLIER, ENDED = "its moment is before that of the row before it", "its moment is after the end of the certificate"
 REVOKED, DECLINED = "its moment is after the revocation of its serial number", "its request was declined"
 REASON, NEVER = "another reason than that of its request's ground", "a last accepted moment that no command set"
 MORE = "more rows than the policy's cap"
+OTHER = "differs from the records, or a row with a lower serial number is missing"
 SWAPPED = "; ".join(f"UPDATE revocation SET rowid = {new} WHERE rowid = {old}" for old, new in ((1, 9), (2, 1), (9, 2)))
 
 
@@ -183,6 +195,25 @@ UNREACHED = [
     (AGREED, "UPDATE revocation SET request = 3 WHERE request = 1", f"revocation 1: {REASON}"),
     (AGREED, SWAPPED, f"revocation 2: {EARLIER}"),
     (ONE_SECOND, SWAPPED, "revocation 2: its first CRL is before that of the row before it"),
+    (APART, "UPDATE orders SET days = 0 WHERE id = 1", f"orders 1: {ALLOWED}"),
+    (APART, "UPDATE orders SET days = 399 WHERE id = 2", f"orders 2: {ALLOWED}"),
+    (APART, "UPDATE cert SET not_after = not_before - 1 WHERE order_id = 6", f"cert 2: {BACKWARDS}"),
+    (APART, "UPDATE cert SET not_after = not_before - 1 WHERE order_id = 5", f"cert 3: {BACKWARDS}"),
+    (APART, "UPDATE cert SET not_after = not_after + 1 WHERE order_id = 4", f"cert 1: {LONGER}"),
+    (APART, "UPDATE orders SET days = 9 WHERE id = 5", f"cert 3: {LONGER}"),
+    (APART, "UPDATE cert SET not_after = 1767311999 WHERE order_id = 4", f"request 2: {ENDED}"),
+    (APART, "UPDATE cert SET not_after = 1767311999 WHERE order_id = 6", f"request 3: {ENDED}"),
+    (APART, "UPDATE request SET received = 1767398401 WHERE id = 4", f"request 4: {REVOKED}"),
+    (APART, asked(6, 1767398401), f"request 5: {REVOKED}"),
+    (APART, "UPDATE request SET declined = 1 WHERE id = 3", f"revocation 1: {DECLINED}"),
+    (APART, "UPDATE revocation SET reason = 1 WHERE request = 1", f"revocation 2: {REASON}"),
+    (APART, "UPDATE revocation SET at = at + 1 WHERE request = 3", "revocation 1: its first CRL is not the first one after its moment"),
+    (APART, "UPDATE revocation SET first_crl = 7 WHERE request = 1", "revocation 2: its first CRL is neither an issued one nor the next one"),
+    (APART, SWAPPED, "revocation 2: its first CRL is before that of the row before it"),
+    (APART, "UPDATE standing SET not_after = 1 WHERE rowid = 2", f"standing 2: {OTHER}"),
+    (APART, "UPDATE listed SET not_after = 1 WHERE rowid = 1", f"listed 1: {OTHER}"),
+    (APART, "UPDATE listed SET not_after = 1 WHERE rowid = 2", f"listed 2: {OTHER}"),
+    (APART, "UPDATE office SET cap = 4", f"orders 6: {MORE}"),
     (AGREED, "UPDATE office SET cap = 1", f"subscriber 2: {MORE}"),
     (AGREED, "UPDATE office SET cap = 3", f"request 4: {MORE}"),
     (A_CRL * 3, "UPDATE office SET cap = 1", f"crl 3: {MORE}"),
