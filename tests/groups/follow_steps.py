@@ -6,6 +6,7 @@ import json
 import os
 import re
 import select
+import signal
 import socket
 import subprocess
 import threading
@@ -18,7 +19,7 @@ from groups.responder import Responder
 from lib import faults, program
 from lib.authority import Authority, body_of, end, first_day, now, until
 from lib.passing import Passing
-from lib.program import parted, read_all
+from lib.program import hold, parted, read_all
 from lib.trial import each, test
 
 
@@ -283,6 +284,39 @@ def lines_that_a_follower_refuses_are_in_its_log(t):
         lines.ask(line)
     logged = lambda: [text.split('"')[1::2] for text in it.desk.log if " control " in text]
     t.same(logged(), [["crl", "follower"], ["revoke 4", "follower"], ["counts", lines.ask("counts")]], "lines and replies in the log")
+
+
+@test(seconds=3)
+def connections_that_a_follower_loses_are_in_its_log(t):
+    """One client resets, one leaves the control socket before its reply, one is late, and one is evicted because no descriptor is left."""
+    it = Slow(t)
+    it.asks(FIRST)
+    lost = lambda: [line for line in it.desk.log if " lost " in line]
+
+    def loses(client, why):
+        """Waits until the log has this line."""
+        until(lambda: f"{CLOCK} {client} lost {why}" in lost(), f"the line `lost {why}` of {client}; it has {lost()}", seconds=10)
+
+    with it.comes(b"GET /coun") as gone:
+        named = "127.0.0.1:%d" % gone.getsockname()[1]
+        # With this option, close(2) sends a reset.
+        gone.setsockopt(socket.SOL_SOCKET, socket.SO_LINGER, b"\1\0\0\0\0\0\0\0")
+    loses(named, "broken")
+    hold(it.desk.process)
+    with program.Control(t.room / "copy") as control:
+        control.stream.sendall(b"counts\n")
+    it.desk.process.send_signal(signal.SIGCONT)
+    loses("control", "broken")
+    late = it.comes(b"GET /coun")
+    it.set_forward(30_000)
+    loses("127.0.0.1:%d" % late.getsockname()[1], "late")
+    t.same(len(lost()), 3, f"lost connections in the log: {lost()}")
+    it.asks(FIRST + 1)
+    first = it.comes(b"GET /coun")
+    t.tool("prlimit", "--pid", it.desk.process.pid, f"--nofile={it.files}:{it.files}")
+    for _ in range(3):
+        t.enter_context(it.desk.connect())
+    loses("127.0.0.1:%d" % first.getsockname()[1], "crowded")
 
 
 @test(seconds=4)
