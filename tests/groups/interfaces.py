@@ -73,6 +73,34 @@ def a_log_in_the_place_of_a_register(t, log):
     t.has(t.done("audit", "ca.db"), "sound")
 
 
+@each({"that is there": True, "that is not there": False}, seconds=4)
+def a_log_in_the_place_of_a_write_ahead_log_that_a_desk_has_no_memory_to_look_at(t, is_there):
+    """In each run one allocation fails. Lines in this log would damage the register, so the desk never listens with it."""
+    t.register(lines=ENTERED)
+    before, log = (t.room / "ca.db").read_bytes(), t.room / "ca.db-wal"
+
+    def run(fail):
+        """How a desk with this log ends. If it listens, it is ended."""
+        log.unlink(missing_ok=True)
+        if is_there:
+            log.touch()
+        words = ["serve", "ca.db", "--requests", "1", "--log-file", "ca.db-wal"]
+        with Opened(words, cwd=t.room, faults=faults.environment(count=t.room / "count", same=1, fail=fail)) as desk:
+            ended = desk.end() if desk.listens else desk.wait()
+            return desk.listens, ended.status, ended.err
+
+    t.same(run(None), (False, 1, b"F5 write\n"), "without a fault")
+    last = faults.counted(t.room / "count")["alloc"]
+    # It looks at the log with the last ones. It can do without one of those that read the command line.
+    for at in [*range(1, last - 60, 9), *range(last - 60, last + 1)]:
+        listens, status, told = run(f"alloc:{at}")
+        is_memory = told == b"F1 memory\n" or (at < last - 60 and told == b"F5 write\n")
+        t.same((listens, status, is_memory), (False, 1, True), f"allocation {at} of {last}: {told!r}")
+    t.same((t.room / "ca.db").read_bytes(), before, "the register")
+    log.unlink()
+    t.has(t.done("audit", "ca.db"), "sound")
+
+
 @test
 def a_log_in_the_place_of_that_of_a_register_behind_a_link(t):
     """The register's own log lies beside the file to which the link leads."""
