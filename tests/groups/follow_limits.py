@@ -7,7 +7,7 @@ import subprocess
 import time
 from concurrent.futures import ThreadPoolExecutor
 
-from groups.changes import LINES, Tables, asked, taken
+from groups.changes import DAY, LINES, Tables, asked, taken
 from groups.follow import CLOCK, LATER, OPEN, Copy, Forward, address, faked, led, paged, timed
 from groups.follow_steps import Server, fills, now_text, page_for, sets_out, waiting_for, waits
 from groups.limits import full_queue
@@ -295,6 +295,50 @@ def a_new_copy_that_has_no_memory_to_fetch_a_page_says_so(t):
         ran, count = faults.run(t, words, fail=f"alloc:{at}+")
         t.same((ran.status, ran.err), (1, b"F1 memory\n"), f"allocation {at}")
     t.true(server.answered > 50, f"only {server.answered} of them got the page")
+
+
+# One row of each kind, and a CRL.
+FEW = "".join(
+    f"{it}\n"
+    for it in (
+        f"{DAY} subscriber acme", f"{DAY} order 1 398", f"{DAY} order 1 398", f"{DAY} register 1 05 {DAY} 2026-01-10T00:00:00Z",
+        f"{DAY} register 2 06 {DAY} 2026-01-10T00:00:00Z", "2026-01-02T00:00:00Z request 05 asked", "2026-01-02T00:00:00Z request 06 misuse",
+        "2026-01-02T08:00:00Z decline 1", "2026-01-02T09:00:00Z revoke 2", "2026-01-02T10:00:00Z crl",
+    )
+)  # fmt: skip
+# How far from the end the allocations are that are tried. The first part begins before the transaction, and the last one ends after its commit. BEGIN
+# takes only one, and on a busy machine a run may take one more before it: so those near it are tried three times.
+ENTERING = {
+    "head": [*[*range(5_078, 5_070, -1)] * 2, *range(5_084, 5_060, -1), *range(5_060, 4_800, -26)],
+    "rows": [*range(4_800, 2_600, -60)],
+    "CRL": [*range(2_600, 2_270, -26)],
+    "end": [*range(2_270, 2_060, -26), *range(2_060, 2_036, -4)],
+}
+
+
+@each(ENTERING, seconds=4)
+def a_new_copy_that_has_no_memory_to_enter_its_rows_says_so(t, places):
+    """From some allocation on there is none. An operator who is told of the store would look at the disk. A folder is in the way of the last step,
+    after all rows are entered."""
+    t.register(lines=FEW)
+    t.done("schedule", "ca.db", "1970-01-01T00:00:00Z=398", "2026-03-15T00:00:00Z=200")
+    t.clock(CLOCK)
+    leader, pages = t.open(), {}
+
+    def answer(target):
+        if target not in pages:
+            pages[target] = parted(leader.ask("GET", target))[2]
+        return 200, pages[target]
+
+    server = t.enter_context(Server(answer))
+    (t.room / "copy.db.part").mkdir()
+    words = ["follow", "copy.db", "--from", address(server.port), "--port", program.free_port(), "--unsigned"]
+    whole, count = faults.run(t, words)
+    t.same((whole.status, whole.err_lines), (1, ["F2 store"]), "its end without a fault")
+    last = count["alloc"]
+    for at in places:
+        ran, _ = faults.run(t, words, fail=f"alloc:{last - at}+")
+        t.same((ran.status, ran.err), (1, b"F1 memory\n"), f"allocation {last - at} of {last}")
 
 
 @test(seconds=3)
