@@ -1102,6 +1102,30 @@ def a_late_request_that_is_whole_when_the_desk_looks_is_not_lost(t):
     t.same([it for it in desk.end().err_lines if " lost " in it], [], "lost connections in the log")
 
 
+@test(seconds=2)
+def a_late_answer_that_is_sent_when_the_desk_looks_is_not_lost(t):
+    """No byte of the answer can be sent at first. Before that, thirty seconds pass while the desk opens the folder of a copy. Then it sends the
+    answer, and after that looks for connections whose time is up."""
+    t.register()
+    (t.room / "copies").mkdir()
+    have_passed(t, 0)
+    # The reply to the line is the first write.
+    told = dict(only="copies,socket", fail="write:2=EAGAIN", count=t.room / "count")
+    desk = t.open("ca.db", "--log", faults=faults.environment(passed=t.room / "passed", slow_open=t.room / "goes-on", **told))
+    program.hold(desk.process)
+    with desk.connect() as client, t.control() as lines:
+        client.sendall(COUNTS)
+        lines.stream.sendall(b"copy copies/copy.db\n")
+        desk.process.send_signal(signal.SIGCONT)
+        authority.until(lambda: (t.room / "goes-on.waits").exists(), "the desk to open the folder")
+        have_passed(t, 30_000)
+        (t.room / "goes-on").touch()
+        t.true(lines.file.readline().startswith(b"copied "), "the open register is not copied")
+        t.same(parted(read_all(client))[0], 200, "its answer")
+    t.same(lost_by(desk), {"broken": 0, "late": 0, "crowded": 0, "memory": 0}, "the metrics")
+    t.same(faults.counted(t.room / "count")["met"], 1, "injected faults")
+
+
 @each({"an answer": "answer", "a line": "line"}, seconds=2)
 def a_signature_that_came_while_the_desk_was_busy_for_ten_seconds_is_used(t, what):
     """The desk opens its log for as long. Then it finds the signature, and after that it looks whether the time is up."""
@@ -1641,21 +1665,27 @@ def a_connection_that_the_kernel_does_not_poll_holds_up_nobody(t, place, sent, i
     t.same((lost_by(desk), t.control().ask("counts")), ({"broken": lost, "late": 0, "crowded": 0, "memory": 0}, "good 0 revoked 0 expired 0"), "lost connections, and another line")
 
 
-@test
-def a_client_whose_answer_makes_room_is_not_lost(t):
-    """The desk has a descriptor for one connection only. The request on it is complete when another client connects."""
+@each({"alone": False, "beside a younger one": True})
+def a_client_whose_answer_makes_room_is_not_lost(t, is_beside):
+    """The desk has a descriptor for each only. The request on the oldest is complete when another client connects, so no other makes room."""
     t.register()
     desk = Passing(t)
-    t.tool("prlimit", "--pid", desk.desk.process.pid, f"--nofile={desk.before + 1}:{desk.before + 1}")
-    with desk.desk.connect() as first:
-        first.sendall(COUNTS[:9])
-        authority.until(lambda: program.is_read(first), "the desk to read it")
+    many = 1 + is_beside
+    t.tool("prlimit", "--pid", desk.desk.process.pid, f"--nofile={desk.before + many}:{desk.before + many}")
+    with contextlib.ExitStack() as open_ones:
+        first, *beside = [open_ones.enter_context(desk.desk.connect()) for _ in range(many)]
+        for it in (first, *beside):
+            it.sendall(COUNTS[:9])
+            authority.until(lambda: program.is_read(it), "the desk to read it")
         program.hold(desk.desk.process)
         first.sendall(COUNTS[9:])
-        with desk.desk.connect() as second:
-            second.sendall(COUNTS)
-            desk.desk.process.send_signal(signal.SIGCONT)
-            t.same([parted(read_all(it))[0] for it in (first, second)], [200, 200])
+        last = open_ones.enter_context(desk.desk.connect())
+        last.sendall(COUNTS)
+        desk.desk.process.send_signal(signal.SIGCONT)
+        t.same([parted(read_all(it))[0] for it in (first, last)], [200, 200], "the oldest one, and the new one")
+        for it in beside:
+            it.sendall(COUNTS[9:])
+            t.same(parted(read_all(it))[0], 200, "the younger one")
     desk.loses()
 
 
