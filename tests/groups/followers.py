@@ -6,6 +6,7 @@ import socket
 import struct
 import threading
 import time
+from pathlib import Path
 
 from groups.changes import LINES, Tables, asked, taken
 from groups.follow import CLOCK, LATER, OPEN, Copy, Sender, address, faked, led, paged
@@ -88,6 +89,43 @@ def a_line_that_comes_while_a_reply_waits_is_answered_after_it(t):
         lines.stream.sendall(b"counts\n")
         confirm(t, leader, other, 7)
         t.same([lines.file.readline() for _ in range(2)], [b"subscriber 3\n", b"good 2 revoked 2 expired 0\n"], "the replies")
+
+
+@test(seconds=5)
+def a_reply_that_waits_takes_no_memory(t):
+    """One of a command's last allocations fails, or the first one after it. The reply comes with the confirmation, or reports the fault."""
+    t.register("base.db", lines=LINES)
+    t.clock(CLOCK)
+    calls = lambda kind: faults.counted(t.room / "count")[kind]
+
+    def run(fail):
+        """The count of allocations once the command was run, and its reply."""
+        faults.copy(t.room / "base.db", t.room / "ca.db")
+        (t.room / "control").unlink(missing_ok=True)
+        leader = t.open("ca.db", "--confirm-by", "1", faults=faults.environment(count=t.room / "count", same=1, fail=fail))
+        state = lambda: Path(f"/proc/{leader.process.pid}/stat").read_text().rpartition(") ")[2][0]
+        rests = lambda: until(lambda: state() == "S", "the desk to sleep")
+        lines, other = t.enter_context(program.Control(t.room / "control", timeout=10)), t.control()
+        for it in (lines, other):
+            it.ask("counts")
+        rests()
+        before = calls("watch")
+        lines.stream.sendall(b"subscriber third\n")
+        # Once the command is run, the desk polls the connection again. Any question whether it has run would take memory.
+        until(lambda: calls("watch") > before, "the desk to run the command")
+        rests()
+        last = calls("alloc")
+        # This takes the failure, if the command and its reply did not.
+        leader.ask("GET", "/counts")
+        confirm(t, leader, other, 7)
+        reply = lines.file.readline()
+        leader.end()
+        return last, reply
+
+    last, reply = run(None)
+    t.same(reply, b"subscriber 3\n", "the reply")
+    for at in range(last - 2, last + 2):
+        t.true(run(f"alloc:{at}")[1] in (reply, b"F1 memory\n"), f"no reply, if allocation {at} of {last} fails")
 
 
 @test(seconds=2)
