@@ -181,6 +181,19 @@ def a_script_with_a_signer_that_has_no_memory_says_so(t):
         t.true((ran.status, ran.err) in ((0, b""), (1, b"F1 memory\n")), f"allocation {at} of {last}: {ran}")
 
 
+@test(seconds=3)
+def a_script_that_has_no_memory_to_check_the_clock_says_so(t):
+    """Its clock is too far ahead. From one of its last allocations on there is none. An operator who is told of the store would look at the disk."""
+    t.register(lines=script(REGISTERED))
+    words, clock = ["script", "ca.db", "--clock"], t.room / "clock"
+    clock.write_text(str(program.seconds_of("2026-06-01T00:00:00Z")))
+    whole, count = faults.run(t, words, clock=clock)
+    t.same((whole.status, whole.err), (1, b"bad-clock\n"), "its end without a fault")
+    for at in range(count["alloc"] - 30, count["alloc"] + 1):
+        ran, _ = faults.run(t, words, clock=clock, fail=f"alloc:{at}+")
+        t.same((ran.status, ran.out, ran.err), (1, b"", b"F1 memory\n"), f"allocation {at} of {count['alloc']}")
+
+
 # The words of a job that prints what it found, and SQL that changes the register before.
 FOUND = {
     "a broken row": (["audit", "ca.db"], "UPDATE subscriber SET name = ''"),
