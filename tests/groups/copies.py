@@ -310,7 +310,8 @@ def a_copy_that_has_no_memory_says_so(t):
     words = ("copy", "ca.db", "copy.db", "--why")
     last = faults.total(t, words, "alloc")
     os.remove(t.room / "copy.db")
-    for at in faults.places(last, 250, 37):
+    # The last ones are for the line that it prints.
+    for at in (*range(last, last - 12, -1), *faults.places(last - 12, 250, 37)):
         ran, count = faults.run(t, words, fail=f"alloc:{at}+")
         t.same((ran.status, ran.out, ran.err), (1, b"", b"F1 memory\n"), f"allocation {at}")
         # Without memory for its reply only, the copy is whole.
