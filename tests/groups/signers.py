@@ -628,12 +628,14 @@ def a_signer_that_fails_once(t, manner):
     t.register(key=P256_KEY)
     well = gives(ANY_SIGNATURE)
     t.enter_context(ScriptedSigner(t.room / "ca.sign", lambda client, it: (manner if it.asked % 2 else well)(client, it)))
-    got, seconds = timed(lambda: tried(t, ["crl", "crl", "crl", "subscriber acme", "crl"]))
-    t.same(got, ["F3 signer", "crl 1 entries 0", "F3 signer", "subscriber 1", "crl 2 entries 0"])
+    request = bytes.fromhex("30423040303E303C303A300906052B0E03021A05000414" + "00" * 20 + "0414" + "00" * 20 + "020105")
+    line = f"ocsp {request.hex()}"
+    (*got, last), seconds = timed(lambda: tried(t, ["crl", "crl", "crl", "subscriber acme", "crl", line, line]))
+    t.same(got, ["F3 signer", "crl 1 entries 0", "F3 signer", "subscriber 1", "crl 2 entries 0", f"ocsp {INTERNAL.hex()}"])
+    t.has(last, ANY_SIGNATURE.hex(), "the next answer to an `ocsp` line")
     t.true(seconds < 9, f"it took {seconds:.1f} s, so the desk waited for a signer that had failed")
     t.same(t.sql("ca.db", "SELECT number FROM crl ORDER BY number"), [(1,), (2,)])
     desk = t.open("ca.db", *P256)
-    request = bytes.fromhex("30423040303E303C303A300906052B0E03021A05000414" + "00" * 20 + "0414" + "00" * 20 + "020105")
     t.same(body_of(t, desk.ask("POST", "/ocsp", request)), INTERNAL, "an OCSP answer that the signer does not sign")
     t.same(body_of(t, desk.ask("POST", "/ocsp", request))[:2] == INTERNAL[:2], False, "whether the next answer is internalError")
 
