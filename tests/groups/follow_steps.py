@@ -79,14 +79,14 @@ def no_news(tables, last=None):
 class Slow(Passing):
     """A follower of a copy of the register of LINES. Its elapsed time is set by the test, and its leader is a server of the test."""
 
-    def __init__(self, t, *words):
+    def __init__(self, t, *words, **how):
         leader, control, copy = led(t)
         copy.is_like(control)
         copy.desk.end()
         leader.end()
         self.tables = Tables(t.room / "taken.db")
         self.leader = t.enter_context(Server(no_news(self.tables), leader.port))
-        super().__init__(t, "--from", address(leader.port), "--control", "copy", "--unsigned", *words, file="copy.db", command="follow")
+        super().__init__(t, "--from", address(leader.port), "--control", "copy", "--unsigned", *words, file="copy.db", command="follow", **how)
 
     def health(self):
         return json.loads(parted(self.desk.ask("GET", "/health"))[2])["leader"]
@@ -713,3 +713,19 @@ def without_news_nobody_is_busy(t):
             copy.health()
     took = [after - begun for after, begun in zip(polls(), before)]
     t.true(all(it < 1_000 for it in took), f"calls of epoll_wait(2) in a second: {took}")
+
+
+@test(seconds=3)
+def a_follower_whose_leader_is_slow_is_not_busy(t):
+    """A millisecond before its request is due, the follower waits for events for a millisecond. Once it waits for the answer, it waits longer."""
+    it = Slow(t, count=t.room / "count")
+    it.asks(FIRST)
+    it.leader.answer = None
+    it.set_forward(9)
+    it.health()
+    it.set_forward(1)
+    until(lambda: len(it.leader.targets) > FIRST, "the request that the leader does not answer")
+    polls = lambda: faults.counted(t.room / "count")["poll"]
+    before = polls()
+    time.sleep(0.5)
+    t.true(polls() - before < 20, f"calls of epoll_wait(2) while the leader is silent: {polls() - before}")

@@ -11,12 +11,12 @@ ASKED = b"GET /counts HTTP/1.1\r\nHost: localhost\r\n\r\n"
 
 
 class Passing:
-    """An open desk with a log. Its elapsed time changes only by `set_forward` and `advance`."""
+    """An open desk with a log. Its elapsed time changes only by `set_forward` and `advance`. `count` is a file for the counts of its calls."""
 
-    def __init__(self, t, *words, file="ca.db", **how):
+    def __init__(self, t, *words, file="ca.db", count=None, **how):
         self.t, self.file, self.millis = t, t.room / "passed", 1_000_000
         self.file.write_bytes(struct.pack("=Q", self.millis))
-        self.desk = t.open(file, "--log", *words, faults=faults.environment(passed=self.file), **how)
+        self.desk = t.open(file, "--log", *words, faults=faults.environment(passed=self.file, count=count), **how)
         self.before = self.files
 
     @property
