@@ -1614,6 +1614,18 @@ def a_lost_control_connection_is_counted(t):
     authority.until(lambda: lost_by(desk) == wanted, "the lost connection in the metrics", seconds=20)
 
 
+@test
+def a_control_client_that_leaves_a_whole_reply_unread_is_not_lost(t):
+    """It closes the connection with the reply in its buffer, so the desk's next read fails (ECONNRESET)."""
+    t.register()
+    desk = t.open()
+    with t.control() as control:
+        control.stream.sendall(b"counts\n")
+        t.true(select.select([control.stream], [], [], 20)[0], "the reply does not come")
+    authority.until(lambda: b'desk_connections{at="counter"} 0\n' in desk.ask("GET", "/metrics"), "the end of the connection", seconds=20)
+    t.same(lost_by(desk), {"broken": 0, "late": 0, "crowded": 0, "memory": 0}, "lost connections")
+
+
 @each({"an HTTP connection": False, "a control connection": True}, seconds=2)
 def a_connection_that_the_kernel_does_not_poll_is_lost_as_broken(t, is_control):
     t.register()
