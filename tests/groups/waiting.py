@@ -132,6 +132,30 @@ def a_signature_is_requested_without_a_wait_for_another_event(t):
 
 
 @test(seconds=3)
+def a_client_whose_signature_can_not_be_queued_is_answered_at_once(t):
+    """One allocation fails, and no time passes: a client whose signature nobody requests would wait for ever."""
+    t.signer()
+    base, body = t.register("base.db", key=P256_KEY), asked_for(0x1100)
+
+    def run(fail):
+        """The count of allocations after an answer, and the answer."""
+        faults.copy(base, t.room / "ca.db")
+        (t.room / "control").unlink(missing_ok=True)
+        (t.room / "passed").write_bytes(bytes(8))
+        desk = t.open("ca.db", *SIGNING, faults=faults.environment(count=t.room / "count", passed=t.room / "passed", same=1, fail=fail))
+        with t.at_once(f"the answer with {fail}"):
+            response = desk.ask("POST", "/ocsp", body, timeout=5)
+        last = faults.counted(t.room / "count")["alloc"]
+        desk.end()
+        return last, response
+
+    last, response = run(None)
+    t.true(is_signed(body_of(t, response)), "the answer is not signed")
+    # The response is made after these: the queue has its first place, and the request to the signer its path, its message and its connection.
+    t.same({body_of(t, run(f"alloc:{at}")[1]) for at in range(last - 15, last - 10)}, {INTERNAL}, "answers without memory for the signature")
+
+
+@test(seconds=3)
 def nobody_else_waits(t):
     """More clients wait than signatures are requested at once. Other clients, and lines at the control socket, are answered meanwhile."""
     held = Held(t)
