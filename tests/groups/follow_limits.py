@@ -392,6 +392,25 @@ def a_follower_that_has_no_memory_for_a_page_says_so(t):
     t.same((set(received), len(received) > 40), ({"follow: F1 memory"}, True), f"what it reports: {ends}")
 
 
+@test(seconds=2)
+def a_follower_without_memory_for_a_line_writes_no_part_of_it(t):
+    """It writes the line when its leader is out of reach. The line has three allocations, the last ones before it; one of them fails."""
+    base = t.register("base.db")
+
+    def run(fail=None):
+        """The count of allocations at its end, and standard error."""
+        faults.copy(base, t.room / "copy.db")
+        told = faults.environment(count=t.room / "count", same=1, fail=fail)
+        with program.Opened(["follow", "copy.db", "--from", address(program.free_port()), "--unsigned"], cwd=t.room, faults=told) as desk:
+            until(lambda: desk.log or faults.counted(t.room / "count")["met"], "the line")
+            last = faults.counted(t.room / "count")["alloc"]
+            desk.ask("GET", "/counts")
+            return last, desk.end().err
+
+    last, told = run()
+    t.same((told, [run(f"alloc:{at}")[1] for at in range(last - 2, last + 1)]), (b"follow: leader unreachable\n", [b""] * 3), "standard error")
+
+
 @test(seconds=3)
 def a_new_copy_asks_again_after_a_second(t):
     """It says each failure that differs from the one before. After 409 it begins anew."""
