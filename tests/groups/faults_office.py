@@ -116,6 +116,19 @@ def a_signal_at_a_client_s_socket_changes_nothing(t, kind):
         t.same((got, met, stand), (ANSWER, 1, 1), f"{kind} {at}: the response, the faults, the requests in the register")
 
 
+@each({"a read": "read", "a write": "write"})
+def a_signal_at_a_control_connection_changes_nothing(t, kind):
+    t.register(lines=text(REGISTERED))
+    t.clock(DAY_2)
+    for at in (1, 2):
+        desk = t.open(faults=faults.environment(count=t.room / "count", only="socket", fail=f"{kind}:{at}=EINTR"))
+        with program.Control(t.room / "control") as control:
+            t.same([control.ask("status 05") for _ in range(2)], ["good", "good"], f"the replies, with {kind} {at} interrupted")
+        t.same(faults.counted(t.room / "count")["met"], 1, "the number of injected faults")
+        desk.end()
+        (t.room / "control").unlink(missing_ok=True)
+
+
 @test(seconds=3)
 def pieces_of_any_size_are_the_same(t):
     base = t.register("base.db", text(REGISTERED))
