@@ -120,6 +120,11 @@ def more_connections_than_slots(t):
     t.same(read_all(held[0]), b"", "the response to the oldest connection, which the desk evicts")
     held[-1].sendall(COUNTS)
     t.same(parted(read_all(held[-1]))[0], 200, "the newest connection")
+    # Two slots are free again. Each further client waits until another connection is evicted.
+    hold(desk.process)
+    together = [client(t, desk, COUNTS) for _ in range(6)]
+    desk.process.send_signal(signal.SIGCONT)
+    t.same([parted(read_all(it))[0] for it in together], [200] * 6, "clients that come together")
 
 
 def busy(process):
