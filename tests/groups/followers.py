@@ -388,7 +388,10 @@ def it_counts_as_an_open_desk_does(t):
     """Answers, lines, connections and losses in /metrics."""
     leader, control, copy = led(t)
     copy.is_like(control)
-    before = metrics(t, copy.desk)
+    before, its_leaders = metrics(t, copy.desk), metrics(t, leader)
+    for name in ("desk_requests_open", "desk_requests_overdue"):
+        t.same(before[name], its_leaders[name], name)
+    t.true(before["desk_requests_open"], "no request is open")
     for _ in range(3):
         t.same(parted(copy.desk.ask("GET", "/counts"))[0], 200)
     t.same(parted(copy.desk.ask("POST", "/requests", '{"ground":"asked","serial":"08"}'))[0], 503)
