@@ -715,6 +715,16 @@ def a_client_that_is_gone_before_it_is_accepted_costs_nobody_a_connection(t):
 
 
 @test(seconds=3)
+def a_client_that_waits_no_more_costs_nobody_a_connection(t):
+    """accept(2) fails with EAGAIN, although the desk was told of a client."""
+    desk, client = beside_a_client(t, "EAGAIN")
+    t.enter_context(desk.connect())
+    authority.until(lambda: faults.counted(t.room / "count")["met"], "accept(2) to fail")
+    client.sendall(COUNTS[9:])
+    t.same(parted(read_all(client))[0], 200, "the first client")
+
+
+@test(seconds=3)
 def another_error_of_accept_evicts_a_client_and_does_not_end_the_desk(t):
     desk, client = beside_a_client(t, "EINVAL")
     t.same(parted(desk.send(COUNTS))[0], 200, "the next client")
