@@ -427,6 +427,28 @@ def a_new_copy_asks_again_after_a_second(t):
     t.same(copy.desk.log[:2], ["follow: leader answered 503", "follow: leader answered 404"], "what it says")
 
 
+@each({"has no socket": "socket:1", "can't poll its connection": "watch:1"}, seconds=3)
+def a_new_copy_asks_again_if_it(t, fail):
+    """It says that the leader is out of reach, and not that a page is at fault. Other programs may soon free what it lacks."""
+    leader, _ = fills(t, lambda target, status, body: (status, body))
+    copy = Copy(t, address(leader.port), faults=faults.environment(count=t.room / "count", fail=fail))
+    t.same((faults.counted(t.room / "count")["met"], copy.desk.log[:1]), (1, ["follow: leader unreachable"]), "injected faults, and what it says")
+    copy.is_like(t.control())
+
+
+@test
+def a_new_copy_that_has_no_descriptor_to_poll_says_so(t):
+    """It waits where it looks for what an earlier run left, until it may have no more descriptors. Its leader is not asked."""
+    told = faults.environment(only="copy.db.fill", slow_open=t.room / "goes-on")
+    words = ["follow", "copy.db", "--from", address(program.free_port()), "--port", str(program.free_port()), "--unsigned"]
+    it = subprocess.Popen([program.program(), *words], cwd=t.room, stderr=subprocess.PIPE, env=program.environment(faults=told))
+    t.callback(end, it)
+    until((t.room / "goes-on.waits").exists, "that it waits")
+    t.tool("prlimit", "--pid", it.pid, "--nofile=3:3")
+    (t.room / "goes-on").touch()
+    t.same((it.wait(program.LONGEST), it.stderr.read()), (1, b"F4 read\n"))
+
+
 @test(seconds=3)
 def a_new_copy_asks_however_often_its_leader_fails(t):
     """Each pause has the same length, here a hundredth of a second: pauses that grow would soon take hours."""
