@@ -2536,6 +2536,34 @@ def a_disk_that_fails_is_no_damage_and_no_other_program(t, words):
             t.same((ran.status, ran.out, ran.err, count["met"]), (1, b"", b"F2 store\n", 1), f"{kind} {at}")
 
 
+@test(seconds=3)
+def a_file_whose_pages_change_while_it_is_audited_is_damaged(t):
+    """The audit stops once it has read each page, and goes on once each page has another octet."""
+    registers.make(t.room / "ca.db", registers.Records(3_000, 20), 3)
+    whole, pages = (t.room / "ca.db").read_bytes(), (t.room / "ca.db").stat().st_size // 4096
+    ran, count = faults.run(t, ["audit", "ca.db"], only="ca.db")
+    t.true(count["read"] > 2 * pages, f"{count['read']} reads of {pages} pages")
+    for turn in range(20):
+        (t.room / "ca.db").write_bytes(whole)
+        env = program.environment(faults=faults.environment(count=t.room / f"count{turn}", only="ca.db"))
+        it = subprocess.Popen([program.program(), "audit", "ca.db", "--why"], cwd=t.room, stdout=subprocess.PIPE, stderr=subprocess.PIPE, env=env)
+        t.callback(authority.end, it)
+        reads = lambda: (t.room / f"count{turn}").exists() and faults.counted(t.room / f"count{turn}")["read"]
+        while it.poll() is None and reads() < 1.3 * pages:
+            time.sleep(0)
+        it.send_signal(signal.SIGSTOP)
+        is_in_time = reads() < 1.8 * pages
+        with open(t.room / "ca.db", "r+b") as file:
+            for at in range(4_000, len(whole), 4_096):
+                file.seek(at)
+                file.write(bytes([whole[at] ^ 1]))
+        it.send_signal(signal.SIGCONT)
+        out, err = it.communicate()
+        if is_in_time:
+            break
+    t.same((it.returncode, out, err), (1, b"", b"F2 store\n  damaged, or not a database: check the path and the disk (FILE)\n"))
+
+
 @each({"an audit": ["audit", "ca.db"], "a copy": ["copy", "ca.db", "copy.db"]})
 def a_file_that_a_link_replaces_is_not_read(t, words):
     """The link replaces the file after the desk has looked at the file, and before it opens the file."""
