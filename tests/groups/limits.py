@@ -2578,6 +2578,22 @@ def a_file_that_a_link_replaces_is_not_read(t, words):
         t.same((ran.result().status, ran.result().out, ran.result().err), (1, b"", b"F2 store\n"))
 
 
+@each({"an audit": ["audit", "ca.db"], "a copy": ["copy", "ca.db", "copy.db"]})
+def a_pipe_that_replaces_an_empty_journal_is_not_passed_over(t, words):
+    """As above. An empty journal has nothing to play back; what comes through the pipe can't be known."""
+    t.register()
+    (t.room / "ca.db-journal").touch()
+    with ThreadPoolExecutor(1) as pool:
+        ran = pool.submit(t.desk, *words, faults=faults.environment(slow_open=t.room / "replaced", only="ca.db-journal"))
+        authority.until((t.room / "replaced.waits").exists, "the desk to open the journal")
+        os.remove(t.room / "ca.db-journal")
+        os.mkfifo(t.room / "ca.db-journal")
+        # The desk's open(2) does not wait, since the pipe has a writer.
+        t.callback(os.close, os.open(t.room / "ca.db-journal", os.O_RDWR))
+        (t.room / "replaced").touch()
+        t.same((ran.result().status, ran.result().out, ran.result().err), (1, b"", b"F2 store\n"))
+
+
 @test
 def init_beside_a_log_makes_no_register(t):
     """The desk can't find out whether a register lies there, so it creates none."""
