@@ -203,6 +203,16 @@ def a_stale_socket_that_can_t_be_looked_at_is_no_file(t):
     t.same((ran.status, ran.err, count["met"]), (1, told, 1))
 
 
+@test
+def a_control_socket_that_may_not_be_created_is_not_missing(t):
+    """An operator who is told of a missing file would look for one. The first bind(2) is that of the port."""
+    t.register()
+    words = ["open", "ca.db", "--port", free_port(), "--control", "control", "--unsigned", "--why"]
+    ran, count = faults.run(t, words, fail="bind:2=EACCES")
+    told = b"F4 read\n  permission denied, or the file system is read-only (--control)\n"
+    t.same((ran.status, ran.out, ran.err, count["met"]), (1, b"", told, 1))
+
+
 @test(seconds=30)
 def eight_desks_that_open_at_one_stale_socket(t):
     """Forty times, eight desks open at one stale socket at once: one serves at it, and seven fail."""
