@@ -224,6 +224,19 @@ def no_copy_at_the_control_socket(t):
 
 
 @test
+def no_copy_of_an_open_register_whose_lock_can_t_be_tried(t):
+    """The lock shows that the file at the path is still the open one. No cause is told, since none is known."""
+    t.register(lines=ENTERED)
+    desk = t.open(faults=faults.environment(count=t.room / "count"))
+    t.has(t.control().ask("copy first.db"), "copied ")
+    tried = faults.counted(t.room / "count")["lock"]
+    desk.end()
+    t.open(faults=faults.environment(count=t.room / "count", fail=f"lock:{tried}=EIO"))
+    refused(t, "control", "copy.db", "F2 store")
+    t.same((faults.counted(t.room / "count")["met"], left(t)), (1, []), "injected faults, and files that are left")
+
+
+@test
 def an_open_register_whose_files_were_emptied_is_damaged(t):
     t.register(lines=ENTERED)
     t.open()
