@@ -146,6 +146,24 @@ def a_job_that_has_no_memory_at_its_end_says_so(t, name, many, step):
         t.true((ran.status, ran.out, ran.err) in ((1, b"", b"F1 memory\n"), (0, usual.out, b"")), f"allocation {at} of {last}: {ran}")
 
 
+@test
+def a_desk_that_has_no_memory_to_listen_says_so(t):
+    """From one of the last twelve allocations before it listens there is none. An operator who is told of a read would look at the port."""
+    t.register()
+    words = ["open", "ca.db", "--control", "control", "--unsigned"]
+
+    def opened(fail=None):
+        (t.room / "control").unlink(missing_ok=True)
+        return t.enter_context(program.Opened(words, cwd=t.room, faults=faults.environment(count=t.room / "count", same=1, fail=fail)))
+
+    desk = opened()
+    last = faults.counted(t.room / "count")["alloc"]
+    desk.end()
+    for at in range(last - 11, last + 1):
+        ended = opened(f"alloc:{at}+").wait()
+        t.same((ended.status, ended.out, ended.err), (1, b"", b"F1 memory\n"), f"allocation {at} of {last}")
+
+
 @each({"copy": (["copy", "ca.db", "copy.db"], "", None), **{name: JOBS[name] for name in ("import", "list", "audit")}})
 def a_file_that_the_system_has_no_memory_to_open(t, words, given, base):
     """open(2) fails with ENOMEM. An operator who is told of the store looks at the disk."""
