@@ -8,6 +8,7 @@ import re
 import select
 import signal
 import socket
+import sqlite3
 import subprocess
 import threading
 import time
@@ -497,6 +498,40 @@ def a_digest_after_a_signature(t, by_issuer):
             if file == "digests.db":
                 refuses(t, copy, fake, page(der), "broken page: positions other-positions", "the right digest")
         copy.desk.end()
+
+
+@test(seconds=5)
+def a_disk_that_fails_while_the_latest_crl_is_read(t):
+    """A follower with the signer gets a CRL with a digest, so it reads the latest CRL. If that fails, it says `F2 store`, and not `F1 memory`."""
+    ca, words = sets_out(t, True)
+    t.done("script", "ca.db", given=first_day(now() - 3600))
+    der_of = lambda *parts: b"\x30\x83" + sum(map(len, parts)).to_bytes(3, "big") + b"".join(parts)
+    with contextlib.closing(sqlite3.connect(t.room / "ca.db")) as it:
+        # CRL 2 ends with the algorithm and the digest of CRL 1. A register's cache has room for 2,000 pages; its CRL takes more of 512 octets.
+        ((first,),) = it.execute("SELECT der FROM crl").fetchall()
+        it.execute("INSERT INTO crl SELECT 2, this_update, ? FROM crl", (der_of(der_of(bytes(1_200_000)), first[-34:]),))
+        it.commit()
+        for statement in ("PRAGMA journal_mode = delete", "PRAGMA page_size = 512", "VACUUM", "PRAGMA journal_mode = wal"):
+            it.execute(statement)
+    faults.copy(t.room / "ca.db", t.room / "base.db")
+    t.done("script", "ca.db", given=f"{now_text(-1800)} crl\n")
+    leader = t.open("ca.db", "--unsigned")
+
+    def run(answer, requests, fail=None):
+        """The counts of calls once it has asked its leader so many times or said something, and what it said."""
+        faults.copy(t.room / "base.db", t.room / "copy.db")
+        env = faults.environment(count=t.room / "count", same=1, only="copy.db,copy.db-wal", fail=fail)
+        with Server(answer) as it, program.Opened(["follow", "copy.db", "--from", address(it.port), *words], cwd=t.room, faults=env) as desk:
+            until(lambda: desk.log or len(it.targets) >= requests, f"the end of {fail}")
+            return faults.counted(t.room / "count"), desk.end().err
+
+    news = lambda target: (200, parted(leader.ask("GET", target))[2])
+    (before, _), (after, told) = run(None, 1), run(news, 3)
+    first, more = before["read"], after["read"] - before["read"]
+    t.same((told, more > 100), (b"", True), f"what it says without a fault, and whether it reads the CRL: {more} reads")
+    for at in (first + more // 4, first + more // 2, first + more // 4 * 3):
+        count, told = run(news, 3, f"read:{at}")
+        t.same((count["met"], told), (1, b"follow: F2 store\n"), f"read {at}: {first} before the CRL, {more} for it")
 
 
 # ---- a leader whose elapsed time the test sets, and requests that wait at it
