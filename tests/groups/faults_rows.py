@@ -40,6 +40,7 @@ ROWS = {
     "no counts, entered": ("DELETE FROM kept", f"{PAST_END} subscriber b"),
     "no counts, counted": ("DELETE FROM kept", f"{PAST_END} counts"),
     "a letter that is not that of the row": ("UPDATE standing SET state = 'X'", f"{DAY_2} revoke 2"),
+    "a CRL number of 19 digits": ("UPDATE crl SET number = 1000000000000000000", f"{DAY_2} next-crl"),
 }
 
 
