@@ -200,6 +200,18 @@ def rows_of_several_tables_come_in_the_order_of_their_commands(t):
 
 
 @test(seconds=3)
+def a_revocation_comes_before_a_later_request_though_a_crl_follows_both(t):
+    """The CRL is the first one after the revocation. The feed has it behind the rows of all tables."""
+    lines = (f"{LATER} request 08 asked", f"{LATER} revoke 5", f"2026-01-02T14:30:00Z request {OPEN} misuse", "2026-01-02T15:00:00Z crl")
+    t.register(lines=LINES + "".join(f"{it}\n" for it in lines))
+    t.clock(CLOCK)
+    leader = t.open()
+    copy = Copy(t, address(leader.port))
+    copy.is_like(t.control())
+    copy.is_sound()
+
+
+@test(seconds=3)
 def a_decline_of_a_request_that_a_follower_has_comes_before_a_later_revocation(t):
     """While the follower is away, the request is declined, a revocation by another request of the same certificate follows, and then a third request."""
     leader, control, copy = led(t)
