@@ -565,6 +565,7 @@ def pages_that_are_none(t):
         "a row behind a CRL": (behind(0, "subscriber 3 x\n"), "malformed page"),
         "a second CRL": (behind(1, f"{crl}\n{'x' * len(octets)}\n"), "malformed page"),
         "another issuer": (page.replace(b"issuer 300d310b", b"issuer 300d310c"), "broken page: head other-issuer"),
+        "an issuer that is no Name": (page.replace(b"issuer 300d310b", b"issuer 310d310b"), "broken page: head other-issuer"),
         "another key": (page.replace(b" 616263\n", b" 616264\n"), "broken page: head other-issuer"),
         "another cap": (page.replace(b" 1000000\n", b" 999999\n"), "broken page: head other-policy"),
         "a last moment before": (paged(tables, ["subscriber 3 x"], last=DAY), "broken page: head E01 clock-back 2026-01-02T13:00:00Z"),
