@@ -423,6 +423,25 @@ def a_follower_without_memory_for_a_line_writes_no_part_of_it(t):
     t.same((told, [run(f"alloc:{at}")[1] for at in range(last - 2, last + 1)]), (b"follow: leader unreachable\n", [b""] * 3), "standard error")
 
 
+@test(seconds=8)
+def a_new_copy_that_had_no_memory_for_its_page_once_does_not_ask_again(t):
+    """One allocation fails, and the next ones do not. One that asks again would do so for ever if a page is larger than its memory."""
+    t.register()
+    t.clock(CLOCK)
+    leader = t.open()
+    server = t.enter_context(Server(lambda target: (200, parted(leader.ask("GET", target))[2][:-2] + b"9\n")))
+    words = ["follow", "copy.db", "--from", address(server.port), "--port", program.free_port(), "--unsigned"]
+    # The program's own start takes the first 165 allocations. Without memory to receive its answer, the leader counts as out of reach, and is asked
+    # again.
+    unreachable, ends = b"follow: leader unreachable\nfollow: broken page: positions other-positions\nbroken-feed\n", []
+    for at in range(180, 300):
+        ran, _ = faults.run(t, words, fail=f"alloc:{at}")
+        ends.append((ran.status, ran.err))
+    read = [it for it in ends if it[1] != unreachable]
+    t.same((set(read), len(read) > 100), ({(1, b"F1 memory\n")}, True), f"how each one ends: {ends}")
+    t.true(server.answered > 50, f"only {server.answered} of them got the page")
+
+
 @test(seconds=3)
 def a_new_copy_asks_again_after_a_second(t):
     """It says each failure that differs from the one before. After 409 it begins anew."""
