@@ -74,8 +74,8 @@ def a_log_in_the_place_of_a_register(t, log):
 
 
 @each({"that is there": True, "that is not there": False}, seconds=4)
-def a_log_in_the_place_of_a_write_ahead_log_that_a_desk_has_no_memory_to_look_at(t, is_there):
-    """In each run one allocation fails. Lines in this log would damage the register, so the desk never listens with it."""
+def a_log_in_the_place_of_a_write_ahead_log_that_a_desk_can_t_look_at(t, is_there):
+    """In each run one allocation fails, or one look at a file. Lines in this log would damage the register, so the desk never listens with it."""
     t.register(lines=ENTERED)
     before, log = (t.room / "ca.db").read_bytes(), t.room / "ca.db-wal"
 
@@ -96,6 +96,9 @@ def a_log_in_the_place_of_a_write_ahead_log_that_a_desk_has_no_memory_to_look_at
         listens, status, told = run(f"alloc:{at}")
         is_memory = told == b"F1 memory\n" or (at < last - 60 and told == b"F5 write\n")
         t.same((listens, status, is_memory), (False, 1, True), f"allocation {at} of {last}: {told!r}")
+    run(None)
+    for at in range(1, faults.counted(t.room / "count")["stat"] + 1):
+        t.same(run(f"stat:{at}=EIO"), (False, 1, b"F5 write\n"), f"look {at} at a file")
     t.same((t.room / "ca.db").read_bytes(), before, "the register")
     log.unlink()
     t.has(t.done("audit", "ca.db"), "sound")
