@@ -494,6 +494,29 @@ def the_first_answer_stays_first_though_the_signer_has_no_room(t):
             t.true(names(program.read_all(client), serial), f"a signature is requested for another answer than that of {serial:x}")
 
 
+@test
+def each_answer_that_waits_for_its_turn_has_ten_seconds_of_its_own(t):
+    """The signer has no room. The ten seconds of the older of two answers end. The younger one is signed once there is room."""
+    t.register(key=P256_KEY)
+    server, filled = t.enter_context(socket.socket(socket.AF_UNIX)), t.enter_context(socket.socket(socket.AF_UNIX))
+    server.bind(str(t.room / "ca.sign"))
+    server.listen(0)
+    filled.connect(str(t.room / "ca.sign"))
+    desk, clients = Passing(t, *SIGNING), []
+    for serial in (0x1100, 0x2200):
+        body = asked_for(serial)
+        clients.append(desk.comes(b"POST /ocsp HTTP/1.1\r\nContent-Length: %d\r\n\r\n" % len(body) + body))
+        desk.advance(5_000)
+    t.same(program.parted(program.read_all(clients[0]))[2], INTERNAL, "the answer that waited for ten seconds")
+    server.accept()[0].close()
+    desk.advance(10)
+    client, _ = server.accept()
+    with client:
+        t.true(names(program.read_all(client), 0x2200), "a signature is requested for another answer")
+        client.sendall(ANY_SIGNATURE)
+    t.true(is_signed(program.parted(program.read_all(clients[1]))[2]), "the answer that waited for five seconds is not signed")
+
+
 @test(seconds=2)
 def a_signature_is_requested_again_once_a_descriptor_is_free(t):
     """A signature that can't be requested because too many files are open is requested again."""
